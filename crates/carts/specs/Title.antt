@@ -1,0 +1,60 @@
+-- Document 01, an answered read: the carts of numbers and of a title, how many are found, and what is written.
+use mathlib.Core.Bool.{Bool, cond, _&&_}
+use mathlib.Core.List.{List, [], _∷_, _++_}
+use Prim.Native.Nat.{ℕ, zero, suc, _+_}
+use lib.ListN.{length, take, drop}
+use lib.Dec.{eqb}
+use Rattle.carts.specs.Bytes.{zeros, part, byte, pairwise}
+use Rattle.carts.specs.Cart.{cartSize, cartCount, cartAt, held}
+use Rattle.carts.specs.declared.titles.Found.{Found}
+use Rattle.carts.specs.declared.titles.Found.the-variants.{One, None, Several}
+
+-- "By numbers: one cart of 80 bytes per number asked, zeros for an empty cart"
+unfoldable pub shownByNumbers : List ℕ → List ℕ → List ℕ
+shownByNumbers copy [] = []
+shownByNumbers copy (c ∷ cs) = cartAt copy c ++ shownByNumbers copy cs
+
+-- "found counts the places that are held"
+unfoldable pub foundByNumbers : List ℕ → List ℕ → ℕ
+foundByNumbers copy [] = 0
+foundByNumbers copy (c ∷ cs) = cond (held (cartAt copy c)) 1 0 + foundByNumbers copy cs
+
+-- two letters of titles count as equal
+unfoldable pub sameLetter : ℕ → ℕ → Bool
+sameLetter a b = eqb a b
+
+-- "have exactly that title": the cart is held, the lengths are equal, then letter by letter
+unfoldable pub titled : List ℕ → List ℕ → Bool
+titled title cart =
+    let letters = pairwise sameLetter (part cart 16 (length title)) title in
+    held cart && (eqb (byte cart 1) (length title) && letters)
+
+-- the numbers of those of n carts, the first of them cart c, that have the title
+unfoldable pub titledFrom : List ℕ → ℕ → ℕ → List ℕ → List ℕ
+titledFrom title zero c s = []
+titledFrom title (suc n) c s =
+    let rest = titledFrom title n (c + 1) (drop cartSize s) in
+    let more = c ∷ rest in
+    cond (titled title (take cartSize s)) more rest
+
+unfoldable pub titledIn : List ℕ → List ℕ → List ℕ
+titledIn title copy = titledFrom title cartCount 1 copy
+
+-- "By title: found is how many carts have exactly that title"
+unfoldable pub foundByTitle : List ℕ → List ℕ → ℕ
+foundByTitle copy title = length (titledIn title copy)
+
+-- "the one cart if found is 1, else 80 zeros"
+unfoldable pub theOne : List ℕ → List ℕ → List ℕ
+theOne copy [] = zeros cartSize
+theOne copy (c ∷ []) = cartAt copy c
+theOne copy (c ∷ d ∷ cs) = zeros cartSize
+
+unfoldable pub shownByTitle : List ℕ → List ℕ → List ℕ
+shownByTitle copy title = theOne copy (titledIn title copy)
+
+-- "A title search answers one cart, none, or several with their count, the one cart by its number": the code's answer
+unfoldable pub searchAnswer : List ℕ → Found
+searchAnswer [] = None
+searchAnswer (c ∷ []) = One c
+searchAnswer (c ∷ d ∷ cs) = Several (length (c ∷ d ∷ cs))

@@ -1,0 +1,2 @@
+// Carts, operations and titles of document 01.
+pub mod titles;

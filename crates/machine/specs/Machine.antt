@@ -1,0 +1,151 @@
+-- Document 01, "The plain machine": no memory and no copies, a list of committed transactions.
+use mathlib.Core.Bool.{Bool, cond}
+use mathlib.Core.List.{List, [], _∷_, _++_, map}
+use Prim.Native.Nat.{ℕ, _+_, _-_}
+use lib.ListN.{length, take, getD, set}
+use lib.Dec.{leb}
+use Rattle.carts.specs.Bytes.{zeros, over}
+use Rattle.carts.specs.Cart.{copySize}
+use Rattle.carts.specs.Operation.{operationsOf, actAll}
+use Rattle.replication.specs.Answer.{Answer, refused, done, waits, answered}
+use Rattle.replication.specs.Memory.{studioCount, nth}
+use Rattle.replication.specs.Request.{Request, nothing, requestOf, needed, foundIn, shownFrom}
+use Rattle.replication.specs.Rows.{stopped, unless, setupRows, commitRows, sendRows, refreshRows, readRows, collectRows}
+use Rattle.replication.specs.Call as Call
+use Rattle.replication.specs.Calls.{numberAfter}
+
+-- a transaction: its operations, 80 bytes each, as handed in
+abbrev pub Transaction : Type 0
+Transaction = List (List ℕ)
+
+-- "per session its number and its waiting read", and its studio (0 = unused)
+pub record Session : Type 0 where
+  pub studio : ℕ
+  pub number : ℕ
+  pub waiting : Request
+
+abbrev pub session : ℕ → ℕ → Request → Session
+session i n q = record { studio = i; number = n; waiting = q }
+
+-- "State: the list of committed transactions; per studio sent and applied; per session its number and its waiting read"
+pub record Machine : Type 0 where
+  pub studios : ℕ
+  pub log : List Transaction
+  pub sent : List ℕ
+  pub applied : List ℕ
+  pub sessions : List Session
+
+-- the copy after a list of transactions
+unfoldable pub replay : List ℕ → List Transaction → List ℕ
+replay copy [] = copy
+replay copy (t ∷ ts) = replay (actAll copy t) ts
+
+-- "L(n) is the library that the first n transactions make from 128 empty carts, operation by operation"
+unfoldable pub L : List Transaction → ℕ → List ℕ
+L log n = replay (zeros copySize) (take n log)
+
+-- the records that a log takes: one for each operation
+unfoldable pub recordsUsed : List Transaction → ℕ
+recordsUsed [] = 0
+recordsUsed (t ∷ ts) = length t + recordsUsed ts
+
+-- session s, counted from 1
+abbrev pub sessionOf : Machine → ℕ → Session
+sessionOf m s = getD (m .sessions) (s - 1) (session 0 0 nothing)
+
+abbrev pub withSession : Machine → ℕ → Session → Machine
+withSession m s x = record { studios = m .studios; log = m .log; sent = m .sent; applied = m .applied; sessions = set (m .sessions) (s - 1) x }
+
+-- what a call answers and leaves, and output after it ([] where none is lent)
+pub record Step : Type 0 where
+  pub answer : Answer
+  pub next : Machine
+  pub output : List ℕ
+
+abbrev pub step : Answer → Machine → List ℕ → Step
+step a m out = record { answer = a; next = m; output = out }
+
+abbrev pub refusal : Machine → List ℕ → ℕ → Step
+refusal m out n = step (refused n) m out
+
+-- "Setup (S and 16 studio bytes)": "A fresh system is what an accepted setup leaves"
+unfoldable pub fresh : ℕ → List ℕ → Machine
+fresh studios bytes =
+    record { studios = studios; log = []; sent = zeros studioCount; applied = zeros studioCount; sessions = map (λ i. session i 0 nothing) bytes }
+
+-- what a commit that a row stops leaves, by the row's number
+unfoldable pub refusedCommit : Machine → ℕ → ℕ → Step
+refusedCommit m s n = refusal m [] n
+
+-- "Commit (session, 1 to 8 operations): .. all are applied and appended, or none. The commit's number is the new count; the session's
+-- number becomes it. Returns it."
+unfoldable pub commit : Machine → ℕ → List ℕ → Step
+commit m s bytes =
+    let x = sessionOf m s in
+    let n = length (m .log) + 1 in
+    let grown : Machine = record { studios = m .studios; log = m .log ++ (operationsOf bytes ∷ []); sent = m .sent; applied = m .applied; sessions = m .sessions } in
+    let good = step (done n) (withSession grown s (session (x .studio) n (x .waiting))) [] in
+    unless (stopped (commitRows s (x .studio) (x .waiting) (recordsUsed (m .log)) (L (m .log) (length (m .log))) bytes)) (refusedCommit m s) good
+
+-- "Send (studio): sent rises by one. Returns it."
+unfoldable pub send : Machine → ℕ → Step
+send m i =
+    let n = nth (m .sent) i + 1 in
+    let raised : Machine = record { studios = m .studios; log = m .log; sent = set (m .sent) (i - 1) n; applied = m .applied; sessions = m .sessions } in
+    let good = step (done n) raised [] in
+    unless (stopped (sendRows (m .studios) i (nth (m .sent) i) (nth (m .applied) i) (length (m .log)))) (refusal m []) good
+
+-- "Refresh (studio): .. applied rises by one. Returns it."
+unfoldable pub refresh : Machine → ℕ → Step
+refresh m i =
+    let n = nth (m .applied) i + 1 in
+    let raised : Machine = record { studios = m .studios; log = m .log; sent = m .sent; applied = set (m .applied) (i - 1) n; sessions = m .sessions } in
+    let good = step (done n) raised [] in
+    unless (stopped (refreshRows (m .studios) i (nth (m .sent) i) (nth (m .applied) i))) (refusal m []) good
+
+-- "An answered read returns the state (applied) and found, and writes from output's start", from L(state)
+unfoldable pub answerFrom : ℕ → Request → Machine → ℕ → List ℕ → Step
+answerFrom state q m s out =
+    let x = sessionOf m s in
+    let copy = L (m .log) state in
+    step (answered state (foundIn copy q))
+    (withSession m s (session (x .studio) (numberAfter (x .number) state) nothing))
+    (over out 0 (needed q) (shownFrom copy q))
+
+-- "if applied of the session's studio is at least the session's number, answered; else ..": `behind`
+unfoldable pub block : Machine → ℕ → Request → Step → List ℕ → Step
+block m s q behind out =
+    let x = sessionOf m s in
+    let state = nth (m .applied) (x .studio) in
+    let now = answerFrom state q m s out in
+    cond (leb (x .number) state) now behind
+
+-- ".. the request is stored and the answer is waits, with the session's number"
+unfoldable pub wait : Machine → ℕ → Request → List ℕ → Step
+wait m s q out = let x = sessionOf m s in step (waits (x .number)) (withSession m s (session (x .studio) (x .number) q)) out
+
+-- "Read (session, request)"
+unfoldable pub read : Machine → ℕ → List ℕ → List ℕ → Step
+read m s request out =
+    let x = sessionOf m s in
+    let q = requestOf request in
+    let good = block m s q (wait m s q out) out in
+    unless (stopped (readRows s (x .studio) (x .waiting) request (length out))) (refusal m out) good
+
+-- "Collect (session): the same test on the stored request; answered clears it"
+unfoldable pub collect : Machine → ℕ → List ℕ → Step
+collect m s out =
+    let x = sessionOf m s in
+    let good = block m s (x .waiting) (wait m s (x .waiting) out) out in
+    unless (stopped (collectRows s (x .studio) (x .waiting) (length out))) (refusal m out) good
+
+unfoldable pub call : Machine → Call.Call → Step
+call m (Call.commit s bytes) = commit m s bytes
+call m (Call.send i) = send m i
+call m (Call.refresh i) = refresh m i
+call m (Call.read s request out) = read m s request out
+call m (Call.collect s out) = collect m s out
+
+unfoldable pub run : Machine → List Call.Call → List Step
+run m [] = []
+run m (x ∷ xs) = let r = call m x in r ∷ run (r .next) xs

@@ -1,0 +1,154 @@
+-- Document 01, setup and the five calls on bytes, for any control, memory, arguments and output: what the code's contracts cite.
+-- "Commit acts by this same effect on the head end's copy, refresh on its studio's, and an answered read is taken from the copy of
+-- its session's studio, each also where that copy is no L(n)."
+use mathlib.Core.Bool.{Bool, cond}
+use mathlib.Core.List.{List, [], _∷_, _++_}
+use Prim.Native.Nat.{ℕ, _+_, _-_}
+use lib.ListN.{length, set}
+use lib.Dec.{leb}
+use Rattle.carts.specs.Bytes.{zeros, over}
+use Rattle.carts.specs.Operation.{operationsOf, actAll}
+use Rattle.replication.specs.Answer.{Answer, refused, done, waits, answered}
+use Rattle.replication.specs.Memory.{Memory, librarySize, sessionsSize, sessionSize, sessionCount, studioCount, copyAt, withCopy, sessionAt, withSession, sequenceOf, withSequence, nth, studioOf}
+use Rattle.replication.specs.Log.{transactionAt, walk, firstRecord, freshLog, appended}
+use Rattle.replication.specs.Request.{Request, requestOf, needed, foundIn, shownFrom}
+use Rattle.replication.specs.Rows.{stopped, unless, lengthsRow, memoryRows, setupRows, commitRows, sendRows, refreshRows, readRows, collectRows}
+use Rattle.replication.specs.Call as Call
+use Rattle.replication.specs.declared.control.Control.{Control}
+
+-- what a call answers and leaves: control, the three memories, output ([] where none is lent)
+pub record After : Type 0 where
+  pub answer : Answer
+  pub control : Control
+  pub memory : Memory
+  pub output : List ℕ
+
+abbrev pub after : Answer → Control → Memory → List ℕ → After
+after a c m out = record { answer = a; control = c; memory = m; output = out }
+
+-- "The result is the number; control comes back unchanged"; a refused call changes no lent byte
+abbrev pub refusal : Control → Memory → List ℕ → ℕ → After
+refusal c m out n = after (refused n) c m out
+
+abbrev pub withLibrary : Memory → List ℕ → Memory
+withLibrary m library = record { library = library; log = m .log; sessions = m .sessions }
+
+abbrev pub withSessions : Memory → List ℕ → Memory
+withSessions m sessions = record { library = m .library; log = m .log; sessions = sessions }
+
+-- control with every count zero
+unfoldable pub controlOf : ℕ → List ℕ → Control
+controlOf studios sessions =
+    record { studios = studios; «session_studios» = sessions; used = 0; commits = 0; sent = zeros studioCount; applied = zeros studioCount }
+
+-- "all memory zero"
+unfoldable pub freshMemory : Memory
+freshMemory = record { library = zeros librarySize; log = freshLog; sessions = zeros sessionsSize }
+
+-- "Setup (S and 16 studio bytes): all memory zero, counts zero. When refused it hands back an all-zero control."
+unfoldable pub setup : Memory → ℕ → List ℕ → After
+setup m studios bytes =
+    let good = after (done 0) (controlOf studios bytes) freshMemory [] in
+    unless (stopped (lengthsRow m ∷ setupRows studios bytes)) (refusal (controlOf 0 (zeros sessionCount)) m []) good
+
+-- control after a commit of n operations
+unfoldable pub committed : Control → ℕ → Control
+committed c n =
+    record { studios = c .studios; «session_studios» = c .«session_studios»; used = c .used + n; commits = c .commits + 1; sent = c .sent; applied = c .applied }
+
+-- what a commit that a row stops leaves, by the row's number
+unfoldable pub refusedCommit : Control → Memory → ℕ → ℕ → After
+refusedCommit c m s n = refusal c m [] n
+
+-- "Commit (session, 1 to 8 operations): .. all are applied and appended, or none. The commit's number is the new count; the session's
+-- number becomes it. Returns it."
+unfoldable pub commit : Control → Memory → ℕ → List ℕ → After
+commit c m s bytes =
+    let primary = copyAt (m .library) 0 in
+    let x = sessionAt (m .sessions) s in
+    let ops = operationsOf bytes in
+    let n = c .commits + 1 in
+    let left : Memory = record {
+      library = withCopy (m .library) 0 (actAll primary ops);
+      log = appended c (m .log) ops;
+      sessions = withSession (m .sessions) s (withSequence n x);
+    } in
+    let good = after (done n) (committed c (length ops)) left [] in
+    unless (stopped (memoryRows c m ++ commitRows s (studioOf c s) (requestOf x) (c .used) primary bytes)) (refusedCommit c m s) good
+
+-- "Send (studio): sent rises by one. Returns it."
+unfoldable pub withSent : Control → ℕ → ℕ → Control
+withSent c i n =
+    record { studios = c .studios; «session_studios» = c .«session_studios»; used = c .used; commits = c .commits; sent = set (c .sent) (i - 1) n; applied = c .applied }
+
+unfoldable pub send : Control → Memory → ℕ → After
+send c m i =
+    let n = nth (c .sent) i + 1 in
+    let good = after (done n) (withSent c i n) m [] in
+    unless (stopped (memoryRows c m ++ sendRows (c .studios) i (nth (c .sent) i) (nth (c .applied) i) (c .commits))) (refusal c m []) good
+
+-- "Refresh (studio): transaction applied + 1 acts on that studio's copy; applied rises by one. Returns it."
+unfoldable pub withApplied : Control → ℕ → ℕ → Control
+withApplied c i n =
+    record { studios = c .studios; «session_studios» = c .«session_studios»; used = c .used; commits = c .commits; sent = c .sent; applied = set (c .applied) (i - 1) n }
+
+-- the transaction after the first n
+unfoldable pub transactionAfter : Control → List ℕ → ℕ → List (List ℕ)
+transactionAfter c log n = transactionAt log (walk n log (firstRecord c))
+
+unfoldable pub refresh : Control → Memory → ℕ → After
+refresh c m i =
+    let k = nth (c .applied) i in
+    let copy = actAll (copyAt (m .library) i) (transactionAfter c (m .log) k) in
+    let good = after (done (k + 1)) (withApplied c i (k + 1)) (withLibrary m (withCopy (m .library) i copy)) [] in
+    unless (stopped (memoryRows c m ++ refreshRows (c .studios) i (nth (c .sent) i) k)) (refusal c m []) good
+
+-- "A read does not change the session's number": what it is after an answer that showed a state
+unfoldable pub numberAfter : ℕ → ℕ → ℕ
+numberAfter number state = number
+
+-- "An answered read returns the state (applied) and found, and writes from output's start. .. Later output bytes are unchanged":
+-- from a copy that has reached `state`; session s, with number n, is left with the bytes x
+unfoldable pub answerFrom : ℕ → List ℕ → Request → Control → Memory → ℕ → ℕ → List ℕ → List ℕ → After
+answerFrom state copy q c m s n x out =
+    after (answered state (foundIn copy q)) c
+    (withSessions m (withSession (m .sessions) s (withSequence (numberAfter n state) x)))
+    (over out 0 (needed q) (shownFrom copy q))
+
+-- "if applied of the session's studio is at least the session's number, answered; else ..": `behind`
+unfoldable pub block : Control → Memory → ℕ → Request → List ℕ → After → List ℕ → After
+block c m s q x behind out =
+    let i = studioOf c s in
+    let state = nth (c .applied) i in
+    let n = sequenceOf (sessionAt (m .sessions) s) in
+    let now = answerFrom state (copyAt (m .library) i) q c m s n x out in
+    cond (leb n state) now behind
+
+-- "Read (session, request): .. else the request is stored and the answer is waits, with the session's number"
+unfoldable pub read : Control → Memory → ℕ → List ℕ → List ℕ → After
+read c m s request out =
+    let x = sessionAt (m .sessions) s in
+    let n = sequenceOf x in
+    let behind = after (waits n) c (withSessions m (withSession (m .sessions) s (withSequence n request))) out in
+    let good = block c m s (requestOf request) x behind out in
+    unless (stopped (memoryRows c m ++ readRows s (studioOf c s) (requestOf x) request (length out))) (refusal c m out) good
+
+-- "Collect (session): the same test on the stored request; answered clears it and keeps bytes 2–3."
+unfoldable pub collect : Control → Memory → ℕ → List ℕ → After
+collect c m s out =
+    let x = sessionAt (m .sessions) s in
+    let behind = after (waits (sequenceOf x)) c m out in
+    let good = block c m s (requestOf x) (zeros sessionSize) behind out in
+    unless (stopped (memoryRows c m ++ collectRows s (studioOf c s) (requestOf x) (length out))) (refusal c m out) good
+
+unfoldable pub call : Control → Memory → Call.Call → After
+call c m (Call.commit s bytes) = commit c m s bytes
+call c m (Call.send i) = send c m i
+call c m (Call.refresh i) = refresh c m i
+call c m (Call.read s request out) = read c m s request out
+call c m (Call.collect s out) = collect c m s out
+
+-- a list of calls, each "given the memory and control that the call before left"
+unfoldable pub run : Control → Memory → List Call.Call → List After
+run c m [] = []
+run c m (x ∷ xs) = let r = call c m x in r ∷ run (r .control) (r .memory) xs

@@ -1,0 +1,57 @@
+-- Document 01, "Of this layout": a test of control and the three memories, for any bytes and any control.
+use mathlib.Core.Bool.{Bool, cond}
+use mathlib.Core.List.{List, [], _∷_}
+use Prim.Native.Nat.{ℕ, _+_, _*_, _-_}
+use lib.ListN.{drop}
+use lib.Dec.{leb, eqb}
+use Rattle.carts.specs.Bytes.{part, byte, within, all, every, allZero, eachPart}
+use Rattle.carts.specs.Cart.{titleSize, copySize, copyForm}
+use Rattle.carts.specs.Operation.{operationFields}
+use Rattle.replication.specs.Memory.{Memory, copyCount, recordSize, recordCount, sessionSize, sessionCount, studioCount, sequenceOf, nth, studioOf}
+use Rattle.replication.specs.Log.{firstRecord, chainForm}
+use Rattle.replication.specs.Request.{requestFields}
+use Rattle.replication.specs.declared.control.Control.{Control}
+
+-- a copy: of carts for the head end and studios 1 to S; "studios above S have .. all-zero copies"
+unfoldable pub replicaForm : ℕ → ℕ → List ℕ → Bool
+replicaForm studios i copy = cond (leb i studios) (copyForm copy) (allZero copy)
+
+-- "A record is an operation" with links in bytes 12–15
+unfoldable pub recordForm : ℕ → List ℕ → Bool
+recordForm r x = operationFields x
+
+-- "With byte 0 zero, byte 1 and bytes 16–79 are zero", else a read
+unfoldable pub waitingForm : List ℕ → Bool
+waitingForm s = cond (eqb (byte s 0) 0) (all (eqb (byte s 1) 0 ∷ allZero (part s 16 titleSize) ∷ [])) (requestFields s)
+
+-- "An unused session is all zero"; "each session number ≤ commits"; "Bytes 4–15 zero"
+unfoldable pub sessionForm : Control → ℕ → List ℕ → Bool
+sessionForm c s x =
+    cond (eqb (studioOf c s) 0) (allZero x)
+    (all (leb (sequenceOf x) (c .commits) ∷ allZero (part x 4 12) ∷ waitingForm x ∷ []))
+
+-- "applied ≤ sent ≤ commits and sent − applied ≤ 32 for each studio; studios above S have both at 0"
+unfoldable pub countsForm : Control → ℕ → Bool
+countsForm c i =
+    let sent = nth (c .sent) i in
+    let applied = nth (c .applied) i in
+    cond (leb i (c .studios))
+    (all (leb applied sent ∷ leb sent (c .commits) ∷ leb (sent - applied) 32 ∷ []))
+    (all (eqb sent 0 ∷ eqb applied 0 ∷ []))
+
+-- "every field above is within its rule; the log's chain has exactly commits transactions of 1 to 8 operations and used records"
+unfoldable pub layoutTests : Control → Memory → List Bool
+layoutTests c m =
+    within 1 studioCount (c .studios)
+    ∷ every (λ i. leb i (c .studios)) (c .«session_studios»)
+    ∷ eachPart (replicaForm (c .studios)) copySize copyCount 0 (m .library)
+    ∷ leb (c .used) recordCount
+    ∷ eachPart recordForm recordSize (c .used) 1 (m .log)
+    ∷ allZero (drop (recordSize * c .used) (m .log))
+    ∷ chainForm (c .commits) (m .log) (firstRecord c) 1 (c .used + 1)
+    ∷ eachPart (sessionForm c) sessionSize sessionCount 1 (m .sessions)
+    ∷ every (countsForm c) (1 ∷ 2 ∷ 3 ∷ 4 ∷ [])
+    ∷ []
+
+unfoldable pub ofLayout : Control → Memory → Bool
+ofLayout c m = all (layoutTests c m)

@@ -1,0 +1,9 @@
+-- Document 01's memory, requests, layout, rows and calls, in its order.
+pub mod Answer
+pub mod Memory
+pub mod Log
+pub mod Request
+pub mod Layout
+pub mod Rows
+pub mod Call
+pub mod Calls

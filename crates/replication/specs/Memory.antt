@@ -1,0 +1,85 @@
+-- Document 01, "The memory a caller lends": the three memories and their parts.
+use mathlib.Core.Bool.{Bool}
+use mathlib.Core.List.{List, [], _∷_}
+use Prim.Native.Nat.{ℕ, _*_, _-_}
+use lib.ListN.{length, getD}
+use lib.Dec.{eqb}
+use Rattle.carts.specs.Bytes.{part, over, u16, u16Bytes, all}
+use Rattle.carts.specs.Cart.{copySize}
+use Rattle.replication.specs.declared.control.Control.{Control}
+
+pub record Memory : Type 0 where
+  pub library : List ℕ
+  pub log : List ℕ
+  pub sessions : List ℕ
+
+-- "Library memory, 51,200 bytes: five copies of 10,240"
+abbrev pub copyCount : ℕ
+copyCount = 5
+
+abbrev pub librarySize : ℕ
+librarySize = 51200
+
+-- "Log memory, 40,960 bytes: 512 records of 80 bytes"
+abbrev pub recordSize : ℕ
+recordSize = 80
+
+abbrev pub recordCount : ℕ
+recordCount = 512
+
+abbrev pub logSize : ℕ
+logSize = 40960
+
+-- "Session memory, 1,280 bytes: 16 sessions of 80 bytes, counted from 1"
+abbrev pub sessionSize : ℕ
+sessionSize = 80
+
+abbrev pub sessionCount : ℕ
+sessionCount = 16
+
+abbrev pub sessionsSize : ℕ
+sessionsSize = 1280
+
+-- "S (studios, 1 to 4)"
+abbrev pub studioCount : ℕ
+studioCount = 4
+
+-- the three memories have their lengths
+unfoldable pub lengthsForm : Memory → Bool
+lengthsForm m = all (eqb (length (m .library)) librarySize ∷ eqb (length (m .log)) logSize ∷ eqb (length (m .sessions)) sessionsSize ∷ [])
+
+-- "five copies .., first the head end's, then studios 1 to 4": copy 0 is the head end's (primary), copy i studio i's (replica)
+unfoldable pub copyAt : List ℕ → ℕ → List ℕ
+copyAt library i = part library (copySize * i) copySize
+
+unfoldable pub withCopy : List ℕ → ℕ → List ℕ → List ℕ
+withCopy library i copy = over library (copySize * i) copySize copy
+
+-- "record r, counted from 1, begins at byte 80(r − 1)"
+unfoldable pub recordAt : List ℕ → ℕ → List ℕ
+recordAt log r = part log (recordSize * (r - 1)) recordSize
+
+unfoldable pub withRecord : List ℕ → ℕ → List ℕ → List ℕ
+withRecord log r x = over log (recordSize * (r - 1)) recordSize x
+
+-- session s, counted from 1
+unfoldable pub sessionAt : List ℕ → ℕ → List ℕ
+sessionAt sessions s = part sessions (sessionSize * (s - 1)) sessionSize
+
+unfoldable pub withSession : List ℕ → ℕ → List ℕ → List ℕ
+withSession sessions s x = over sessions (sessionSize * (s - 1)) sessionSize x
+
+-- "Bytes 2–3: the session's number" (its sequence number)
+unfoldable pub sequenceOf : List ℕ → ℕ
+sequenceOf x = u16 x 2
+
+unfoldable pub withSequence : ℕ → List ℕ → List ℕ
+withSequence n x = over x 2 2 (u16Bytes n)
+
+-- control's entry for session or studio i, counted from 1
+abbrev pub nth : List ℕ → ℕ → ℕ
+nth l i = getD l (i - 1) 0
+
+-- "each session's studio (0 = session unused, else 1 to S)"
+unfoldable pub studioOf : Control → ℕ → ℕ
+studioOf c s = nth (c .«session_studios») s

@@ -1,0 +1,20 @@
+// What the calls answer. specs/Answer.antt gives document 01's number and values for each case.
+
+// Setup: accepted, or refused with document 01's number.
+pub enum SetupAnswer {
+    Ready,
+    Refused(u32),
+}
+
+// Commit, send and refresh: the commit's number, sent or applied; or refused.
+pub enum CountAnswer {
+    Number(u32),
+    Refused(u32),
+}
+
+// Read and collect: state and found; waits, with the session's number; or refused.
+pub enum ReadAnswer {
+    Answered { state: u32, found: u32 },
+    Waits(u32),
+    Refused(u32),
+}

@@ -1,0 +1,3 @@
+// Log, sessions and studios of document 01: control, and what the calls answer.
+pub mod answer;
+pub mod control;
