@@ -1,0 +1,101 @@
+-- STATEMENT. Document 01, "The one-copy order", sentence by sentence: what demand 3 claims of the calls on bytes.
+use mathlib.Core.Path.{_≡_}
+use mathlib.Core.Bool.{Bool, true, false, cond, _&&_}
+use mathlib.Core.List.{List, [], _∷_, _++_, map, List·Permᴰ}
+use Prim.Native.Nat.{ℕ, _+_, _<_}
+use lib.ListN.{take}
+use lib.Dec.{eqb}
+use Rattle.replication.specs.Answer.{Answer, refused, done, waits, answered}
+use Rattle.replication.specs.Memory.{Memory}
+use Rattle.replication.specs.Request.{requestOf, needed}
+use Rattle.replication.specs.Call.{Call, commit, send, refresh, read, collect}
+use Rattle.replication.specs.Calls as Bytes
+use Rattle.replication.specs.declared.control.Control.{Control}
+use Rattle.machine.specs.Library.{Input, operations, request, Reply, number, shown, Library, emptyLibrary, play}
+
+-- a call of H, the answer that it gave, and its output "as they stood when its call ended"
+pub record Event : Type 0 where
+  pub call : Call
+  pub answer : Answer
+  pub output : List ℕ
+
+abbrev pub event : Call → Answer → List ℕ → Event
+event x a out = record { call = x; answer = a; output = out }
+
+-- "The first call of H is given that memory and control, every later one what the call before it left and handed back, after a refusal
+-- or a wait too."
+unfoldable pub history : Control → Memory → List Call → List Event
+history c m [] = []
+history c m (x ∷ H) = let r = Bytes.call c m x in event x (r .answer) (r .output) ∷ history (r .control) (r .memory) H
+
+-- an entry: its place in H, its session, what the single library is fed, and what H answered
+pub record Entry : Type 0 where
+  pub place : ℕ
+  pub session : ℕ
+  pub input : Input
+  pub reply : Reply
+
+-- "Its entries are accepted commits (those that return a commit's number)"
+unfoldable pub commitEntry : ℕ → ℕ → List ℕ → Answer → List Entry
+commitEntry i s bytes (done n) = record { place = i; session = s; input = operations bytes; reply = number n } ∷ []
+commitEntry i s bytes (refused n) = []
+commitEntry i s bytes (waits n) = []
+commitEntry i s bytes (answered state found) = []
+
+-- "and answered reads (those that return a state and found)"; "the state, found and the first 80 × numbers asked bytes of output (80 for
+-- a title)". "Waits and refusals have no entry."
+unfoldable pub readEntry : ℕ → ℕ → List ℕ → Answer → List ℕ → List Entry
+readEntry i s bytes (answered state found) out =
+    record { place = i; session = s; input = request bytes; reply = shown state found (take (needed (requestOf bytes)) out) } ∷ []
+readEntry i s bytes (refused n) out = []
+readEntry i s bytes (waits n) out = []
+readEntry i s bytes (done n) out = []
+
+-- "An entry's session is the one its call names. A read answered by collect belongs to the collect: it stands where the collect stood in H,
+-- and its request is that of the session's latest read call before it that waited": `waited`
+unfoldable pub entryOf : ℕ → (ℕ → List ℕ) → Call → Answer → List ℕ → List Entry
+entryOf i waited (commit s bytes) a out = commitEntry i s bytes a
+entryOf i waited (send j) a out = []
+entryOf i waited (refresh j) a out = []
+entryOf i waited (read s bytes lent) a out = readEntry i s bytes a out
+entryOf i waited (collect s lent) a out = readEntry i s (waited s) a out
+
+unfoldable pub hasWaited : Answer → Bool
+hasWaited (waits n) = true
+hasWaited (refused n) = false
+hasWaited (done n) = false
+hasWaited (answered state found) = false
+
+-- for each session the request of its latest read call that waited
+unfoldable pub waitedAfter : (ℕ → List ℕ) → Call → Answer → ℕ → List ℕ
+waitedAfter waited (commit s bytes) a j = waited j
+waitedAfter waited (send i) a j = waited j
+waitedAfter waited (refresh i) a j = waited j
+waitedAfter waited (read s bytes lent) a j = cond (hasWaited a && eqb j s) bytes (waited j)
+waitedAfter waited (collect s lent) a j = waited j
+
+-- the entries of H from place i on
+unfoldable pub entries : ℕ → (ℕ → List ℕ) → List Event → List Entry
+entries i waited [] = []
+entries i waited (e ∷ es) = entryOf i waited (e .call) (e .answer) (e .output) ++ entries (i + 1) (waitedAfter waited (e .call) (e .answer)) es
+
+-- the entries of session s, in their order
+unfoldable pub ofSession : ℕ → List Entry → List Entry
+ofSession s [] = []
+ofSession s (e ∷ es) = let rest = ofSession s es in cond (eqb s (e .session)) (e ∷ rest) rest
+
+-- "one order that holds each of them exactly once. In it any two of one session stand as they stood in H. A single library .. plays them in
+-- that order .. and gives every one exactly the answer it gave in H"
+pub record OneCopy (start : Library) (E order : List Entry) : Type 0 where
+  pub once : List·Permᴰ E order
+  pub sessions : (s : ℕ) → ofSession s order ≡ ofSession s E
+  pub answers : play start (map (λ (e : Entry). e .input) order) ≡ map (λ (e : Entry). e .reply) order
+
+-- DEMAND 3. "A fresh system is what an accepted setup leaves, for any S and studio bytes", and any memory before it; any list H. `none` is what
+-- a collect before any read that waited would be given: whatever it is, the claim holds.
+abbrev pub Demand3 : Type 0
+Demand3 =
+    (before : Memory) (studios : ℕ) (bytes : List ℕ) → Bytes.setup before studios bytes .answer ≡ done 0 →
+    (H : List Call) (none : List ℕ) →
+    let fresh = Bytes.setup before studios bytes in
+    (order : List Entry) × OneCopy emptyLibrary (entries 0 (λ s. none) (history (fresh .control) (fresh .memory) H)) order
