@@ -1,14 +1,18 @@
 -- Sample operations and titles for worked examples and tables. No part of the specification.
 use mathlib.Core.List.{List, [], _∷_, _++_}
-use Prim.Native.Nat.{ℕ, _-_}
+use Prim.Native.Nat.{ℕ, _-_, _/_, _%_}
 use lib.ListN.{length, replicate}
 use Rattle.carts.specs.Bytes.{zeros, u16Bytes}
 use Rattle.carts.specs.Cart.{titleSize}
 
--- an operation of a kind on cart c (below 256), with a title, audio and milliseconds (below 65,536); a new one is also the cart that it makes
+-- the four bytes of a u32
+unfoldable pub u32Bytes : ℕ → List ℕ
+u32Bytes n = u16Bytes (n % 65536) ++ u16Bytes (n / 65536)
+
+-- an operation of a kind on cart c (below 256), with a title, audio and milliseconds; a new one is also the cart that it makes
 unfoldable pub operation : ℕ → ℕ → List ℕ → ℕ → ℕ → List ℕ
 operation kind c title audio ms =
-    kind ∷ length title ∷ c ∷ 0 ∷ u16Bytes audio ++ zeros 2 ++ u16Bytes ms ++ zeros 2 ++ zeros 4 ++ title ++ zeros (titleSize - length title)
+    kind ∷ length title ∷ c ∷ 0 ∷ u32Bytes audio ++ u32Bytes ms ++ zeros 4 ++ title ++ zeros (titleSize - length title)
 
 unfoldable pub newCart : ℕ → List ℕ → ℕ → ℕ → List ℕ
 newCart c title audio ms = operation 1 c title audio ms

@@ -7,7 +7,8 @@ use Rattle.carts.specs.Bytes.{zeros, part, over, byte, u16, u32, u16Bytes, u16s
 use Rattle.carts.specs.Cart.{cartAt, printable, titleForm, hasTitle, noTitle, hasAudio, noAudio, held}
 use Rattle.carts.specs.Operation.{operationFields, operationForm, operationsOf, made, retitled, recut, withdrawn, meetsCart, effect, actedOn, meets, act, meetsAll, actAll}
 use Rattle.carts.specs.Title.{shownByNumbers, foundByNumbers, sameLetter, titled, titledFrom, titledIn, foundByTitle, theOne, shownByTitle}
-use Rattle.carts.proofs.Samples.{operation, newCart, withdrawCart, topHourA, longTitle}
+use Rattle.carts.proofs.Samples.{u32Bytes, operation, newCart, withdrawCart, topHourA, longTitle}
+use Rattle.replication.proofs.Samples.{filled, pairs, askNumbers, askTitle}
 use Rattle.replication.specs.Answer.{Answer, refused, done, waits, answered}
 use Rattle.replication.specs.Log.{noRoom}
 use Rattle.replication.specs.Request.{numbersIn, requestOf, numbersForm, requestFields, requestForm, isWaiting, needed, foundIn, shownFrom}
@@ -25,12 +26,6 @@ start = Machine.fresh 2 (1 ∷ 1 ∷ 2 ∷ zeros 13)
 unfoldable pub A : List ℕ
 A = newCart 7 topHourA 501 8000
 
-unfoldable pub askNumber : ℕ → List ℕ
-askNumber c = 1 ∷ 1 ∷ zeros 14 ++ c ∷ zeros 63
-
-unfoldable pub askTitle : List ℕ → List ℕ
-askTitle t = 2 ∷ length t ∷ zeros 14 ++ take 64 (t ++ zeros 64)
-
 -- an output whose bytes are seen to change, with two bytes more than a cart
 unfoldable pub buffer : List ℕ
 buffer = replicate 82 255
@@ -43,8 +38,8 @@ holding cart = cart ++ (255 ∷ 255 ∷ [])
 unfoldable pub morning : List Call
 morning =
     commit 1 A
-    ∷ read 1 (askNumber 7) buffer
-    ∷ read 2 (askNumber 7) buffer
+    ∷ read 1 (askNumbers (7 ∷ [])) buffer
+    ∷ read 2 (askNumbers (7 ∷ [])) buffer
     ∷ commit 1 A
     ∷ refresh 1
     ∷ send 1 ∷ refresh 1 ∷ collect 1 buffer
@@ -91,7 +86,7 @@ last m (s ∷ ss) = last (s .next) ss
 
 pub record Table : Type 0 where
   -- "Fresh, session 1 reads [7]: state 0, found 0, zeros."
-  pub case1 : calls (read 1 (askNumber 7) buffer ∷ []) 0 1 ≡ (answered 0 0, holding (zeros 80)) ∷ []
+  pub case1 : calls (read 1 (askNumbers (7 ∷ [])) buffer ∷ []) 0 1 ≡ (answered 0 0, holding (zeros 80)) ∷ []
   -- "Fresh, session 1 commits A: 1."
   pub case2 : calls morning 0 1 ≡ (done 1, []) ∷ []
   -- "+ session 1 reads [7]: waits, 1."
@@ -118,7 +113,7 @@ pub record Table : Type 0 where
   pub case12 : calls oneTitle 0 4 ≡ (done 1, []) ∷ (done 1, []) ∷ (done 1, []) ∷ (answered 1 2, holding (zeros 80)) ∷ []
 
 pub table : Table
-unfolding zeros u16 u32 u16Bytes u16s within all every allZero pairwise parts cartAt printable titleForm hasTitle noTitle hasAudio noAudio held operationFields operationForm operationsOf made retitled recut withdrawn meetsCart effect actedOn meets act meetsAll actAll shownByNumbers foundByNumbers sameLetter titled titledFrom titledIn foundByTitle theOne shownByTitle operation newCart withdrawCart topHourA longTitle noRoom numbersIn requestOf numbersForm requestFields requestForm isWaiting needed foundIn shownFrom stopped unless sessionRow studioRow sizeForm commitRows sendRows refreshRows readRows collectRows numberAfter Machine.replay L Machine.recordsUsed Machine.fresh Machine.refusedCommit Machine.commit Machine.send Machine.refresh Machine.answerFrom Machine.block Machine.wait Machine.read Machine.collect Machine.call run start A askNumber askTitle buffer holding morning long longTitles oneTitle seen calls last
+unfolding zeros u16 u32 u16Bytes u16s within all every allZero pairwise parts cartAt printable titleForm hasTitle noTitle hasAudio noAudio held operationFields operationForm operationsOf made retitled recut withdrawn meetsCart effect actedOn meets act meetsAll actAll shownByNumbers foundByNumbers sameLetter titled titledFrom titledIn foundByTitle theOne shownByTitle u32Bytes operation newCart withdrawCart topHourA longTitle noRoom numbersIn requestOf numbersForm requestFields requestForm isWaiting needed foundIn shownFrom stopped unless sessionRow studioRow sizeForm commitRows sendRows refreshRows readRows collectRows numberAfter Machine.replay L Machine.recordsUsed Machine.fresh Machine.refusedCommit Machine.commit Machine.send Machine.refresh Machine.answerFrom Machine.block Machine.wait Machine.read Machine.collect Machine.call run start A filled pairs askNumbers askTitle buffer holding morning long longTitles oneTitle seen calls last
 table = record {
   case1 = refl;
   case2 = refl;

@@ -1,0 +1,212 @@
+-- WORKED EXAMPLES of the definitions, by computation: the rows of each call in their order, requests, sessions, the log's chains.
+use mathlib.Core.Path.{_≡_, refl}
+use mathlib.Core.Bool.{Bool, true, false}
+use mathlib.Core.List.{List, [], _∷_, _++_}
+use Prim.Native.Nat.{ℕ}
+use lib.ListN.{drop, take, set, replicate}
+use Rattle.carts.specs.Bytes.{zeros, u16, u32, u16Bytes, u16s, within, all, every, allZero, pairwise, parts}
+use Rattle.carts.specs.Cart.{cartAt, printable, titleForm, hasTitle, noTitle, hasAudio, noAudio, held}
+use Rattle.carts.specs.Operation.{operationFields, operationForm, operationsOf, made, meetsCart, effect, actedOn, meets, act, meetsAll}
+use Rattle.carts.proofs.Samples.{u32Bytes, operation, newCart, withdrawCart, topHourA, longTitle}
+use Rattle.replication.specs.Memory.{recordAt, withRecord, sequenceOf, studioOf}
+use Rattle.replication.specs.Log.{nextOperation, nextTransaction, chain, recordsOf, walk, firstRecord, upFrom, chainForm, freeRecords, noRoom, front, writeAll, linked, appended}
+use Rattle.replication.specs.Request.{nothing, byNumbers, byTitle, numbersIn, requestOf, numbersForm, requestFields, requestForm, isWaiting, needed}
+use Rattle.replication.specs.Layout.{waitingForm, sessionForm, countsForm}
+use Rattle.replication.specs.Rows.{stopped, setupRows, sessionRow, studioRow, sizeForm, commitRows, sendRows, refreshRows, readRows, collectRows}
+use Rattle.replication.specs.Calls.{controlOf, committed, withSent, withApplied}
+use Rattle.replication.specs.declared.control.Control.{Control}
+use Rattle.replication.proofs.Samples.{filled, pairs, askNumbers, askTitle}
+
+unfoldable A : List ℕ
+A = newCart 7 topHourA 501 8000
+
+-- short copies: eight empty carts, and with cart 7 held
+unfoldable none : List ℕ
+none = zeros 640
+
+unfoldable one : List ℕ
+one = act none A
+
+-- each row where the later ones hold too, then none
+pub record RowOrder : Type 0 where
+  setup-studios : stopped (setupRows 5 (zeros 16)) ≡ 15
+  setup-none : stopped (setupRows 0 (zeros 16)) ≡ 15
+  setup-count : stopped (setupRows 2 (zeros 15)) ≡ 15
+  setup-above : stopped (setupRows 2 (3 ∷ zeros 15)) ≡ 15
+  setup-passes : stopped (setupRows 2 (1 ∷ 2 ∷ zeros 14)) ≡ 0
+  commit-3 : stopped (commitRows 17 1 (byNumbers (7 ∷ [])) 512 one []) ≡ 3
+  commit-unused : stopped (commitRows 16 0 nothing 0 none A) ≡ 3
+  commit-4 : stopped (commitRows 1 1 (byNumbers (7 ∷ [])) 512 one []) ≡ 4
+  commit-5 : stopped (commitRows 1 1 nothing 512 one (zeros 79)) ≡ 5
+  commit-5-long : stopped (commitRows 1 1 nothing 512 one (zeros 720)) ≡ 5
+  commit-6 : stopped (commitRows 1 1 nothing 512 one (A ++ zeros 80)) ≡ 6
+  commit-7 : stopped (commitRows 1 1 nothing 512 one A) ≡ 7
+  commit-8 : stopped (commitRows 1 1 nothing 511 one A) ≡ 8
+  commit-passes : stopped (commitRows 16 4 nothing 511 none A) ≡ 0
+  send-3 : stopped (sendRows 2 3 32 0 32) ≡ 3
+  send-9 : stopped (sendRows 2 2 32 0 32) ≡ 9
+  send-10 : stopped (sendRows 2 2 32 0 33) ≡ 10
+  send-passes : stopped (sendRows 2 2 32 1 33) ≡ 0
+  refresh-3 : stopped (refreshRows 2 0 5 5) ≡ 3
+  refresh-11 : stopped (refreshRows 2 1 5 5) ≡ 11
+  refresh-passes : stopped (refreshRows 2 1 5 4) ≡ 0
+  read-3 : stopped (readRows 0 0 (byTitle topHourA) [] 0) ≡ 3
+  read-4 : stopped (readRows 1 1 (byTitle topHourA) [] 0) ≡ 4
+  read-12 : stopped (readRows 1 1 nothing (askNumbers []) 0) ≡ 12
+  read-13 : stopped (readRows 1 1 nothing (askNumbers (replicate 32 7)) 2559) ≡ 13
+  read-passes : stopped (readRows 1 1 nothing (askNumbers (replicate 32 7)) 2560) ≡ 0
+  read-title-13 : stopped (readRows 1 1 nothing (askTitle topHourA) 79) ≡ 13
+  read-title-passes : stopped (readRows 1 1 nothing (askTitle topHourA) 80) ≡ 0
+  collect-3 : stopped (collectRows 1 0 nothing 0) ≡ 3
+  collect-14 : stopped (collectRows 1 1 nothing 0) ≡ 14
+  collect-13 : stopped (collectRows 1 1 (byNumbers (7 ∷ 7 ∷ [])) 159) ≡ 13
+  collect-passes : stopped (collectRows 1 1 (byNumbers (7 ∷ 7 ∷ [])) 160) ≡ 0
+
+pub row-order : RowOrder
+unfolding A none one zeros u16 u32 u16Bytes u16s within all every allZero parts cartAt printable titleForm hasTitle noTitle hasAudio noAudio held operationFields operationForm operationsOf made meetsCart effect actedOn meets act meetsAll u32Bytes operation newCart topHourA noRoom numbersIn requestOf numbersForm requestFields requestForm isWaiting needed stopped setupRows sessionRow studioRow sizeForm commitRows sendRows refreshRows readRows collectRows filled pairs askNumbers askTitle
+row-order = record {
+  setup-studios = refl;
+  setup-none = refl;
+  setup-count = refl;
+  setup-above = refl;
+  setup-passes = refl;
+  commit-3 = refl;
+  commit-unused = refl;
+  commit-4 = refl;
+  commit-5 = refl;
+  commit-5-long = refl;
+  commit-6 = refl;
+  commit-7 = refl;
+  commit-8 = refl;
+  commit-passes = refl;
+  send-3 = refl;
+  send-9 = refl;
+  send-10 = refl;
+  send-passes = refl;
+  refresh-3 = refl;
+  refresh-11 = refl;
+  refresh-passes = refl;
+  read-3 = refl;
+  read-4 = refl;
+  read-12 = refl;
+  read-13 = refl;
+  read-passes = refl;
+  read-title-13 = refl;
+  read-title-passes = refl;
+  collect-3 = refl;
+  collect-14 = refl;
+  collect-13 = refl;
+  collect-passes = refl;
+}
+
+-- control of two studios with session 1 at studio 1, 3 commits
+unfoldable three : Control
+three = committed (committed (committed (controlOf 2 (1 ∷ zeros 15)) 1) 1) 1
+
+pub record Requests : Type 0 where
+  numbers : requestOf (askNumbers (7 ∷ 8 ∷ [])) ≡ byNumbers (7 ∷ 8 ∷ [])
+  title : requestOf (askTitle topHourA) ≡ byTitle topHourA
+  form : requestForm (askNumbers (replicate 32 128)) ≡ true
+  form-title : requestForm (askTitle (longTitle 49)) ≡ true
+  long : requestForm (askNumbers (7 ∷ []) ++ (0 ∷ [])) ≡ false
+  number-0 : requestForm (askNumbers (7 ∷ 0 ∷ [])) ≡ false
+  number-129 : requestForm (askNumbers (129 ∷ [])) ≡ false
+  count-33 : requestForm (set (askNumbers (replicate 32 7)) 1 33) ≡ false
+  number-after : requestForm (set (askNumbers (7 ∷ [])) 18 7) ≡ false
+  title-65 : requestForm (set (askTitle (longTitle 49)) 1 65) ≡ false
+  letter-after : requestForm (set (askTitle topHourA) 26 65) ≡ false
+  sequence : requestForm (set (askNumbers (7 ∷ [])) 2 1) ≡ false
+  kind-0 : requestForm (zeros 80) ≡ false
+  kind-3 : requestForm (set (askTitle topHourA) 0 3) ≡ false
+  waits : sessionForm three 1 (set (askNumbers (7 ∷ [])) 2 3) ≡ true
+  waits-above : sessionForm three 1 (set (askNumbers (7 ∷ [])) 2 4) ≡ false
+  idle : sessionForm three 1 (set (zeros 80) 2 3) ≡ true
+  idle-count : sessionForm three 1 (set (zeros 80) 1 1) ≡ false
+  idle-bytes : sessionForm three 1 (set (zeros 80) 79 1) ≡ false
+  idle-spare : sessionForm three 1 (set (zeros 80) 4 1) ≡ false
+  unused : sessionForm three 2 (zeros 80) ≡ true
+  unused-number : sessionForm three 2 (set (zeros 80) 2 1) ≡ false
+  sent-above : countsForm (withSent three 1 4) 1 ≡ false
+  applied-above : countsForm (withApplied three 1 1) 1 ≡ false
+  counts : countsForm (withApplied (withSent three 2 3) 2 2) 2 ≡ true
+  counts-above-S : countsForm (withSent three 3 1) 3 ≡ false
+
+pub requests : Requests
+unfolding three zeros u16 u16s within all every allZero printable titleForm sequenceOf studioOf numbersIn requestOf numbersForm requestFields requestForm waitingForm sessionForm countsForm controlOf committed withSent withApplied topHourA longTitle filled pairs askNumbers askTitle
+requests = record {
+  numbers = refl;
+  title = refl;
+  form = refl;
+  form-title = refl;
+  long = refl;
+  number-0 = refl;
+  number-129 = refl;
+  count-33 = refl;
+  number-after = refl;
+  title-65 = refl;
+  letter-after = refl;
+  sequence = refl;
+  kind-0 = refl;
+  kind-3 = refl;
+  waits = refl;
+  waits-above = refl;
+  idle = refl;
+  idle-count = refl;
+  idle-bytes = refl;
+  idle-spare = refl;
+  unused = refl;
+  unused-number = refl;
+  sent-above = refl;
+  applied-above = refl;
+  counts = refl;
+  counts-above-S = refl;
+}
+
+-- a short log of five records: a transaction of two operations, then one of one
+unfoldable start : Control
+start = controlOf 1 (zeros 16)
+
+unfoldable first : List ℕ
+first = appended start (zeros 400) (A ∷ withdrawCart 7 ∷ [])
+
+unfoldable both : List ℕ
+both = appended (committed start 2) first (A ∷ [])
+
+pub record Chains : Type 0 where
+  empty : chainForm 0 (zeros 400) 0 1 1 ≡ true
+  one-transaction : chainForm 1 first 1 1 3 ≡ true
+  two-transactions : chainForm 2 both 1 1 4 ≡ true
+  records-1 : recordsOf both 1 ≡ 1 ∷ 2 ∷ []
+  records-2 : recordsOf both 3 ≡ 3 ∷ []
+  link : nextTransaction both 1 ≡ 3
+  link-end : nextTransaction both 3 ≡ 0
+  walk-1 : walk 1 both 1 ≡ 3
+  fewer-commits : chainForm 1 both 1 1 3 ≡ false
+  more-commits : chainForm 3 both 1 1 4 ≡ false
+  fewer-used : chainForm 2 both 1 1 3 ≡ false
+  more-used : chainForm 2 both 1 1 5 ≡ false
+  link-in-second : chainForm 2 (set both 94 3) 1 1 4 ≡ false
+  operation-back : chainForm 2 (set both 92 1) 1 1 4 ≡ false
+  operation-skips : chainForm 2 (set both 12 3) 1 1 4 ≡ false
+  transaction-skips : chainForm 2 (set both 14 4) 1 1 4 ≡ false
+
+pub chains : Chains
+unfolding start first both A zeros u16 u16Bytes within all every pairwise u32Bytes operation newCart withdrawCart topHourA recordAt withRecord nextOperation nextTransaction chain recordsOf walk firstRecord upFrom chainForm freeRecords front writeAll linked appended controlOf committed
+chains = record {
+  empty = refl;
+  one-transaction = refl;
+  two-transactions = refl;
+  records-1 = refl;
+  records-2 = refl;
+  link = refl;
+  link-end = refl;
+  walk-1 = refl;
+  fewer-commits = refl;
+  more-commits = refl;
+  fewer-used = refl;
+  more-used = refl;
+  link-in-second = refl;
+  operation-back = refl;
+  operation-skips = refl;
+  transaction-skips = refl;
+}
