@@ -1,2 +1,8 @@
-pub mod Samples
+-- Sample data, worked examples, and laws on the definitions of specs/ for the proofs of this crate and of its callers.
+pub mod CartLaws
 pub mod Examples
+pub mod OverLaws
+pub mod PartLaws
+pub mod Samples
+pub mod ScanLaws
+pub mod TitleKept
