@@ -1,2 +1,4 @@
 pub mod Samples
+pub mod SpanLaws
+pub mod TestLaws
 pub mod Examples

@@ -7,3 +7,4 @@ pub mod Layout
 pub mod Rows
 pub mod Call
 pub mod Calls
+pub mod Values

@@ -1,3 +1,5 @@
 // Log, sessions and studios of document 01: control, and what the calls answer.
 pub mod answer;
+pub mod chain;
 pub mod control;
+pub mod record;

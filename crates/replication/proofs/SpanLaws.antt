@@ -1,0 +1,247 @@
+-- One transaction of the log's chain, record by record.
+use Prim.Native.Nat.{ℕ, zero, suc, _+_, _-_, _<_, _≤_}
+use mathlib.Core.Path.{_≡_, refl, sym, ap, ap₂, _∙_}
+use mathlib.Core.Bool.{Bool, true, false, cond, _&&_, and-false, and-true}
+use mathlib.Core.List.{List, [], _∷_}
+use native.Mathlib.Omega.{arith}
+use native.Mathlib.Numerals.{add-one}
+use lib.ListN.{length, drop}
+use lib.Dec.{leb, ltb, eqb, leb·suc-suc, eqb·suc-zero}
+use borrow.Author.Tests.{eq-eqb, ne-eqb, lt-ltb, le-ltb, le-leb, lt-leb, eqb-true, eqb-false, leb-true, ltb-true, ltb-false}
+use Rattle.carts.specs.Bytes.{within, all, every, pairwise}
+use Rattle.replication.specs.Log.{nextOperation, nextTransaction, chain, recordsOf, upFrom, chainForm}
+use Rattle.replication.specs.Values.{ownForm, spanOf}
+use Rattle.replication.proofs.TestLaws.{all-at}
+
+-- d records more, where there are any
+unfoldable pub raise : ℕ → ℕ → ℕ
+raise d zero = 0
+raise d (suc n) = d + suc n
+
+pub raise-none : (n : ℕ) → raise 0 n ≡ n
+unfolding raise
+raise-none zero = refl
+raise-none (suc n) = omega arith
+
+pub raise-raise : (d n : ℕ) → raise d (raise 1 n) ≡ raise (d + 1) n
+unfolding raise
+raise-raise d zero = refl
+raise-raise d (suc n) = let e : 1 + suc n ≡ suc (suc n) = omega arith in let f : d + suc (suc n) ≡ d + 1 + suc n = omega arith in rw e f
+
+pub raise-one : (d n : ℕ) → n ≡ 1 → raise d n ≡ d + 1
+unfolding raise
+raise-one d n e = rw e
+
+pub raise-of-none : (d n : ℕ) → n ≡ 0 → raise d n ≡ 0
+unfolding raise
+raise-of-none d n e = rw e
+
+-- the records from r on, at most k, counted one by one; 0 where the chain is not of the layout
+unfoldable pub spanFrom : ℕ → List ℕ → ℕ → ℕ → ℕ
+spanFrom zero log r end = 0
+spanFrom (suc k) log r end =
+    cond (eqb (nextOperation log r) 0) 1
+    (cond (eqb (nextOperation log r) (r + 1) && (ltb (r + 1) end && eqb (nextTransaction log (r + 1)) 0)) (raise 1 (spanFrom k log (r + 1) end)) 0)
+
+-- the chain of a record that is not 0 begins with it
+pub chain-cons : (k : ℕ) (log : List ℕ) (r : ℕ) → 1 ≤ r → chain (suc k) log r ≡ r ∷ chain k log (nextOperation log r)
+unfolding chain
+chain-cons k log r h = let n : r ≡ 0 → ⊥ = λ e. omega arith in rw (ne-eqb r 0 n)
+
+pub chain-zero : (k : ℕ) (log : List ℕ) → chain k log 0 ≡ []
+unfolding chain
+chain-zero zero log = refl
+chain-zero (suc k) log = refl
+
+regroup : (w x p z e l : Bool) → (w && ((x && p) && ((z && e) && l))) ≡ (x && (z && (w && ((x && p) && (e && l)))))
+regroup true true p true e l = refl
+regroup true true p false e l = and-false p
+regroup true false p z e l = refl
+regroup false true p true e l = refl
+regroup false true p false e l = refl
+regroup false false p z e l = refl
+
+-- a record before the others
+pub own-cons : (most : ℕ) (log : List ℕ) (r x end : ℕ) (xs : List ℕ) → ownForm (suc most) log (r ∷ x ∷ xs) r end
+    ≡ (eqb x (r + 1) && (eqb (nextTransaction log x) 0 && ownForm most log (x ∷ xs) (r + 1) end))
+unfolding ownForm all within pairwise upFrom every
+own-cons most log r x end xs =
+    let l : ℕ = length xs in
+    let e : r + suc (suc l) ≡ r + 1 + suc l = omega arith in
+    rw (le-leb 1 (suc (suc l)) (omega arith), le-leb 1 (suc l) (omega arith), leb·suc-suc (suc l) most, eq-eqb r r refl, e)
+    (regroup (leb (suc l) most) (eqb x (r + 1)) (pairwise eqb xs (upFrom (r + 1 + 1) l)) (eqb (nextTransaction log x) 0) (every (λ q. eqb (nextTransaction log q) 0) xs) (leb (r + 1 + suc l) end && true))
+
+-- the last record
+pub own-last : (most : ℕ) (log : List ℕ) (r end : ℕ) → r < end → ownForm (suc most) log (r ∷ []) r end ≡ true
+unfolding ownForm all within pairwise upFrom every
+own-last most log r end h = rw (le-leb 1 (suc most) (omega arith), eq-eqb r r refl, le-leb (r + 1) end (omega arith))
+
+-- there is no transaction of no operation, and none that ends after `end`
+pub own-none : (log : List ℕ) (r x end : ℕ) (xs : List ℕ) → ownForm 0 log (x ∷ xs) r end ≡ false
+unfolding ownForm all within
+own-none log r x end xs = rw (lt-leb (suc (length xs)) 0 (omega arith)) (simp and-false)
+
+pub own-beyond : (most : ℕ) (log : List ℕ) (r end : ℕ) (own : List ℕ) → end < r + length own → ownForm most log own r end ≡ false
+unfolding ownForm all
+own-beyond most log r end own h = rw (lt-leb (r + length own) end h) (simp and-false)
+
+raise-cond : (b : Bool) (n : ℕ) → raise 1 (cond b (suc n) 0) ≡ cond b (suc (suc n)) 0
+unfolding raise
+raise-cond true n = omega arith
+raise-cond false n = refl
+
+-- what `span-is` says of at most k records from r on
+abbrev Same : ℕ → List ℕ → ℕ → ℕ → Type 0
+Same k log r end = spanFrom k log r end ≡ cond (ownForm k log (chain (suc k) log r) r end) (length (chain (suc k) log r)) 0
+
+module _ (k : ℕ) (log : List ℕ) (r end : ℕ) (h : 1 ≤ r) (l : r < end) (later : r + 1 < end → Same k log (r + 1) end) where
+  -- the next operation is record r + 1
+  span-on : (b z : Bool) → ltb (r + 1) end ≡ b → eqb (nextTransaction log (r + 1)) 0 ≡ z
+      → cond (b && z) (raise 1 (spanFrom k log (r + 1) end)) 0 ≡ cond (ownForm (suc k) log (r ∷ chain (suc k) log (r + 1)) r end) (length (r ∷ chain (suc k) log (r + 1))) 0
+  span-on true true e f =
+      let own : List ℕ = chain k log (nextOperation log (r + 1)) in
+      let c : chain (suc k) log (r + 1) ≡ (r + 1) ∷ own = chain-cons k log (r + 1) (omega arith) in
+      rw (later (ltb-true (r + 1) end e), c, own-cons k log r (r + 1) end own, f, eq-eqb (r + 1) (r + 1) refl)
+      (raise-cond (ownForm k log ((r + 1) ∷ own) (r + 1) end) (length own))
+  span-on true false e f =
+      rw (chain-cons k log (r + 1) (omega arith), own-cons k log r (r + 1) end (chain k log (nextOperation log (r + 1))), f, eq-eqb (r + 1) (r + 1) refl)
+  span-on false z e f =
+      let own : List ℕ = chain k log (nextOperation log (r + 1)) in
+      let u : end ≤ r + 1 = ltb-false (r + 1) end e in
+      rw (chain-cons k log (r + 1) (omega arith), own-beyond (suc k) log r end (r ∷ (r + 1) ∷ own) (omega arith))
+
+  span-next : (x : ℕ) (b : Bool) → (x ≡ 0 → ⊥) → eqb x (r + 1) ≡ b
+      → cond (b && (ltb (r + 1) end && eqb (nextTransaction log (r + 1)) 0)) (raise 1 (spanFrom k log (r + 1) end)) 0
+      ≡ cond (ownForm (suc k) log (r ∷ chain (suc k) log x) r end) (length (r ∷ chain (suc k) log x)) 0
+  span-next x true n e = rw (eqb-true x (r + 1) e) (span-on (ltb (r + 1) end) (eqb (nextTransaction log (r + 1)) 0) refl refl)
+  span-next x false n e = rw (chain-cons k log x (omega arith), own-cons k log r x end (chain k log (nextOperation log x)), e)
+
+  span-end : (x : ℕ) (b : Bool) → eqb x 0 ≡ b
+      → cond b 1 (cond (eqb x (r + 1) && (ltb (r + 1) end && eqb (nextTransaction log (r + 1)) 0)) (raise 1 (spanFrom k log (r + 1) end)) 0)
+      ≡ cond (ownForm (suc k) log (r ∷ chain (suc k) log x) r end) (length (r ∷ chain (suc k) log x)) 0
+  span-end x true e = rw (eqb-true x 0 e, chain-zero (suc k) log, own-last k log r end l)
+  span-end x false e = span-next x (eqb x (r + 1)) (eqb-false x 0 e) refl
+
+-- counted one by one, or tested as a list: the same
+pub span-is : (k : ℕ) (log : List ℕ) (r end : ℕ) → 1 ≤ r → r < end → Same k log r end
+unfolding spanFrom
+span-is zero log r end h l = rw (chain-cons 0 log r h, own-none log r r end (chain 0 log (nextOperation log r)))
+span-is (suc k) log r end h l =
+    rw (chain-cons (suc k) log r h) (span-end k log r end h l (span-is k log (r + 1) end (omega arith)) (nextOperation log r) (eqb (nextOperation log r) 0) refl)
+
+-- a turn of a loop that counts, by what it reads: v, the next operation of record r; w, the next transaction of record r + 1
+module _ (log : List ℕ) (left r end v : ℕ) (h : 0 < left) (e : v ≡ nextOperation log r) where
+  turn : spanFrom left log r end ≡ cond (eqb v 0) 1 (cond (eqb v (r + 1) && (ltb (r + 1) end && eqb (nextTransaction log (r + 1)) 0)) (raise 1 (spanFrom (left - 1) log (r + 1) end)) 0)
+  unfolding spanFrom
+  turn = let q : left ≡ suc (left - 1) = omega arith in ap (λ n. spanFrom n log r end) q ∙ rw (← e)
+
+  pub span-here : v ≡ 0 → spanFrom left log r end ≡ 1
+  span-here z = turn ∙ rw (eq-eqb v 0 z)
+
+  pub span-astray : (v ≡ 0 → ⊥) → (v ≡ r + 1 → ⊥) → spanFrom left log r end ≡ 0
+  span-astray z q = turn ∙ rw (ne-eqb v 0 z, ne-eqb v (r + 1) q)
+
+  pub span-full : (v ≡ 0 → ⊥) → end ≤ r + 1 → spanFrom left log r end ≡ 0
+  span-full z q = turn ∙ rw (ne-eqb v 0 z, le-ltb (r + 1) end q) (simp and-false)
+
+  pub span-tied : (v ≡ 0 → ⊥) → (nextTransaction log (r + 1) ≡ 0 → ⊥) → spanFrom left log r end ≡ 0
+  span-tied z q = turn ∙ rw (ne-eqb v 0 z, ne-eqb (nextTransaction log (r + 1)) 0 q) (simp and-false)
+
+  pub span-step : (v ≡ 0 → ⊥) → v ≡ r + 1 → r + 1 < end → nextTransaction log (r + 1) ≡ 0 → spanFrom left log r end ≡ raise 1 (spanFrom (left - 1) log (r + 1) end)
+  span-step z q l t = turn ∙ rw (ne-eqb v 0 z, eq-eqb v (r + 1) q, lt-ltb (r + 1) end l, eq-eqb (nextTransaction log (r + 1)) 0 t)
+
+pub span-out : (log : List ℕ) (left r end : ℕ) → left ≤ 0 → spanFrom left log r end ≡ 0
+unfolding spanFrom
+span-out log left r end h = let e : left ≡ 0 = omega arith in rw e
+
+pub span-of : (log : List ℕ) (r end : ℕ) → 1 ≤ r → r < end → spanOf log r end ≡ spanFrom 8 log r end
+unfolding spanOf recordsOf
+span-of log r end h l = sym (span-is 8 log r end h l)
+
+own-ends : (most : ℕ) (log own : List ℕ) (r end : ℕ) → ownForm most log own r end ≡ true → leb (r + length own) end ≡ true
+unfolding ownForm
+own-ends most log own r end e =
+    all-at 3 (within 1 most (length own) ∷ pairwise eqb own (upFrom r (length own)) ∷ every (λ q. eqb (nextTransaction log q) 0) (drop 1 own) ∷ leb (r + length own) end ∷ []) e
+
+-- records that do not begin with r are not those of a transaction at r
+own-gap : (log : List ℕ) (x r end : ℕ) → (x ≡ r → ⊥) → ownForm 8 log (recordsOf log x) r end ≡ false
+unfolding ownForm recordsOf all within pairwise upFrom
+own-gap log zero r end n = rw (chain-zero 9 log)
+own-gap log (suc x) r end n = rw (chain-cons 8 log (suc x) (omega arith), ne-eqb (suc x) r n) (simp and-false)
+
+-- a record that is not 0 has a transaction of one record at least
+records-some : (log : List ℕ) (r : ℕ) → 1 ≤ r → 1 ≤ length (recordsOf log r)
+unfolding recordsOf
+records-some log r h = rw (chain-cons 8 log r h) (omega arith)
+
+-- the whole chain, transaction by transaction
+chain-suc : (n : ℕ) (log : List ℕ) (first r end : ℕ) → chainForm (suc n) log first r end
+    ≡ (ownForm 8 log (recordsOf log first) r end && chainForm n log (nextTransaction log first) (r + length (recordsOf log first)) end)
+unfolding chainForm ownForm
+chain-suc n log first r end = refl
+
+module _ (log : List ℕ) (left first r end : ℕ) (h : 0 < left) where
+  pub chain-turn : chainForm left log first r end
+      ≡ (ownForm 8 log (recordsOf log first) r end && chainForm (left - 1) log (nextTransaction log first) (r + length (recordsOf log first)) end)
+  chain-turn = let q : left ≡ suc (left - 1) = omega arith in ap (λ n. chainForm n log first r end) q ∙ chain-suc (left - 1) log first r end
+
+  chain-false : ownForm 8 log (recordsOf log first) r end ≡ false → chainForm left log first r end ≡ false
+  chain-false e = chain-turn ∙ rw e
+
+  -- the link leads elsewhere
+  pub chain-gap : (first ≡ r → ⊥) → chainForm left log first r end ≡ false
+  chain-gap n = chain-false (own-gap log first r end n)
+
+  -- the log ends before
+  pub chain-past : first ≡ r → 1 ≤ r → end ≤ r → chainForm left log first r end ≡ false
+  chain-past e k l =
+      let some : 1 ≤ length (recordsOf log r) = records-some log r k in
+      chain-false (rw e (own-beyond 8 log r end (recordsOf log r) (omega arith)))
+
+module _ (log : List ℕ) (r end v : ℕ) (k : 1 ≤ r) (s : v ≡ spanOf log r end) where
+  pub span-zero : v ≡ 0 → ownForm 8 log (recordsOf log r) r end ≡ false
+  unfolding spanOf
+  span-zero z = go (ownForm 8 log (recordsOf log r) r end) (sym s ∙ z)
+    where
+      go : (b : Bool) → cond b (length (recordsOf log r)) 0 ≡ 0 → b ≡ false
+      go true e = let some : 1 ≤ length (recordsOf log r) = records-some log r k in absurd (omega arith)
+      go false e = refl
+
+  pub span-some : (v ≡ 0 → ⊥) → (ownForm 8 log (recordsOf log r) r end ≡ true) × (length (recordsOf log r) ≡ v)
+  unfolding spanOf
+  span-some z = go (ownForm 8 log (recordsOf log r) r end) s
+    where
+      go : (b : Bool) → v ≡ cond b (length (recordsOf log r)) 0 → (b ≡ true) × (length (recordsOf log r) ≡ v)
+      go true e = (refl, sym e)
+      go false e = absurd (z e)
+
+  pub span-before : (v ≡ 0 → ⊥) → r + v ≤ end
+  span-before z =
+      let f = span-some z in
+      rw (← (f .1)) (leb-true (r + length (recordsOf log r)) end (own-ends 8 log (recordsOf log r) r end (f .0)))
+
+-- a turn of a loop over transactions: v is the span of the one at r
+module _ (log : List ℕ) (left first r end v : ℕ) (h : 0 < left) (q : first ≡ r) (k : 1 ≤ r) (s : v ≡ spanOf log r end) where
+  pub chain-bad : v ≡ 0 → chainForm left log first r end ≡ false
+  chain-bad z = chain-false log left first r end h (rw q (span-zero log r end v k s z))
+
+  pub chain-step : (v ≡ 0 → ⊥) → chainForm left log first r end ≡ chainForm (left - 1) log (nextTransaction log r) (r + v) end
+  chain-step z = let f = span-some log r end v k s z in chain-turn log left first r end h ∙ rw (q, f .0, f .1)
+
+pub chain-done : (log : List ℕ) (left first r end : ℕ) → left ≤ 0 → chainForm left log first r end ≡ (eqb first 0 && eqb r end)
+unfolding chainForm all
+chain-done log left first r end h = let e : left ≡ 0 = omega arith in rw (e, and-true)
+
+-- the chain of a log from record 1 on
+abbrev pub Whole : List ℕ → ℕ → ℕ → Bool
+Whole log commits used = chainForm commits log (cond (eqb commits 0) 0 1) 1 (used + 1)
+
+pub chain-empty : (log : List ℕ) (commits used : ℕ) → commits ≡ 0 → eqb used 0 ≡ Whole log commits used
+chain-empty log commits used e = rw e (same used ∙ sym (chain-done log 0 0 1 (used + 1) (omega arith)))
+  where
+    same : (n : ℕ) → eqb n 0 ≡ eqb 1 (n + 1)
+    same zero = refl
+    same (suc n) = let z : 1 ≡ suc n + 1 → ⊥ = λ q. omega arith in rw (ne-eqb 1 (suc n + 1) z, eqb·suc-zero)
+
+pub chain-begins : (log : List ℕ) (commits used : ℕ) → (commits ≡ 0 → ⊥) → Whole log commits used ≡ chainForm commits log 1 1 (used + 1)
+chain-begins log commits used n = rw (ne-eqb commits 0 n)
