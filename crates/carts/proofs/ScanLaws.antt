@@ -10,7 +10,7 @@ use lib.Seq.{drop-cons}
 use lib.Bits.{bitOr, or-zero-l, or-add-and, and-le-r}
 use borrow.Author.Tests.{ne-eqb}
 use lib.Dec.{eqb, eqb·suc-zero}
-use Rattle.carts.specs.Bytes.{every, pairwise}
+use Rattle.carts.specs.Bytes.{all, every, pairwise}
 
 -- a turn of a loop that joins tests, and its end
 pub test-more : (ok t next : Bool) {new whole left : Bool} → whole ≡ (ok && left) → left ≡ (t && next) → new ≡ (ok && t) → whole ≡ (new && next)
@@ -18,6 +18,16 @@ test-more ok t next p q e = p ∙ ap (λ b. ok && b) q ∙ sym (and-assoc ok t n
 
 pub test-end : (ok : Bool) {whole left : Bool} → whole ≡ (ok && left) → left ≡ true → ok ≡ whole
 test-end ok p q = sym (p ∙ ap (λ b. ok && b) q ∙ and-true ok)
+
+-- tests joined by `&` from the left are `all` of their list
+abbrev pub joinAll : Bool → List Bool → Bool
+joinAll a [] = a
+joinAll a (b ∷ bs) = joinAll (a && b) bs
+
+pub join-all : (a : Bool) (bs : List Bool) → joinAll a bs ≡ all (a ∷ bs)
+unfolding all
+join-all a [] = sym (and-true a)
+join-all a (b ∷ bs) = join-all (a && b) bs ∙ and-assoc a b (all bs)
 
 -- `|` is 0 where both its parts are
 pub or-zero : (a x : ℕ) → eqb (bitOr a x) 0 ≡ (eqb a 0 && eqb x 0)
