@@ -3,6 +3,7 @@ pub mod CartLaws
 pub mod Examples
 pub mod OverLaws
 pub mod PartLaws
+pub mod RecordLaws
 pub mod Samples
 pub mod ScanLaws
 pub mod TitleKept

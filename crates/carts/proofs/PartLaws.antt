@@ -19,3 +19,13 @@ copy-more d s i hd hs =
 
 pub copy-end : (d s : List ℕ) (i : ℕ) → length d ≤ i → length d ≡ length s → take i s ++ drop i d ≡ s ++ []
 copy-end d s i hd e = rw (drop-of-length-le d hd, take-all i s (omega arith))
+
+-- two stores side by side
+stores : (s : List ℕ) (at a b : ℕ) → at + 2 ≤ length s → set (set s at a) (suc at) b ≡ over s at 2 (a ∷ b ∷ [])
+stores [] at a b h = absurd (omega arith)
+stores (x ∷ []) zero a b h = absurd (omega arith)
+stores (x ∷ y ∷ s) zero a b h = refl
+stores (x ∷ s) (suc at) a b h = ap (λ l. x ∷ l) (stores s at a b (omega arith))
+
+pub over-pair : (s : List ℕ) (at a b : ℕ) → at + 2 ≤ length s → set (set s at a) (at + 1) b ≡ over s at 2 (a ∷ b ∷ [])
+over-pair s at a b h = rw add-one (stores s at a b h)

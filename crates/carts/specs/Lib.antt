@@ -1,5 +1,6 @@
--- Document 01's carts, operations and titles, in its order.
+-- Document 01's carts, operations and titles, in its order; then what contracts need besides.
 pub mod Bytes
 pub mod Cart
 pub mod Operation
 pub mod Title
+pub mod Fields

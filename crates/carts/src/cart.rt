@@ -1,8 +1,13 @@
 // Carts: 80 bytes each, 128 of them in a copy.
+use crate::bytes;
 ghost use mathlib.Core.Path.{_≡_};
+ghost use mathlib.Core.Bool.{cond, _&&_};
 ghost use Prim.Native.Nat.{ℕ, _+_, _*_, _-_, _<_, _≤_};
-ghost use lib.ListN.{length};
-ghost use Rattle.carts.specs.Cart.{cartAt};
+ghost use lib.ListN.{length, take, drop};
+ghost use lib.Dec.{ltb};
+ghost use Rattle.carts.specs.Bytes.{isZero, every, allZero};
+ghost use Rattle.carts.specs.Cart.{cartSize, cartCount, copySize, titleSize, cartAt, printable, hasTitle, noTitle, hasAudio, noAudio, held, heldForm, cartForm, copyForm};
+ghost use Rattle.carts.specs.Fields.{cartFields};
 
 // A cart's fields, as a value.
 pub struct Cart {
@@ -21,13 +26,130 @@ impl Cart {
     pub const COPY_SIZE: usize = 10240;
 
     pub const TITLE_SIZE: usize = 64;
+
+    // The fields in a cart's bytes.
+    pub fn from_bytes(s: &[u8]) -> Cart
+        requires { ⌜ length (now s) ≡ cartSize ⌝ }
+        ensures { λ r. ⌜ r ≡ cartFields (now (s .entry)) ⌝ }
+    {
+        Cart {
+            held: is_held(s),
+            title_length: bytes::byte_at(s, 1),
+            number: bytes::u16_at(s, 2),
+            audio: bytes::u32_at(s, 4),
+            milliseconds: bytes::u32_at(s, 8),
+        }
+    }
+}
+
+// The cart is held.
+pub fn is_held(cart: &[u8]) -> bool
+    requires { ⌜ length (now cart) ≡ cartSize ⌝ }
+    ensures { λ r. ⌜ r ≡ held (now (cart .entry)) ⌝ }
+{
+    cart[0] == 1
+}
+
+// The byte at index j of a title's field: a letter where the title of n letters has one, else zero.
+fn is_title_byte(b: u8, j: u8, n: u8) -> bool
+    ensures { λ r. ⌜ r ≡ cond (ltb j n) (printable b) (isZero b) ⌝ }
+{
+    if j < n {
+        bytes::is_printable(b)
+    } else {
+        b == 0
+    }
+}
+
+// A title's field has n letters, then zeros.
+fn is_title(field: &[u8], n: u8) -> bool
+    requires { ⌜ length (now field) ≡ titleSize ⌝ }
+    ensures { λ r. ⌜ r ≡ (every printable (take n (now (field .entry))) && allZero (drop n (now (field .entry)))) ⌝ }
+{
+    let mut ok = true;
+    let mut j = 0;
+    while j < Cart::TITLE_SIZE {
+        ok &= is_title_byte(field[j], j as u8, n);
+        j += 1;
+    }
+    ok
+}
+
+// The title and its length are of their form.
+pub fn has_title(s: &[u8]) -> bool
+    requires { ⌜ length (now s) ≡ cartSize ⌝ }
+    ensures { λ r. ⌜ r ≡ hasTitle (now (s .entry)) ⌝ }
+{
+    let n = s[1];
+    (1 <= n) & (n <= 64) & is_title(&s[16..80], n)
+}
+
+// The title and its length are zero.
+pub fn no_title(s: &[u8]) -> bool
+    requires { ⌜ length (now s) ≡ cartSize ⌝ }
+    ensures { λ r. ⌜ r ≡ noTitle (now (s .entry)) ⌝ }
+{
+    (s[1] == 0) & bytes::all_zero(&s[16..80])
+}
+
+// Audio number and length are at least 1.
+pub fn has_audio(s: &[u8]) -> bool
+    requires { ⌜ length (now s) ≡ cartSize ⌝ }
+    ensures { λ r. ⌜ r ≡ hasAudio (now (s .entry)) ⌝ }
+{
+    (1 <= bytes::u32_at(s, 4)) & (1 <= bytes::u32_at(s, 8))
+}
+
+// Audio number and length are zero.
+pub fn no_audio(s: &[u8]) -> bool
+    requires { ⌜ length (now s) ≡ cartSize ⌝ }
+    ensures { λ r. ⌜ r ≡ noAudio (now (s .entry)) ⌝ }
+{
+    bytes::all_zero(&s[4..12])
+}
+
+// A held cart of number c.
+fn is_held_cart(s: &[u8], c: u32) -> bool
+    requires { ⌜ length (now s) ≡ cartSize ⌝ }
+    ensures { λ r. ⌜ r ≡ heldForm c (now (s .entry)) ⌝ }
+{
+    is_held(s)
+        & (bytes::u16_at(s, 2) == c)
+        & has_title(s)
+        & has_audio(s)
+        & bytes::all_zero(&s[12..16])
+}
+
+// An empty cart, or a held one of number c.
+pub fn is_cart(s: &[u8], c: u32) -> bool
+    requires { ⌜ length (now s) ≡ cartSize ⌝ }
+    ensures { λ r. ⌜ r ≡ cartForm c (now (s .entry)) ⌝ }
+{
+    if s[0] == 0 {
+        return bytes::all_zero(s);
+    }
+    is_held_cart(s, c)
 }
 
 // The 80 bytes of cart c of a copy.
 pub fn cart_at(copy: &[u8], c: u32) -> &[u8]
-    requires { ⌜ (length (now copy) ≡ 10240) × ((1 ≤ c) × (c ≤ 128)) ⌝ }
-    ensures { λ r. ⌜ (now r ≡ cartAt (now (copy .entry)) c) × (length (now r) ≡ 80) ⌝ }
+    requires { ⌜ (length (now copy) ≡ copySize) × ((1 ≤ c) × (c ≤ cartCount)) ⌝ }
+    ensures { λ r. ⌜ (now r ≡ cartAt (now (copy .entry)) c) × (length (now r) ≡ cartSize) ⌝ }
 {
     let start = Cart::SIZE * (c as usize - 1);
     &copy[start..start + Cart::SIZE]
+}
+
+// Each of a copy's carts is of its form.
+pub fn is_copy(copy: &[u8]) -> bool
+    requires { ⌜ length (now copy) ≡ copySize ⌝ }
+    ensures { λ r. ⌜ r ≡ copyForm (now (copy .entry)) ⌝ }
+{
+    let mut ok = true;
+    let mut c: u32 = 0;
+    while c < Cart::COUNT {
+        c += 1;
+        ok &= is_cart(cart_at(copy, c), c);
+    }
+    ok
 }

@@ -1,4 +1,4 @@
-use Rattle.carts.proofs.ScanLaws.{every-step, every-end, or-step, flag-end}
+use Rattle.carts.proofs.ScanLaws.{every-more, every-done, or-zero}
 use Rattle.carts.specs.Bytes.{every, allZero, isZero}
 use lib.Dec.{eqb}
 use lib.ListN.{length, drop, getD}
@@ -37,14 +37,13 @@ loop-less c = omega arith
 loop-again : tie.Need-loop-again Inv-loop μ-loop
 loop-again c = let t = c .before .before in
     let xs = t .before .args .s .now in
-    let i = t .loop .i in
-    (omega arith, t .loop .inv .1 ∙ ap (λ b. eqb (t .loop .joined) 0 && b) (every-step isZero xs i (omega arith)) ∙ or-step (t .loop .joined) (getD xs i 0) (every isZero (drop (i + 1) xs)))
+    (omega arith, every-more isZero xs (t .loop .i) (eqb (t .loop .joined) 0) (omega arith) (t .loop .inv .1) (or-zero (t .loop .joined) (getD xs (t .loop .i) 0)))
 
 -- src/bytes.rt:24:1
 returns : tie.Need-returns Inv-loop μ-loop
 unfolding allZero
 returns c = let t = c .before in
-    flag-end (t .loop .joined) (t .loop .inv .1) (every-end isZero (t .before .args .s .now) (t .loop .i) (omega arith))
+    every-done isZero (t .before .args .s .now) (t .loop .i) (eqb (t .loop .joined) 0) (omega arith) (t .loop .inv .1)
 
 pub all-zero-spec : {M : Type 1} → statement M
 all-zero-spec =

@@ -1,0 +1,14 @@
+use Rattle.carts.specs.Bytes.{within}
+use mathlib.Core.Path.{refl}
+use Rattle.carts.proofs.bytes.is_within.Statement.{statement}
+use Rattle.carts.proofs.bytes.is_within.Tie as tie
+use Rattle.carts.proofs.bytes.is_within.Reads as reads
+use Rattle.carts.proofs.bytes.is_within.Lts as lts
+
+-- src/bytes.rt:43:1
+returns : tie.Need-returns
+unfolding within
+returns c = refl
+
+pub is-within-spec : {M : Type 1} → statement M
+is-within-spec = tie.close (tie.spec returns)
