@@ -1,12 +1,40 @@
--- What the code's parts give, by the definitions: a record's links; one transaction of the chain.
-use mathlib.Core.Bool.{Bool, cond}
+-- What the code's parts give, by the definitions: a session's value; a record's links; one transaction of the chain.
+use mathlib.Core.Bool.{Bool, true, false, cond}
 use mathlib.Core.List.{List, [], _∷_}
-use Prim.Native.Nat.{ℕ, _+_}
+use Prim.Native.Nat.{ℕ, _+_, _*_}
 use lib.ListN.{length, drop}
 use lib.Dec.{leb, eqb}
-use Rattle.carts.specs.Bytes.{within, all, every, pairwise}
+use Rattle.carts.specs.Bytes.{part, byte, within, all, every, allZero, pairwise}
 use Rattle.replication.specs.Log.{nextOperation, nextTransaction, recordsOf, upFrom}
+use Rattle.replication.specs.Memory.{sequenceOf}
+use Rattle.replication.specs.Layout.{waitingForm}
+use Rattle.replication.specs.declared.session.Session.{Session}
+use Rattle.replication.specs.declared.session.Waiting.{Waiting}
+use Rattle.replication.specs.declared.session.Waiting.the-variants.{Nothing, Numbers, Title}
 use Rattle.replication.specs.declared.record.Record.{Record}
+
+-- a session's waiting read, or a request, as the code's case: by byte 0, with byte 1
+unfoldable pub waitingValue : List ℕ → Waiting
+waitingValue x = cond (eqb (byte x 0) 1) (Numbers (byte x 1)) (cond (eqb (byte x 0) 2) (Title (byte x 1)) Nothing)
+
+unfoldable pub sessionValue : List ℕ → Session
+sessionValue x = record { number = sequenceOf x; waiting = waitingValue x }
+
+abbrev pub waitsBy : Waiting → Bool
+waitsBy Nothing = false
+waitsBy (Numbers n) = true
+waitsBy (Title n) = true
+
+abbrev pub neededBy : Waiting → ℕ
+neededBy Nothing = 0
+neededBy (Numbers n) = 80 * n
+neededBy (Title n) = 80
+
+-- a session's form, by its studio and the commits
+unfoldable pub sessionFormOf : ℕ → ℕ → List ℕ → Bool
+sessionFormOf studio commits x =
+    cond (eqb studio 0) (allZero x)
+    (all (leb (sequenceOf x) commits ∷ allZero (part x 4 12) ∷ waitingForm x ∷ []))
 
 -- a record's links
 abbrev pub linksOf : List ℕ → ℕ → Record

@@ -3,3 +3,4 @@ pub mod answer;
 pub mod chain;
 pub mod control;
 pub mod record;
+pub mod session;

@@ -1,0 +1,149 @@
+// Sessions and requests: 80 bytes each, 16 sessions, counted from 1.
+use carts::bytes;
+use carts::cart;
+ghost use mathlib.Core.Path.{_≡_};
+ghost use Prim.Native.Nat.{ℕ, _+_, _*_, _-_, _<_, _≤_};
+ghost use lib.ListN.{length};
+ghost use Rattle.replication.specs.Request.{numbersForm, requestFields, requestForm};
+ghost use Rattle.replication.specs.Layout.{waitingForm};
+ghost use Rattle.replication.specs.Values.{sessionValue, waitsBy, neededBy, sessionFormOf};
+
+// The read that a session has waiting: nothing, a count of numbers, or the length of a title. Their bytes stay beside it.
+pub enum Waiting {
+    Nothing,
+    Numbers(u32),
+    Title(u32),
+}
+
+// A session's number and its waiting read; a request has the number 0.
+pub struct Session {
+    pub number: u32,
+    pub waiting: Waiting,
+}
+
+impl Session {
+    pub const SIZE: usize = 80;
+
+    pub const COUNT: u32 = 16;
+
+    pub const MEMORY_SIZE: usize = 1280;
+
+    // The session, or the request, in 80 bytes.
+    pub fn from_bytes(x: &[u8]) -> Session
+        requires { ⌜ length (now x) ≡ 80 ⌝ }
+        ensures { λ r. ⌜ r ≡ sessionValue (now (x .entry)) ⌝ }
+    {
+        let number = bytes::u16_at(x, 2);
+        let n = bytes::byte_at(x, 1);
+        let kind = x[0];
+        if kind == 1 {
+            return Session {
+                number,
+                waiting: Waiting::Numbers(n),
+            };
+        }
+        if kind == 2 {
+            return Session {
+                number,
+                waiting: Waiting::Title(n),
+            };
+        }
+        Session {
+            number,
+            waiting: Waiting::Nothing,
+        }
+    }
+
+    // A read is waiting.
+    pub fn is_waiting(self) -> bool
+        ensures { λ r. ⌜ r ≡ waitsBy (self .waiting) ⌝ }
+    {
+        let waiting = self.waiting;
+        match waiting {
+            Waiting::Nothing => false,
+            Waiting::Numbers(_) => true,
+            Waiting::Title(_) => true,
+        }
+    }
+
+    // The bytes of output that the waiting read asks for.
+    pub fn needed(self) -> usize
+        ensures { λ r. ⌜ r ≡ neededBy (self .waiting) ⌝ }
+    {
+        let waiting = self.waiting;
+        match waiting {
+            Waiting::Nothing => 0,
+            Waiting::Numbers(n) => 80 * (n as usize),
+            Waiting::Title(_) => 80,
+        }
+    }
+}
+
+// Byte 1 and bytes 16 to 79 are 1 to 32 cart numbers, then zeros.
+fn is_numbers(x: &[u8]) -> bool
+    requires { ⌜ length (now x) ≡ 80 ⌝ }
+    ensures { λ r. ⌜ r ≡ numbersForm (now (x .entry)) ⌝ }
+{
+    let n = bytes::byte_at(x, 1) as usize;
+    if n < 1 {
+        return false;
+    }
+    if 32 < n {
+        return false;
+    }
+    let mut ok = true;
+    let mut i = 0;
+    while i < n {
+        ok &= bytes::is_within(1, 128, bytes::u16_at(x, 16 + 2 * i));
+        i += 1;
+    }
+    let end = 16 + 2 * n;
+    ok & bytes::all_zero(&x[end..80])
+}
+
+// Byte 0 is 1 or 2, and the read's fields are of their form.
+fn is_read(x: &[u8]) -> bool
+    requires { ⌜ length (now x) ≡ 80 ⌝ }
+    ensures { λ r. ⌜ r ≡ requestFields (now (x .entry)) ⌝ }
+{
+    let kind = x[0];
+    if kind == 1 {
+        return is_numbers(x);
+    }
+    if kind == 2 {
+        return cart::has_title(x);
+    }
+    false
+}
+
+// The bytes are those of a read request.
+pub fn is_request(x: &[u8]) -> bool
+    ensures { λ r. ⌜ r ≡ requestForm (now (x .entry)) ⌝ }
+{
+    if x.len() != Session::SIZE {
+        return false;
+    }
+    is_read(x) & bytes::all_zero(&x[2..16])
+}
+
+// A waiting read of its form, or nothing waiting and zeros.
+fn is_waiting_form(x: &[u8]) -> bool
+    requires { ⌜ length (now x) ≡ 80 ⌝ }
+    ensures { λ r. ⌜ r ≡ waitingForm (now (x .entry)) ⌝ }
+{
+    if x[0] == 0 {
+        return cart::no_title(x);
+    }
+    is_read(x)
+}
+
+// The session of a studio (0: unused) is of the layout after so many commits.
+pub fn is_session(x: &[u8], studio: u32, commits: u32) -> bool
+    requires { ⌜ length (now x) ≡ 80 ⌝ }
+    ensures { λ r. ⌜ r ≡ sessionFormOf studio commits (now (x .entry)) ⌝ }
+{
+    if studio == 0 {
+        return bytes::all_zero(x);
+    }
+    (bytes::u16_at(x, 2) <= commits) & bytes::all_zero(&x[4..16]) & is_waiting_form(x)
+}
