@@ -1,3 +1,4 @@
+pub mod ControlLaws
 pub mod RequestLaws
 pub mod Samples
 pub mod SpanLaws

@@ -1,4 +1,12 @@
 // Control: the counts that a caller passes by value and is handed back.
+ghost use mathlib.Core.Path.{_≡_};
+ghost use Prim.Native.Nat.{ℕ, _+_, _*_, _-_, _<_, _≤_};
+ghost use Rattle.carts.specs.Bytes.{every};
+ghost use lib.Dec.{leb};
+ghost use lib.ListN.{length};
+ghost use Rattle.replication.specs.Memory.{studioOf, nth};
+ghost use Rattle.replication.specs.Layout.{countsForm};
+ghost use Rattle.replication.specs.Calls.{controlOf, committed, withSent, withApplied};
 
 // Sizes are document 01's. Any value may stand in any field: each has its answer.
 pub struct Control {
@@ -8,4 +16,91 @@ pub struct Control {
     pub commits: u32,
     pub sent: [u32; 4],
     pub applied: [u32; 4],
+}
+
+impl Control {
+    pub const STUDIOS: u32 = 4;
+
+    pub const SESSIONS: u32 = 16;
+
+    pub const WINDOW: u32 = 32;
+
+    // Control of a fresh system: every count is zero.
+    pub fn new(studios: u32, sessions: [u32; 16]) -> Control
+        ensures { λ r. ⌜ r ≡ controlOf studios sessions ⌝ }
+    {
+        Control {
+            studios,
+            session_studios: sessions,
+            used: 0,
+            commits: 0,
+            sent: [0; 4],
+            applied: [0; 4],
+        }
+    }
+
+    // The studio of a session; 0 for an unused one.
+    pub fn studio_of(self, session: u32) -> u32
+        requires { ⌜ (1 ≤ session) × (session ≤ 16) ⌝ }
+        ensures { λ r. ⌜ r ≡ studioOf self session ⌝ }
+    {
+        let j = session as usize - 1;
+        self.session_studios[j]
+    }
+
+    // Each session's studio is one of the system's, or 0.
+    pub fn has_studios(self) -> bool
+        ensures { λ r. ⌜ r ≡ every (λ i. leb i (self .studios)) (self .«session_studios») ⌝ }
+    {
+        let sessions = self.session_studios;
+        are_at_most(&sessions, self.studios)
+    }
+
+    // What was sent to studio i.
+    pub fn sent_to(self, i: u32) -> u32
+        requires { ⌜ (1 ≤ i) × (i ≤ 4) ⌝ }
+        ensures { λ r. ⌜ r ≡ nth (self .sent) i ⌝ }
+    {
+        let j = i as usize - 1;
+        self.sent[j]
+    }
+
+    // What studio i has applied.
+    pub fn applied_by(self, i: u32) -> u32
+        requires { ⌜ (1 ≤ i) × (i ≤ 4) ⌝ }
+        ensures { λ r. ⌜ r ≡ nth (self .applied) i ⌝ }
+    {
+        let j = i as usize - 1;
+        self.applied[j]
+    }
+
+    // The counts of studio i are of the layout.
+    pub fn has_counts(self, i: u32) -> bool
+        requires { ⌜ (1 ≤ i) × (i ≤ 4) ⌝ }
+        ensures { λ r. ⌜ r ≡ countsForm self i ⌝ }
+    {
+        let sent = self.sent_to(i);
+        let applied = self.applied_by(i);
+        if self.studios < i {
+            return (sent == 0) & (applied == 0);
+        }
+        if sent < applied {
+            return false;
+        }
+        (sent <= self.commits) & (sent - applied <= Control::WINDOW)
+    }
+}
+
+// Each number is at most the given one.
+fn are_at_most(numbers: &[u32], most: u32) -> bool
+    requires { ⌜ length (now numbers) ≤ 16 ⌝ }
+    ensures { λ r. ⌜ r ≡ every (λ i. leb i most) (now (numbers .entry)) ⌝ }
+{
+    let mut ok = true;
+    let mut j = 0;
+    while j < numbers.len() {
+        ok &= numbers[j] <= most;
+        j += 1;
+    }
+    ok
 }
