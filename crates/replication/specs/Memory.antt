@@ -13,6 +13,9 @@ pub record Memory : Type 0 where
   pub log : List ℕ
   pub sessions : List ℕ
 
+abbrev pub memory : List ℕ → List ℕ → List ℕ → Memory
+memory library log sessions = record { library = library; log = log; sessions = sessions }
+
 -- "Library memory, 51,200 bytes: five copies of 10,240"
 abbrev pub copyCount : ℕ
 copyCount = 5

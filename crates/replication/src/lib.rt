@@ -2,5 +2,6 @@
 pub mod answer;
 pub mod chain;
 pub mod control;
+pub mod layout;
 pub mod record;
 pub mod session;

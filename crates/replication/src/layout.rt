@@ -1,0 +1,89 @@
+// The test of control and the three memories: one pass over all their bytes.
+use crate::chain;
+use crate::control::Control;
+use crate::record;
+use crate::record::Record;
+use crate::session;
+use crate::session::Session;
+use carts::bytes;
+use carts::cart;
+use carts::cart::Cart;
+use carts::operation;
+ghost use mathlib.Core.Path.{_≡_};
+ghost use Prim.Native.Nat.{ℕ, _+_, _*_, _-_, _<_, _≤_};
+ghost use lib.ListN.{length};
+ghost use Rattle.carts.specs.Bytes.{eachPart};
+ghost use Rattle.replication.specs.Memory.{memory};
+ghost use Rattle.replication.specs.Layout.{replicaForm, recordForm, sessionForm, ofLayout};
+
+// Copy i of a system of so many studios is of its form: carts, or zeros above the last studio.
+fn is_replica(copy: &[u8], i: u32, studios: u32) -> bool
+    requires { ⌜ length (now copy) ≡ 10240 ⌝ }
+    ensures { λ r. ⌜ r ≡ replicaForm studios i (now (copy .entry)) ⌝ }
+{
+    if i <= studios {
+        return cart::is_copy(copy);
+    }
+    bytes::all_zero(copy)
+}
+
+// The five copies.
+fn are_replicas(library: &[u8], studios: u32) -> bool
+    requires { ⌜ length (now library) ≡ 51200 ⌝ }
+    ensures { λ r. ⌜ r ≡ eachPart (replicaForm studios) 10240 5 0 (now (library .entry)) ⌝ }
+{
+    let mut ok = true;
+    let mut i: u32 = 0;
+    while i < 5 {
+        let start = Cart::COPY_SIZE * (i as usize);
+        let end = start + Cart::COPY_SIZE;
+        ok &= is_replica(&library[start..end], i, studios);
+        i += 1;
+    }
+    ok
+}
+
+// The first `used` records hold operations.
+fn are_records(log: &[u8], used: u32) -> bool
+    requires { ⌜ (length (now log) ≡ 40960) × (used ≤ 512) ⌝ }
+    ensures { λ r. ⌜ r ≡ eachPart recordForm 80 used 1 (now (log .entry)) ⌝ }
+{
+    let mut ok = true;
+    let mut r: u32 = 0;
+    while r < used {
+        r += 1;
+        ok &= operation::has_fields(record::record_at(log, r));
+    }
+    ok
+}
+
+// The sixteen sessions.
+fn are_sessions(control: Control, sessions: &[u8]) -> bool
+    requires { ⌜ length (now sessions) ≡ 1280 ⌝ }
+    ensures { λ r. ⌜ r ≡ eachPart (sessionForm control) 80 16 1 (now (sessions .entry)) ⌝ }
+{
+    let mut ok = true;
+    let mut s: u32 = 0;
+    while s < Session::COUNT {
+        let start = Session::SIZE * (s as usize);
+        let end = start + Session::SIZE;
+        s += 1;
+        let studio = control.studio_of(s);
+        ok &= session::is_session(&sessions[start..end], studio, control.commits);
+    }
+    ok
+}
+
+// The log: its records, its unused bytes and its chain.
+fn is_log(log: &[u8], commits: u32, used: u32) -> bool
+    requires { ⌜ (length (now log) ≡ 40960) × (used ≤ 512) ⌝ }
+{
+    let end = Record::SIZE * (used as usize);
+    if !are_records(log, used) {
+        return false;
+    }
+    if !bytes::all_zero(&log[end..]) {
+        return false;
+    }
+    chain::is_chain(log, commits, used)
+}
