@@ -1,9 +1,11 @@
 -- Sample data, worked examples, and laws on the definitions of specs/ for the proofs of this crate and of its callers.
 pub mod CartLaws
 pub mod Examples
+pub mod OperationLaws
 pub mod OverLaws
 pub mod PartLaws
 pub mod RecordLaws
 pub mod Samples
 pub mod ScanLaws
 pub mod TitleKept
+pub mod TitleLaws

@@ -1,16 +1,16 @@
 -- Laws of list tests, for loops that walk a list from its front: the whole test is the tests so far and the test of what is left.
 use Prim.Native.Nat.{ℕ, zero, suc, _+_, _-_, _*_, _<_, _≤_}
 use mathlib.Core.Path.{_≡_, refl, sym, ap, _∙_}
-use mathlib.Core.Bool.{Bool, true, false, _&&_, and-assoc, and-true}
+use mathlib.Core.Bool.{Bool, true, false, _&&_, and-assoc, and-true, true≢false}
 use mathlib.Core.List.{List, [], _∷_}
 use native.Mathlib.Numerals.{add-one}
 use native.Mathlib.Omega.{arith}
 use lib.ListN.{length, getD, take, drop, drop-of-length-le}
 use lib.Seq.{drop-cons}
 use lib.Bits.{bitOr, or-zero-l, or-add-and, and-le-r}
-use borrow.Author.Tests.{ne-eqb}
-use lib.Dec.{eqb, eqb·suc-zero}
-use Rattle.carts.specs.Bytes.{all, every, pairwise}
+use borrow.Author.Tests.{ne-eqb, leb-true}
+use lib.Dec.{eqb, leb, eqb·suc-zero}
+use Rattle.carts.specs.Bytes.{within, all, every, pairwise}
 
 -- a turn of a loop that joins tests, and its end
 pub test-more : (ok t next : Bool) {new whole left : Bool} → whole ≡ (ok && left) → left ≡ (t && next) → new ≡ (ok && t) → whole ≡ (new && next)
@@ -18,6 +18,25 @@ test-more ok t next p q e = p ∙ ap (λ b. ok && b) q ∙ sym (and-assoc ok t n
 
 pub test-end : (ok : Bool) {whole left : Bool} → whole ≡ (ok && left) → left ≡ true → ok ≡ whole
 test-end ok p q = sym (p ∙ ap (λ b. ok && b) q ∙ and-true ok)
+
+-- from a joint test to its parts
+pub and-left : (a b : Bool) → (a && b) ≡ true → a ≡ true
+and-left true b e = refl
+and-left false b e = e
+
+pub and-right : (a b : Bool) → (a && b) ≡ true → b ≡ true
+and-right true b e = e
+and-right false b e = absurd (true≢false (sym e))
+
+pub all-at : (bs : List Bool) (i : ℕ) → all bs ≡ true → getD bs i true ≡ true
+unfolding all
+all-at [] i e = refl
+all-at (b ∷ bs) zero e = and-left b (all bs) e
+all-at (b ∷ bs) (suc i) e = all-at bs i (and-right b (all bs) e)
+
+pub within-true : (low high n : ℕ) → within low high n ≡ true → (low ≤ n) × (n ≤ high)
+unfolding within
+within-true low high n e = (leb-true low n (and-left (leb low n) (leb n high) e), leb-true n high (and-right (leb low n) (leb n high) e))
 
 -- tests joined by `&` from the left are `all` of their list
 abbrev pub joinAll : Bool → List Bool → Bool

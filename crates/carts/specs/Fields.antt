@@ -12,7 +12,7 @@ unfoldable pub cartFields : List ℕ → Cart
 cartFields s = record { held = held s; «title_length» = byte s 1; number = u16 s 2; audio = u32 s 4; milliseconds = u32 s 8 }
 
 -- how many carts a search has found
-unfoldable pub foundCount : Found → ℕ
+abbrev pub foundCount : Found → ℕ
 foundCount (One c) = 1
 foundCount None = 0
 foundCount (Several n) = n

@@ -1,15 +1,89 @@
-// Operations: what they do to a cart and to the copy that holds it.
+// Operations: their form, and what they do to a cart and to the copy that holds it.
 use crate::bytes;
+use crate::cart;
 use crate::cart::Cart;
 ghost use mathlib.Core.Path.{_≡_};
+ghost use mathlib.Core.Bool.{true, cond};
 ghost use Prim.Native.Nat.{ℕ, _+_, _*_, _-_, _<_, _≤_};
 ghost use lib.ListN.{length};
-ghost use Rattle.carts.specs.Bytes.{u16};
-ghost use Rattle.carts.specs.Operation.{made, retitled, recut, actedOn, act};
+ghost use Rattle.carts.specs.Bytes.{u16, every};
+ghost use Rattle.carts.specs.Cart.{cartSize, cartCount, copySize, hasTitle, noTitle, hasAudio, noAudio};
+ghost use Rattle.carts.specs.Operation.{operationFields, operationForm, operationsOf, made, retitled, recut, actedOn, meets, act, meetsAll, actAll};
+
+// The title is of its form where one is asked for, else zero.
+fn is_title_as_asked(op: &[u8], asked: bool) -> bool
+    requires { ⌜ length (now op) ≡ cartSize ⌝ }
+    ensures { λ r. ⌜ r ≡ cond asked (hasTitle (now (op .entry))) (noTitle (now (op .entry))) ⌝ }
+{
+    if asked {
+        cart::has_title(op)
+    } else {
+        cart::no_title(op)
+    }
+}
+
+// Audio and length are of their form where they are asked for, else zero.
+fn is_audio_as_asked(op: &[u8], asked: bool) -> bool
+    requires { ⌜ length (now op) ≡ cartSize ⌝ }
+    ensures { λ r. ⌜ r ≡ cond asked (hasAudio (now (op .entry))) (noAudio (now (op .entry))) ⌝ }
+{
+    if asked {
+        cart::has_audio(op)
+    } else {
+        cart::no_audio(op)
+    }
+}
+
+// The operation has the fields of its kind, as it is stored: bytes 12 to 15 are free.
+pub fn has_fields(op: &[u8]) -> bool
+    requires { ⌜ length (now op) ≡ cartSize ⌝ }
+    ensures { λ r. ⌜ r ≡ operationFields (now (op .entry)) ⌝ }
+{
+    let kind = bytes::byte_at(op, 0);
+    let number = bytes::u16_at(op, 2);
+    let new = kind == 1;
+    bytes::is_within(1, 4, kind)
+        & bytes::is_within(1, Cart::COUNT, number)
+        & is_title_as_asked(op, new | (kind == 2))
+        & is_audio_as_asked(op, new | (kind == 3))
+}
+
+// The operation is of its form, as it is handed in.
+pub fn is_operation(op: &[u8]) -> bool
+    requires { ⌜ length (now op) ≡ cartSize ⌝ }
+    ensures { λ r. ⌜ r ≡ operationForm (now (op .entry)) ⌝ }
+{
+    has_fields(op) & bytes::all_zero(&op[12..16])
+}
+
+// Each operation is of its form, as it is handed in.
+pub fn all_operations(ops: &[u8]) -> bool
+    ensures { λ r. ⌜ r ≡ every operationForm (operationsOf (now (ops .entry))) ⌝ }
+{
+    let count = ops.len() / Cart::SIZE;
+    let mut ok = true;
+    let mut i = 0;
+    while i < count {
+        let start = Cart::SIZE * i;
+        ok &= is_operation(&ops[start..start + Cart::SIZE]);
+        i += 1;
+    }
+    ok
+}
+
+// The operation meets its cart in the right state.
+pub fn meets(copy: &[u8], op: &[u8]) -> bool
+    requires { ⌜ (length (now copy) ≡ copySize) × (length (now op) ≡ cartSize) ⌝ }
+    requires { ⌜ (1 ≤ u16 (now op) 2) × (u16 (now op) 2 ≤ cartCount) ⌝ }
+    ensures { λ r. ⌜ r ≡ meets (now (copy .entry)) (now (op .entry)) ⌝ }
+{
+    let held = cart::is_held(cart::cart_at(copy, bytes::u16_at(op, 2)));
+    if op[0] == 1 { !held } else { held }
+}
 
 // New: the cart is held, with the operation's fields and title.
 fn make(cart: &mut [u8], op: &[u8])
-    requires { ⌜ (length (now cart) ≡ 80) × (length (now op) ≡ 80) ⌝ }
+    requires { ⌜ (length (now cart) ≡ cartSize) × (length (now op) ≡ cartSize) ⌝ }
     ensures { λ _. ⌜ now (cart .exit) ≡ made (now (op .entry)) (now (cart .entry)) ⌝ }
 {
     cart[0] = 1;
@@ -19,7 +93,7 @@ fn make(cart: &mut [u8], op: &[u8])
 
 // Retitle: the cart has the operation's title.
 fn retitle(cart: &mut [u8], op: &[u8])
-    requires { ⌜ (length (now cart) ≡ 80) × (length (now op) ≡ 80) ⌝ }
+    requires { ⌜ (length (now cart) ≡ cartSize) × (length (now op) ≡ cartSize) ⌝ }
     ensures { λ _. ⌜ now (cart .exit) ≡ retitled (now (op .entry)) (now (cart .entry)) ⌝ }
 {
     cart[1] = op[1];
@@ -28,7 +102,7 @@ fn retitle(cart: &mut [u8], op: &[u8])
 
 // Re-cut: the cart has the operation's audio and length.
 fn re_cut(cart: &mut [u8], op: &[u8])
-    requires { ⌜ (length (now cart) ≡ 80) × (length (now op) ≡ 80) ⌝ }
+    requires { ⌜ (length (now cart) ≡ cartSize) × (length (now op) ≡ cartSize) ⌝ }
     ensures { λ _. ⌜ now (cart .exit) ≡ recut (now (op .entry)) (now (cart .entry)) ⌝ }
 {
     bytes::copy_all(&mut cart[4..12], &op[4..12]);
@@ -36,7 +110,7 @@ fn re_cut(cart: &mut [u8], op: &[u8])
 
 // The operation acts on its cart, which it leaves as it is where it meets it in the wrong state.
 fn act_on(cart: &mut [u8], op: &[u8])
-    requires { ⌜ (length (now cart) ≡ 80) × (length (now op) ≡ 80) ⌝ }
+    requires { ⌜ (length (now cart) ≡ cartSize) × (length (now op) ≡ cartSize) ⌝ }
     ensures { λ _. ⌜ now (cart .exit) ≡ actedOn (now (op .entry)) (now (cart .entry)) ⌝ }
 {
     let state = cart[0];
@@ -58,12 +132,48 @@ fn act_on(cart: &mut [u8], op: &[u8])
 
 // The operation acts on a copy: its cart is lent on as a part.
 pub fn apply(copy: &mut [u8], op: &[u8])
-    requires { ⌜ (length (now copy) ≡ 10240) × (length (now op) ≡ 80) ⌝ }
-    requires { ⌜ (1 ≤ u16 (now op) 2) × (u16 (now op) 2 ≤ 128) ⌝ }
+    requires { ⌜ (length (now copy) ≡ copySize) × (length (now op) ≡ cartSize) ⌝ }
+    requires { ⌜ (1 ≤ u16 (now op) 2) × (u16 (now op) 2 ≤ cartCount) ⌝ }
     ensures { λ _. ⌜ now (copy .exit) ≡ act (now (copy .entry)) (now (op .entry)) ⌝ }
 {
     let c = bytes::u16_at(op, 2);
     let start = Cart::SIZE * (c as usize - 1);
     let end = start + Cart::SIZE;
     act_on(&mut copy[start..end], op);
+}
+
+// The operations act on a copy one after the other; the answer is whether each met its cart in the right state.
+pub fn try_all(copy: &mut [u8], ops: &[u8]) -> bool
+    requires { ⌜ (length (now copy) ≡ copySize) × (every operationFields (operationsOf (now ops)) ≡ true) ⌝ }
+    ensures { λ r. ⌜ (r ≡ meetsAll (now (copy .entry)) (operationsOf (now (ops .entry)))) × (now (copy .exit) ≡ actAll (now (copy .entry)) (operationsOf (now (ops .entry)))) ⌝ }
+{
+    let count = ops.len() / Cart::SIZE;
+    let mut ok = true;
+    let mut i = 0;
+    while i < count {
+        let start = Cart::SIZE * i;
+        let op = &ops[start..start + Cart::SIZE];
+        ok &= meets(copy, op);
+        apply(copy, op);
+        i += 1;
+    }
+    ok
+}
+
+// The operations act on a copy one after the other.
+pub fn apply_all(copy: &mut [u8], ops: &[u8])
+    requires { ⌜ (length (now copy) ≡ copySize) × (every operationFields (operationsOf (now ops)) ≡ true) ⌝ }
+    ensures { λ _. ⌜ now (copy .exit) ≡ actAll (now (copy .entry)) (operationsOf (now (ops .entry))) ⌝ }
+{
+    try_all(copy, ops);
+}
+
+// Each operation meets its cart in the right state, after the ones before it; tried on a copy of the copy.
+pub fn meets_all(copy: &[u8], ops: &[u8]) -> bool
+    requires { ⌜ (length (now copy) ≡ copySize) × (every operationFields (operationsOf (now ops)) ≡ true) ⌝ }
+    ensures { λ r. ⌜ r ≡ meetsAll (now (copy .entry)) (operationsOf (now (ops .entry))) ⌝ }
+{
+    let mut scratch = [0u8; 10240];
+    bytes::copy_all(&mut scratch, copy);
+    try_all(&mut scratch, ops)
 }

@@ -1,0 +1,58 @@
+-- Laws of titles and of a search's answer.
+use Prim.Native.Nat.{ℕ, zero, suc, _+_, _-_, _*_, _<_, _≤_}
+use mathlib.Core.Path.{_≡_, refl, sym, ap, _∙_}
+use mathlib.Core.Bool.{Bool, true, false, _&&_, cond}
+use mathlib.Core.List.{List, [], _∷_, _++_, append-nil}
+use native.Mathlib.Numerals.{add-one}
+use native.Mathlib.Omega.{arith}
+use lib.ListN.{length, take, drop, replicate, length-append, length-replicate}
+use Rattle.carts.specs.Title.{titled, titledFrom, searchAnswer}
+use Rattle.carts.specs.declared.titles.Found.{Found}
+use Rattle.carts.specs.declared.titles.Found.the-variants.{One, None, Several}
+use Rattle.carts.proofs.RecordLaws.{left-suc, drop-next}
+
+-- the carts left of n, of which i have been passed: the first, and the others; m is the first's number
+titled-next : (title : List ℕ) (n i m : ℕ) (s : List ℕ) (b : Bool) → i < n → titled title (take 80 (drop (80 * i) s)) ≡ b
+    → titledFrom title (n - i) m (drop (80 * i) s) ≡ cond b (m ∷ titledFrom title (n - (i + 1)) (m + 1) (drop (80 * (i + 1)) s)) (titledFrom title (n - (i + 1)) (m + 1) (drop (80 * (i + 1)) s))
+unfolding titledFrom
+titled-next title n i m s b h e = rw (left-suc n i h, ← drop-next 80 i s, ← e)
+
+-- the answer for two or more goes by their count alone
+several : (xs : List ℕ) → 2 ≤ length xs → searchAnswer xs ≡ Several (length xs)
+unfolding searchAnswer
+several [] h = absurd (omega arith)
+several (c ∷ []) h = absurd (omega arith)
+several (c ∷ d ∷ xs) h = refl
+
+-- so of those found so far only the count and the last are kept
+last-counts : (k c d : ℕ) (xs : List ℕ) → searchAnswer (replicate k c ++ (d ∷ xs)) ≡ searchAnswer (replicate (k + 1) d ++ xs)
+last-counts zero c d xs = refl
+last-counts (suc k) c d xs =
+    let l : length (replicate (suc k) c ++ (d ∷ xs)) ≡ suc k + suc (length xs) = simp (length-append, length-replicate) in
+    let r : length (replicate (suc k + 1) d ++ xs) ≡ suc k + 1 + length xs = simp (length-append, length-replicate) in
+    several (replicate (suc k) c ++ (d ∷ xs)) (omega arith) ∙ ap Several (omega arith) ∙ sym (several (replicate (suc k + 1) d ++ xs) (omega arith))
+
+-- a turn of the search
+module _ (title : List ℕ) (n i m : ℕ) (s : List ℕ) (h : i < n) (k c : ℕ) {answer : Found}
+    (inv : answer ≡ searchAnswer (replicate k c ++ titledFrom title (n - i) m (drop (80 * i) s))) where
+  pub search-hit : titled title (take 80 (drop (80 * i) s)) ≡ true → answer ≡ searchAnswer (replicate (k + 1) m ++ titledFrom title (n - (i + 1)) (m + 1) (drop (80 * (i + 1)) s))
+  search-hit e = inv ∙ ap (λ xs. searchAnswer (replicate k c ++ xs)) (titled-next title n i m s true h e) ∙ last-counts k c m (titledFrom title (n - (i + 1)) (m + 1) (drop (80 * (i + 1)) s))
+
+  pub search-miss : titled title (take 80 (drop (80 * i) s)) ≡ false → answer ≡ searchAnswer (replicate k c ++ titledFrom title (n - (i + 1)) (m + 1) (drop (80 * (i + 1)) s))
+  search-miss e = inv ∙ ap (λ xs. searchAnswer (replicate k c ++ xs)) (titled-next title n i m s false h e)
+
+-- its end
+pub search-end : (title : List ℕ) (n i m : ℕ) (s : List ℕ) (k c : ℕ) → n ≤ i → searchAnswer (replicate k c ++ titledFrom title (n - i) m s) ≡ searchAnswer (replicate k c)
+unfolding titledFrom
+search-end title n i m s k c h = let e : n - i ≡ 0 = omega arith in rw (e, append-nil)
+
+pub answer-none : (k c : ℕ) → k ≡ 0 → searchAnswer (replicate k c) ≡ None
+unfolding searchAnswer
+answer-none k c e = rw e
+
+pub answer-one : (k c : ℕ) → k ≡ 1 → searchAnswer (replicate k c) ≡ One c
+unfolding searchAnswer
+answer-one k c e = rw e
+
+pub answer-several : (k c : ℕ) → (k ≡ 0 → ⊥) → (k ≡ 1 → ⊥) → searchAnswer (replicate k c) ≡ Several k
+answer-several k c p q = let l : length (replicate k c) ≡ k = length-replicate k c in several (replicate k c) (omega arith) ∙ ap Several l

@@ -1,0 +1,26 @@
+// Scans of carts, exported for the benchmark in rust/bench-carts.
+ghost use mathlib.Core.Path.{_≡_};
+ghost use mathlib.Core.Bool.{_&&_};
+ghost use lib.ListN.{length};
+ghost use lib.Dec.{eqb};
+ghost use Rattle.carts.specs.Bytes.{allZero};
+ghost use Rattle.carts.specs.Cart.{copySize, copyForm};
+
+// Every byte is zero.
+#[no_mangle]
+pub extern "C" fn carts_all_zero(s: &[u8]) -> bool
+    ensures { λ r. ⌜ r ≡ allZero (now (s .entry)) ⌝ }
+{
+    carts::bytes::all_zero(s)
+}
+
+// The bytes are those of a copy, each cart of its form.
+#[no_mangle]
+pub extern "C" fn carts_is_copy(copy: &[u8]) -> bool
+    ensures { λ r. ⌜ r ≡ (eqb (length (now (copy .entry))) copySize && copyForm (now (copy .entry))) ⌝ }
+{
+    if copy.len() != carts::cart::Cart::COPY_SIZE {
+        return false;
+    }
+    carts::cart::is_copy(copy)
+}
