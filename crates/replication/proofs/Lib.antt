@@ -1,4 +1,5 @@
 pub mod ControlLaws
+pub mod LayoutLaws
 pub mod RequestLaws
 pub mod Samples
 pub mod SpanLaws
