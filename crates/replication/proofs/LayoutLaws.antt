@@ -1,16 +1,21 @@
 -- Laws of the layout: the parts that the code lends, and the whole test from its parts.
 use Prim.Native.Nat.{ℕ, _+_, _-_, _*_, _<_, _≤_}
 use mathlib.Core.Path.{_≡_, refl, sym, ap, _∙_}
-use mathlib.Core.Bool.{Bool, true, false, _&&_}
+use mathlib.Core.Bool.{Bool, true, false, _&&_, and-true}
 use mathlib.Core.List.{List, [], _∷_}
 use native.Mathlib.Nat.{add-sub-cancel-left}
 use native.Mathlib.Omega.{arith}
-use lib.ListN.{length, take, drop, getD}
-use Rattle.carts.specs.Bytes.{part}
+use lib.ListN.{length, take, drop, getD, length-drop}
+use lib.Seq.{take-all}
+use lib.Dec.{leb, eqb}
+use Rattle.carts.specs.Bytes.{part, within, all, every, allZero, eachPart}
 use Rattle.carts.proofs.PartLaws.{length-part}
-use Rattle.replication.specs.Memory.{recordAt, studioOf}
-use Rattle.replication.specs.Layout.{sessionForm}
+use Rattle.replication.specs.Memory.{Memory, recordAt, studioOf}
+use Rattle.replication.specs.Log.{firstRecord, chainForm}
+use Rattle.replication.specs.Layout.{replicaForm, recordForm, sessionForm, countsForm, layoutTests, ofLayout}
 use Rattle.replication.specs.Values.{sessionFormOf}
+use Rattle.replication.proofs.TestLaws.{all-fails}
+use Rattle.replication.proofs.SpanLaws.{Whole}
 use Rattle.replication.specs.declared.control.Control.{Control}
 
 -- part i of `size` bytes, as the code lends it
@@ -29,3 +34,20 @@ record-next log r = let e : r + 1 - 1 ≡ r = omega arith in rw e
 pub session-is : (c : Control) (s studio : ℕ) (x : List ℕ) → studio ≡ studioOf c s → sessionFormOf studio (c .commits) x ≡ sessionForm c s x
 unfolding sessionFormOf sessionForm
 session-is c s studio x e = rw e
+
+-- one test fails, counted from 0
+pub layout-fails : (c : Control) (m : Memory) (n : ℕ) → getD (layoutTests c m) n true ≡ false → false ≡ ofLayout c m
+unfolding ofLayout
+layout-fails c m n e = sym (all-fails n (layoutTests c m) e)
+
+-- the last test decides where the others hold
+pub layout-last : (c : Control) (m : Memory) (b : Bool) → b ≡ every (countsForm c) (1 ∷ 2 ∷ 3 ∷ 4 ∷ []) → within 1 4 (c .studios) ≡ true
+    → every (λ i. leb i (c .studios)) (c .«session_studios») ≡ true → eachPart (replicaForm (c .studios)) 10240 5 0 (m .library) ≡ true → leb (c .used) 512 ≡ true
+    → eachPart recordForm 80 (c .used) 1 (m .log) ≡ true → allZero (drop (80 * c .used) (m .log)) ≡ true → Whole (m .log) (c .commits) (c .used) ≡ true
+    → eachPart (sessionForm c) 80 16 1 (m .sessions) ≡ true → b ≡ ofLayout c m
+unfolding ofLayout layoutTests all firstRecord
+layout-last c m b e t0 t1 t2 t3 t4 t5 t6 t7 = e ∙ rw (t0, t1, t2, t3, t4, t5, t6, t7, and-true)
+
+-- the bytes from `at` to the end, as the code lends them
+pub rest-is : (at : ℕ) (s : List ℕ) → take (length s - at) (drop at s) ≡ drop at s
+rest-is at s = let h : length (drop at s) ≤ length s - at = rw length-drop (omega arith) in take-all (length s - at) (drop at s) h

@@ -12,9 +12,10 @@ use carts::operation;
 ghost use mathlib.Core.Path.{_≡_};
 ghost use Prim.Native.Nat.{ℕ, _+_, _*_, _-_, _<_, _≤_};
 ghost use lib.ListN.{length};
-ghost use Rattle.carts.specs.Bytes.{eachPart};
+ghost use mathlib.Core.List.{[], _∷_};
+ghost use Rattle.carts.specs.Bytes.{every, eachPart};
 ghost use Rattle.replication.specs.Memory.{memory};
-ghost use Rattle.replication.specs.Layout.{replicaForm, recordForm, sessionForm, ofLayout};
+ghost use Rattle.replication.specs.Layout.{replicaForm, recordForm, sessionForm, countsForm, ofLayout};
 
 // Copy i of a system of so many studios is of its form: carts, or zeros above the last studio.
 fn is_replica(copy: &[u8], i: u32, studios: u32) -> bool
@@ -74,16 +75,43 @@ fn are_sessions(control: Control, sessions: &[u8]) -> bool
     ok
 }
 
-// The log: its records, its unused bytes and its chain.
-fn is_log(log: &[u8], commits: u32, used: u32) -> bool
-    requires { ⌜ (length (now log) ≡ 40960) × (used ≤ 512) ⌝ }
+// The counts of the four studios.
+fn are_counts(control: Control) -> bool
+    ensures { λ r. ⌜ r ≡ every (countsForm control) (1 ∷ 2 ∷ 3 ∷ 4 ∷ []) ⌝ }
 {
-    let end = Record::SIZE * (used as usize);
+    control.has_counts(1) & control.has_counts(2) & control.has_counts(3) & control.has_counts(4)
+}
+
+// Control and memory are of this layout.
+pub fn is_layout(control: Control, library: &[u8], log: &[u8], sessions: &[u8]) -> bool
+    requires { ⌜ (length (now library) ≡ 51200) × ((length (now log) ≡ 40960) × (length (now sessions) ≡ 1280)) ⌝ }
+    ensures { λ r. ⌜ r ≡ ofLayout control (memory (now (library .entry)) (now (log .entry)) (now (sessions .entry))) ⌝ }
+{
+    let used = control.used;
+    if !bytes::is_within(1, Control::STUDIOS, control.studios) {
+        return false;
+    }
+    if !control.has_studios() {
+        return false;
+    }
+    if !are_replicas(library, control.studios) {
+        return false;
+    }
+    if Record::COUNT < used {
+        return false;
+    }
     if !are_records(log, used) {
         return false;
     }
+    let end = Record::SIZE * (used as usize);
     if !bytes::all_zero(&log[end..]) {
         return false;
     }
-    chain::is_chain(log, commits, used)
+    if !chain::is_chain(log, control.commits, used) {
+        return false;
+    }
+    if !are_sessions(control, sessions) {
+        return false;
+    }
+    are_counts(control)
 }

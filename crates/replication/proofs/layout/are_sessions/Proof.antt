@@ -74,7 +74,7 @@ loop-again c = let t = c .before .before .before .before in
     let x = g .sessions .now in
     let studio = c .before .before .studio-of .result in
     let e = c .is-session .ensures ∙ ap (sessionFormOf studio (g .control .commits)) (lent 80 (t .loop .s) x)
-          ∙ session-is (g .control) (t .loop .s + 1) studio _ (c .before .before .studio-of .ensures) in
+    ∙ session-is (g .control) (t .loop .s + 1) studio _ (c .before .before .studio-of .ensures) in
     (omega arith, each-more (sessionForm (g .control)) 80 16 (t .loop .s) (t .loop .s + 1) x (t .loop .ok) (omega arith) (t .loop .inv .1) (ap (λ b. t .loop .ok && b) e))
 
 -- src/layout.rt:61:1
