@@ -4,4 +4,5 @@ pub mod chain;
 pub mod control;
 pub mod layout;
 pub mod record;
+pub mod rows;
 pub mod session;

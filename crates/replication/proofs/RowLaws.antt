@@ -1,0 +1,132 @@
+-- Laws of rows: the first that stops a call.
+use Prim.Native.Nat.{ℕ, zero, suc, _<_, _≤_}
+use mathlib.Core.Path.{_≡_, refl, sym, ap, _∙_}
+use mathlib.Core.Bool.{Bool, true, false, cond, _&&_, _||_, not, and-false}
+use mathlib.Core.List.{List, [], _∷_, _++_}
+use native.Mathlib.Omega.{arith}
+use lib.Dec.{leb, eqb}
+use lib.ListN.{length}
+use borrow.Author.Tests.{le-leb, lt-leb, leb-true, eq-eqb, ne-eqb, eqb-true, not-true, not-false}
+use Rattle.carts.specs.Bytes.{within, every, all}
+use Rattle.replication.specs.Memory.{Memory, lengthsForm}
+use Rattle.replication.specs.Layout.{ofLayout}
+use Rattle.replication.specs.Rows.{Row, row, stopped, unless, lengthsRow, memoryRows, sessionRow, studioRow}
+use Rattle.replication.specs.declared.control.Control.{Control}
+use Rattle.replication.proofs.TestLaws.{all-at, and-first, and-second}
+
+-- a row that stops, and one that does not
+pub row-stops : (n : ℕ) (b : Bool) (rs : List Row) → b ≡ true → n ≡ stopped (row n b ∷ rs)
+unfolding stopped
+row-stops n b rs e = rw e
+
+pub row-passes : (n : ℕ) (b : Bool) (rs : List Row) → b ≡ false → stopped (row n b ∷ rs) ≡ stopped rs
+unfolding stopped
+row-passes n b rs e = rw e
+
+-- every row has a number of its own, not 0
+unfoldable pub numbered : List Row → Bool
+numbered rs = every (λ r. leb 1 (r .number)) rs
+
+-- rows before others: they stop the call, or the others decide
+pub stops-first : (xs ys : List Row) (v : ℕ) → v ≡ stopped xs → (v ≡ 0 → ⊥) → v ≡ stopped (xs ++ ys)
+unfolding stopped
+stops-first [] ys v e n = absurd (n e)
+stops-first (x ∷ xs) ys v e n = go (x .stops) e (stops-first xs ys v)
+  where
+    go : (b : Bool) → v ≡ cond b (x .number) (stopped xs) → (v ≡ stopped xs → (v ≡ 0 → ⊥) → v ≡ stopped (xs ++ ys)) → v ≡ cond b (x .number) (stopped (xs ++ ys))
+    go true f ih = f
+    go false f ih = ih f n
+
+pub passes-on : (xs ys : List Row) (v : ℕ) → numbered xs ≡ true → v ≡ stopped xs → v ≡ 0 → stopped (xs ++ ys) ≡ stopped ys
+unfolding stopped numbered every
+passes-on [] ys v k e z = refl
+passes-on (x ∷ xs) ys v k e z = go (x .stops) e (passes-on xs ys v (and-second (leb 1 (x .number)) (numbered xs) k))
+  where
+    go : (b : Bool) → v ≡ cond b (x .number) (stopped xs) → (v ≡ stopped xs → v ≡ 0 → stopped (xs ++ ys) ≡ stopped ys) → cond b (x .number) (stopped (xs ++ ys)) ≡ stopped ys
+    go true f ih = let l : 1 ≤ x .number = leb-true 1 (x .number) (and-first (leb 1 (x .number)) (numbered xs) k) in absurd (omega arith)
+    go false f ih = ih f z
+
+-- a call that a row stops, and one that is accepted
+pub unless-stopped : {A : Type 0} (n : ℕ) (f : ℕ → A) (a : A) → (n ≡ 0 → ⊥) → f n ≡ unless n f a
+unfolding unless
+unless-stopped zero f a h = absurd (h refl)
+unless-stopped (suc n) f a h = refl
+
+pub unless-accepted : {A : Type 0} (n : ℕ) (f : ℕ → A) (a : A) → n ≡ 0 → a ≡ unless n f a
+unfolding unless
+unless-accepted n f a e = rw e
+
+-- rows 1 and 2
+module _ (c : Control) (m : Memory) where
+  pub memory-numbered : numbered (memoryRows c m) ≡ true
+  unfolding numbered every memoryRows lengthsRow
+  memory-numbered = refl
+
+  pub lengths-wrong : lengthsForm m ≡ false → 1 ≡ stopped (memoryRows c m)
+  unfolding stopped memoryRows lengthsRow
+  lengths-wrong e = rw e
+
+  pub layout-wrong : lengthsForm m ≡ true → ofLayout c m ≡ false → 2 ≡ stopped (memoryRows c m)
+  unfolding stopped memoryRows lengthsRow
+  layout-wrong e f = rw (e, f)
+
+  pub memory-right : lengthsForm m ≡ true → ofLayout c m ≡ true → 0 ≡ stopped (memoryRows c m)
+  unfolding stopped memoryRows lengthsRow
+  memory-right e f = rw (e, f)
+
+  -- a call that they do not stop
+  pub right-memory : stopped (memoryRows c m) ≡ 0 → (lengthsForm m ≡ true) × (ofLayout c m ≡ true)
+  unfolding stopped memoryRows lengthsRow
+  right-memory e = go (lengthsForm m) (ofLayout c m) e
+    where
+      go : (a b : Bool) → _≡_ {A = ℕ} (cond (not a) 1 (cond (not b) 2 0)) 0 → (a ≡ true) × (b ≡ true)
+      go true true e = (refl, refl)
+      go true false e = absurd (omega arith)
+      go false b e = absurd (omega arith)
+
+-- the three lengths
+pub lengths-are : (m : Memory) → lengthsForm m ≡ true → (length (m .library) ≡ 51200) × ((length (m .log) ≡ 40960) × (length (m .sessions) ≡ 1280))
+unfolding lengthsForm
+lengths-are m e =
+    let sizes : List Bool = eqb (length (m .library)) 51200 ∷ eqb (length (m .log)) 40960 ∷ eqb (length (m .sessions)) 1280 ∷ [] in
+    (eqb-true _ _ (all-at 0 sizes e), (eqb-true _ _ (all-at 1 sizes e), eqb-true _ _ (all-at 2 sizes e)))
+
+-- row 3 of a session
+module _ (s studio : ℕ) where
+  pub session-low : s < 1 → 3 ≡ stopped (sessionRow s studio ∷ [])
+  unfolding stopped sessionRow within
+  session-low h = rw (lt-leb 1 s h)
+
+  pub session-high : 16 < s → 3 ≡ stopped (sessionRow s studio ∷ [])
+  unfolding stopped sessionRow within
+  session-high h = rw (lt-leb s 16 h, and-false)
+
+  pub session-unused : 1 ≤ s → s ≤ 16 → studio ≡ 0 → 3 ≡ stopped (sessionRow s studio ∷ [])
+  unfolding stopped sessionRow within
+  session-unused h k e = rw (le-leb 1 s h, le-leb s 16 k, eq-eqb studio 0 e)
+
+  pub session-used : 1 ≤ s → s ≤ 16 → (studio ≡ 0 → ⊥) → 0 ≡ stopped (sessionRow s studio ∷ [])
+  unfolding stopped sessionRow within
+  session-used h k e = rw (le-leb 1 s h, le-leb s 16 k, ne-eqb studio 0 e)
+
+  pub session-numbered : numbered (sessionRow s studio ∷ []) ≡ true
+  unfolding numbered every sessionRow
+  session-numbered = refl
+
+-- row 3 of a studio
+module _ (studios i : ℕ) where
+  pub studio-low : i < 1 → 3 ≡ stopped (studioRow studios i ∷ [])
+  unfolding stopped studioRow within
+  studio-low h = rw (lt-leb 1 i h)
+
+  pub studio-high : studios < i → 3 ≡ stopped (studioRow studios i ∷ [])
+  unfolding stopped studioRow within
+  studio-high h = rw (lt-leb i studios h, and-false)
+
+  pub studio-right : 1 ≤ i → i ≤ studios → 0 ≡ stopped (studioRow studios i ∷ [])
+  unfolding stopped studioRow within
+  studio-right h k = rw (le-leb 1 i h, le-leb i studios k)
+
+  pub studio-numbered : numbered (studioRow studios i ∷ []) ≡ true
+  unfolding numbered every studioRow
+  studio-numbered = refl
