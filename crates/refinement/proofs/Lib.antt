@@ -1,0 +1,5 @@
+pub mod Tests
+pub mod Parts
+pub mod Zeros
+pub mod Fields
+pub mod Effect
