@@ -3,3 +3,8 @@ pub mod Parts
 pub mod Zeros
 pub mod Fields
 pub mod Effect
+pub mod Formed
+pub mod Rows
+pub mod Transactions
+pub mod Represented
+pub mod Send
