@@ -7,4 +7,6 @@ pub mod Formed
 pub mod Rows
 pub mod Transactions
 pub mod Represented
+pub mod Memories
+pub mod Chains
 pub mod Send
