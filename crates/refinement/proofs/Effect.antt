@@ -213,3 +213,7 @@ pub actAll-copy : (copy : List ℕ) (ops : List (List ℕ)) → Copy copy → Op
 unfolding actAll Operations
 actAll-copy copy [] h o = h
 actAll-copy copy (op ∷ ops) h o = actAll-copy (act copy op) ops (act-copy copy op h (o 0 (omega arith))) (λ i l. o (suc i) (omega arith))
+
+pub sizes : (ops : List (List ℕ)) → Operations ops → (i : ℕ) → i < length ops → length (getD ops i []) ≡ 80
+unfolding Operations
+sizes ops o i l = o i l .size

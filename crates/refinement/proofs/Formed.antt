@@ -146,3 +146,12 @@ module _ (c : Control) (m : Memory) (f : Formed c m) where
   pub studio-known : (s : ℕ) → s ≤ 16 → studioOf c s ≤ c .studios
   unfolding studioOf
   studio-known s l = leb-true _ _ (every-at (λ i. leb i (c .studios)) (c .«session_studios») 0 (s - 1) (f .places) (let n = f .sessionStudios in omega arith))
+
+-- a copy in use
+pub studio-copy : (studios i : ℕ) (copy : List ℕ) → i ≤ studios → copyForm copy ≡ true → replicaForm studios i copy ≡ true
+unfolding replicaForm
+studio-copy studios i copy l f = rw (le-leb i studios l) f
+
+pub copy-in-use : (studios i : ℕ) (copy : List ℕ) → i ≤ studios → replicaForm studios i copy ≡ true → copyForm copy ≡ true
+unfolding replicaForm
+copy-in-use studios i copy l f = rw (le-leb i studios l) at f

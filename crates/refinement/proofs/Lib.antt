@@ -10,3 +10,4 @@ pub mod Represented
 pub mod Memories
 pub mod Chains
 pub mod Send
+pub mod Refresh
