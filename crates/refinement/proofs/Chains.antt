@@ -50,11 +50,6 @@ unfolding upFrom every
 upFrom-every p r zero f = refl
 upFrom-every p r (suc n) f = rw (f r (omega arith) (omega arith)) (upFrom-every p (r + 1) n (λ q l g. f q (omega arith) (omega arith)))
 
-pub map-upFrom : {A : Type 0} (f g : ℕ → A) (r n : ℕ) → ((q : ℕ) → r ≤ q → q < r + n → f q ≡ g q) → map f (upFrom r n) ≡ map g (upFrom r n)
-unfolding upFrom
-map-upFrom f g r zero h = refl
-map-upFrom f g r (suc n) h = rw (h r (omega arith) (omega arith), map-upFrom f g (r + 1) n (λ q l k. h q (omega arith) (omega arith)))
-
 pub map-upFrom-at : {A : Type 0} (f : ℕ → A) (d : A) (r n i : ℕ) → i < n → getD (map f (upFrom r n)) i d ≡ f (r + i)
 unfolding upFrom
 map-upFrom-at f d r zero i h = let z : ⊥ = omega arith in absurd z

@@ -9,5 +9,7 @@ pub mod Transactions
 pub mod Represented
 pub mod Memories
 pub mod Chains
+pub mod Sessions
 pub mod Send
 pub mod Refresh
+pub mod Read
