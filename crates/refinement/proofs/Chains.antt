@@ -26,7 +26,7 @@ unfolding upFrom
 length-upFrom r zero = refl
 length-upFrom r (suc n) = ap suc (length-upFrom (r + 1) n)
 
-front-upFrom : (r n : ℕ) → 1 ≤ n → front (upFrom r n) ≡ r
+pub front-upFrom : (r n : ℕ) → 1 ≤ n → front (upFrom r n) ≡ r
 unfolding upFrom front
 front-upFrom r zero h = let z : ⊥ = omega arith in absurd z
 front-upFrom r (suc n) h = refl

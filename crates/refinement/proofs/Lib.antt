@@ -9,6 +9,8 @@ pub mod Transactions
 pub mod Represented
 pub mod Memories
 pub mod Chains
+pub mod Append
+pub mod Grow
 pub mod Sessions
 pub mod Send
 pub mod Refresh
