@@ -15,3 +15,4 @@ pub mod Sessions
 pub mod Send
 pub mod Refresh
 pub mod Read
+pub mod Commit
