@@ -16,3 +16,5 @@ pub mod Send
 pub mod Refresh
 pub mod Read
 pub mod Commit
+pub mod Setup
+pub mod Simulation

@@ -36,7 +36,7 @@ unless-both P zero r a q b f g = g refl
 unless-both P (suc n) r a q b f g = f n
 
 -- the first row does not stop the call, nor does a later one
-passed : (n : ℕ) (b : Bool) (rs : List Row) → stopped (row (suc n) b ∷ rs) ≡ 0 → (b ≡ false) × (stopped rs ≡ 0)
+pub passed : (n : ℕ) (b : Bool) (rs : List Row) → stopped (row (suc n) b ∷ rs) ≡ 0 → (b ≡ false) × (stopped rs ≡ 0)
 unfolding stopped
 passed n true rs h = let z : ⊥ = omega arith in absurd z
 passed n false rs h = (refl, h)
