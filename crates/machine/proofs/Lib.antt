@@ -3,5 +3,7 @@ pub mod Chain
 pub mod Updates
 pub mod History
 pub mod Ordered
+pub mod Tests
+pub mod Lengths
 pub mod Events
 pub mod Table
