@@ -14,7 +14,8 @@ use Rattle.carts.specs.Title.{shownByNumbers, titled, titledFrom, titledIn, the
 use Rattle.replication.specs.Request.{Request, nothing, byNumbers, byTitle, numbersIn, requestOf, numbersForm, requestFields, requestForm, needed, shownFrom}
 use Rattle.machine.specs.Machine.{Transaction, replay, L}
 use Rattle.machine.proofs.Sort.{All, all-map}
-use Rattle.machine.proofs.Tests.{within-both, all-pass, every-pass, cond-case}
+use Rattle.machine.proofs.Cases.{cond-case}
+use Rattle.machine.proofs.Tests.{within-both, all-pass, every-pass}
 
 -- an operation of 80 bytes, of form
 pub record Formed (op : List ℕ) : Type 0 where

@@ -4,6 +4,9 @@ pub mod Updates
 pub mod History
 pub mod Ordered
 pub mod Tests
+pub mod Cases
 pub mod Lengths
+pub mod Accepted
+pub mod Sound
 pub mod Events
 pub mod Table

@@ -1,5 +1,5 @@
 -- What a test of the definitions says once it has passed, and the rows of a call that none of them stops.
-use Prim.Native.Nat.{ℕ, zero, suc, _≤_, _<_}
+use Prim.Native.Nat.{ℕ, _≤_}
 use native.Mathlib.Omega.{arith}
 use mathlib.Core.Path.{_≡_, refl, sym}
 use mathlib.Core.Bool.{Bool, true, false, cond, _&&_, _||_, false≢true}
@@ -7,7 +7,7 @@ use mathlib.Core.List.{List, [], _∷_}
 use lib.Dec.{leb}
 use borrow.Author.Tests.{leb-true}
 use Rattle.carts.specs.Bytes.{within, all, every}
-use Rattle.replication.specs.Rows.{Row, stopped, unless}
+use Rattle.replication.specs.Rows.{Row, stopped}
 use Rattle.machine.proofs.Sort.{All}
 
 pub and-both : (a b : Bool) → (a && b) ≡ true → (a ≡ true) × (b ≡ true)
@@ -41,14 +41,3 @@ none-stops (r ∷ rs) h e = go (r .stops) refl e (none-stops rs (h .1))
     go : (b : Bool) → r .stops ≡ b → cond b (r .number) (stopped rs) ≡ 0 → (stopped rs ≡ 0 → All (λ x. x .stops ≡ false) rs) → All (λ x. x .stops ≡ false) (r ∷ rs)
     go true k z ih = absurd (omega (arith, h .0))
     go false k z ih = (k, ih z)
-
--- what a call leaves, by whether a row stops it
-pub unless-case : {A : Type 0} (P : A → Type 0) (n : ℕ) (refused : ℕ → A) (accepted : A) → ((k : ℕ) → n ≡ suc k → P (refused (suc k))) → (n ≡ 0 → P accepted) → P (unless n refused accepted)
-unfolding unless
-unless-case P zero refused accepted no′ yes′ = yes′ refl
-unless-case P (suc n) refused accepted no′ yes′ = no′ n refl
-
--- what a test leaves, by its value
-pub cond-case : {A : Type 0} (P : A → Type 0) (b : Bool) (x y : A) → (b ≡ true → P x) → (b ≡ false → P y) → P (cond b x y)
-cond-case P true x y yes′ no′ = yes′ refl
-cond-case P false x y yes′ no′ = no′ refl

@@ -1,9 +1,9 @@
 -- One entry changed: in a function, in a list, and in both together.
-use Prim.Native.Nat.{ℕ, suc, _+_, _-_, _≤_, _<_}
+use Prim.Native.Nat.{ℕ, zero, suc, _+_, _-_, _≤_, _<_}
 use native.Mathlib.Omega.{arith}
 use mathlib.Core.Path.{_≡_, refl, sym, subst, ap, _∙_}
 use mathlib.Core.Bool.{Bool, true, false, cond}
-use mathlib.Core.List.{List}
+use mathlib.Core.List.{List, [], _∷_}
 use lib.Dec.{eqb}
 use lib.ListN.{length, getD, set}
 use lib.Seq.{getD-set-same, getD-set-other}
@@ -28,6 +28,14 @@ pub set-case : {A : Type 0} (P : A → Type 0) (l : List A) (p : ℕ) (v d : A) 
 set-case P l p v d k u here there = eqb-case (λ b. P (getD (set l p v) k d)) k p
     (λ e. rw (e, getD-set-same l p v d u) (here e))
     (λ e. rw (getD-set-other l p k v d e) (there e))
+
+-- the same where what holds at k holds there before
+pub set-either : {A : Type 0} (P : A → Type 0) (l : List A) (p : ℕ) (v d : A) (k : ℕ) → (k ≡ p → P v) → P (getD l k d) → P (getD (set l p v) k d)
+set-either P [] p v d k here old = old
+set-either P (x ∷ l) zero v d zero here old = here refl
+set-either P (x ∷ l) zero v d (suc k) here old = old
+set-either P (x ∷ l) (suc p) v d zero here old = old
+set-either P (x ∷ l) (suc p) v d (suc k) here old = set-either P l p v d k (λ e. here (ap suc e)) old
 
 -- a function and a list, both changed at i, counted from 1
 pub both-case : {A B : Type 0} (P : B → A → Type 0) (f : ℕ → B) (w : B) (l : List A) (v d : A) (i j : ℕ) → 1 ≤ i → i ≤ length l → 1 ≤ j
