@@ -8,5 +8,8 @@ pub mod Cases
 pub mod Lengths
 pub mod Accepted
 pub mod Sound
+pub mod Libraries
 pub mod Events
+pub mod Follows
+pub mod OneCopyOrder
 pub mod Table

@@ -13,7 +13,6 @@ use Rattle.machine.proofs.Sort.{All, of, all-map, sort, sort-perm, all-
 use Rattle.machine.proofs.Chain.{Chain, chain}
 use Rattle.machine.proofs.History.{History, state, raises, rank, isOf, at, Good, good, Below, above, consecutive, reached, sessions-rise, raises-rise}
 
-
 -- an order whose entries form a chain is played
 played : (M : ℕ → List ℕ) (n : ℕ) (o : List Entry) → Chain state raises n o → All (Good M) o → play (at M n) (map (λ (e : Entry). e .input) o) ≡ map (λ (e : Entry). e .reply) o
 unfolding play

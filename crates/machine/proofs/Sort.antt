@@ -4,8 +4,9 @@ use native.Mathlib.Omega.{arith}
 use native.Mathlib.Nat.{le-trans}
 use mathlib.Core.Path.{_≡_, refl, sym, ap, _∙_}
 use mathlib.Core.Bool.{Bool, true, false, cond}
-use mathlib.Core.List.{List, [], _∷_, List·Permᴰ, List·Permᴰ·nil, List·Permᴰ·cons, List·Permᴰ·swap, List·Permᴰ·trans, Permᴰ·refl}
+use mathlib.Core.List.{List, [], _∷_, List·Permᴰ, List·Permᴰ·nil, List·Permᴰ·cons, List·Permᴰ·swap, List·Permᴰ·trans, Permᴰ·refl, _++_}
 use lib.Dec.{leb}
+use lib.ListN.{length, length-append}
 use borrow.Author.Tests.{leb-true, leb-false}
 
 -- each item of the list has P
@@ -25,6 +26,14 @@ all-map (x ∷ xs) f h = (f x (h .0), all-map xs f (h .1))
 pub all-of : {A : Type 0} (P : A → Type 0) (p : A → Bool) (l : List A) → All P l → All P (of p l)
 all-of P p [] h = tt
 all-of P p (x ∷ xs) h = elim (p x) as (λ b. All P (cond b (x ∷ of p xs) (of p xs))) [ true ↦ (h .0, all-of P p xs (h .1)) | false ↦ all-of P p xs (h .1) ]
+
+-- one item more at the end
+pub length-snoc : {A : Type 0} (l : List A) (a : A) → length (l ++ (a ∷ [])) ≡ length l + 1
+length-snoc l a = length-append l (a ∷ [])
+
+pub all-snoc : {A : Type 0} (P : A → Type 0) (l : List A) (a : A) → All P l → P a → All P (l ++ (a ∷ []))
+all-snoc P [] a h p = (p, tt)
+all-snoc P (x ∷ l) a h p = (h .0, all-snoc P l a (h .1) p)
 
 module _ {A : Type 0} (place : A → ℕ) where
   -- put before the first item whose place is not lower

@@ -6,7 +6,7 @@ use mathlib.Core.Path.{_≡_, refl, sym, ap, _∙_}
 use mathlib.Core.Bool.{Bool, true, false, cond}
 use mathlib.Core.List.{List, [], _∷_, _++_, map}
 use lib.Dec.{leb}
-use lib.ListN.{length, getD, set, length-append, length-set, length-map, List·getD-map}
+use lib.ListN.{length, getD, set, length-set, length-map, List·getD-map}
 use borrow.Author.Tests.{leb-true}
 use Rattle.carts.specs.Bytes.{zeros}
 use Rattle.carts.specs.Operation.{operationsOf}
@@ -16,7 +16,7 @@ use Rattle.replication.specs.Rows.{stopped, unless, commitRows, sendRows, refre
 use Rattle.replication.specs.Call as Call
 use Rattle.replication.specs.Calls.{numberAfter}
 use Rattle.machine.specs.Machine.{Machine, Session, session, Transaction, Step, step, refusal, sessionOf, withSession, L, recordsUsed, fresh, refusedCommit, commit, send, refresh, answerFrom, block, wait, read, collect, call}
-use Rattle.machine.proofs.Sort.{All}
+use Rattle.machine.proofs.Sort.{All, all-snoc, length-snoc}
 use Rattle.machine.proofs.Updates.{set-either}
 use Rattle.machine.proofs.Cases.{unless-case, block-case}
 use Rattle.machine.proofs.Lengths.{Formed, Askable, operations-formed, request-askable}
@@ -35,13 +35,6 @@ pub record Sound (m : Machine) : Type 0 where
   -- the log and the waiting reads are of form
   pub formed : All (All Formed) (m .log)
   pub askable : (k : ℕ) → Askable (sessionAt (m .sessions) k .waiting)
-
-pub length-snoc : {A : Type 0} (l : List A) (a : A) → length (l ++ (a ∷ [])) ≡ length l + 1
-length-snoc l a = length-append l (a ∷ [])
-
-all-snoc : {A : Type 0} (P : A → Type 0) (l : List A) (a : A) → All P l → P a → All P (l ++ (a ∷ []))
-all-snoc P [] a h p = (p, tt)
-all-snoc P (x ∷ l) a h p = (h .0, all-snoc P l a (h .1) p)
 
 -- an answered read leaves no number above both the old one and the state that it showed
 number-after : (n k : ℕ) → numberAfter n k ≤ max n k
