@@ -12,4 +12,5 @@ pub mod Libraries
 pub mod Events
 pub mod Follows
 pub mod OneCopyOrder
+pub mod Places
 pub mod Table
