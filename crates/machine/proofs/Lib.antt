@@ -8,6 +8,7 @@ pub mod Cases
 pub mod Lengths
 pub mod Accepted
 pub mod Sound
+pub mod Kept
 pub mod Libraries
 pub mod Events
 pub mod Follows
