@@ -1,19 +1,18 @@
 -- What is true of an accepted call: one lemma for each call's rows, so that a row more is one field and one place here.
-use Prim.Native.Nat.{ℕ, suc, _-_, _≤_}
+use Prim.Native.Nat.{ℕ, _-_, _≤_}
 use native.Mathlib.Omega.{arith}
-use mathlib.Core.Path.{_≡_, refl}
-use mathlib.Core.Bool.{Bool, true, false, not}
-use mathlib.Core.List.{List, [], _∷_}
+use mathlib.Core.Path.{_≡_}
+use mathlib.Core.Bool.{true, false, not}
+use mathlib.Core.List.{List}
 use lib.ListN.{length}
-use lib.Dec.{eqb, ltb}
+use lib.Dec.{eqb}
 use borrow.Author.Tests.{eqb-false, ltb-false, not-false}
 use Rattle.carts.specs.Bytes.{within, every}
 use Rattle.carts.specs.Operation.{operationForm, operationsOf, meetsAll}
 use Rattle.replication.specs.Memory.{sessionCount}
 use Rattle.replication.specs.Log.{noRoom}
 use Rattle.replication.specs.Request.{Request, requestOf, requestForm, isWaiting, needed}
-use Rattle.replication.specs.Rows.{Row, stopped, sessionRow, studioRow, sizeForm, commitRows, sendRows, refreshRows, readRows, collectRows}
-use Rattle.machine.proofs.Sort.{All}
+use Rattle.replication.specs.Rows.{stopped, sessionRow, studioRow, sizeForm, commitRows, sendRows, refreshRows, readRows, collectRows}
 use Rattle.machine.proofs.Tests.{or-neither, within-both, none-stops}
 
 -- row 3 of a session, and of a studio

@@ -14,14 +14,14 @@ use Rattle.replication.specs.Call as Call
 use Rattle.replication.specs.Calls.{numberAfter}
 use Rattle.machine.specs.Machine.{Machine, Session, session, Transaction, Step, refusal, sessionOf, withSession, L, recordsUsed, refusedCommit, commit, send, refresh, answerFrom, wait, read, collect, call}
 use Rattle.machine.specs.Library.{Reply, request}
-use Rattle.machine.specs.OneCopy.{Entry, commitEntry, readEntry, entryOf, hasWaited, waitedAfter, entries}
+use Rattle.machine.specs.OneCopy.{commitEntry, readEntry, entryOf, hasWaited, waitedAfter, entries}
 use Rattle.machine.proofs.Events.{events}
 use Rattle.machine.proofs.Sort.{length-snoc}
 use Rattle.machine.proofs.History.{History, ended, made, seen, entry}
 use Rattle.machine.proofs.Updates.{put, put-case, both-case, set-either, each-set}
 use Rattle.machine.proofs.Cases.{unless-case, block-case, stateFor}
 use Rattle.machine.proofs.Lengths.{Askable, take-over, length-L, length-shown, request-askable}
-use Rattle.machine.proofs.Accepted.{commit-accepted, refresh-accepted, read-accepted, collect-accepted}
+use Rattle.machine.proofs.Accepted.{commit-accepted, read-accepted, collect-accepted}
 use Rattle.machine.proofs.Libraries.{L-before, L-after}
 use Rattle.machine.proofs.Sound.{Sound, applied-commits}
 use Rattle.machine.proofs.Kept.{keeps}

@@ -1,7 +1,7 @@
 -- Histories: which entries may follow one another, and what is true of all of them. No byte of a cart is looked at.
-use Prim.Native.Nat.{ℕ, suc, _+_, _≤_, _<_}
+use Prim.Native.Nat.{ℕ, _+_, _≤_}
 use native.Mathlib.Omega.{arith}
-use mathlib.Core.Path.{_≡_, refl, sym, ap, _∙_, subst}
+use mathlib.Core.Path.{_≡_, refl, sym, _∙_, subst}
 use mathlib.Core.Bool.{Bool, true, false, cond, false≢true}
 use mathlib.Core.List.{List, [], _∷_}
 use lib.Dec.{eqb}
@@ -9,7 +9,7 @@ use lib.ListN.{length}
 use borrow.Author.Tests.{eqb-true}
 use Rattle.carts.specs.Operation.{operationsOf, meetsAll, actAll}
 use Rattle.replication.specs.Request.{requestOf, foundIn, shownFrom}
-use Rattle.machine.specs.Library.{Input, operations, request, Reply, number, refused, shown, Library, library, Served, served, serve}
+use Rattle.machine.specs.Library.{Input, operations, request, Reply, number, refused, shown, Library, library, served, serve}
 use Rattle.machine.specs.OneCopy.{Entry}
 use Rattle.machine.proofs.Sort.{All, of, all-map, Rising}
 use Rattle.machine.proofs.Chain.{rankBy, Consecutive}

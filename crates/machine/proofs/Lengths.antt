@@ -1,13 +1,13 @@
 -- Lengths: a copy keeps its 10,240 bytes under operations of form, and a read shows as many bytes as it needs.
 use Prim.Native.Nat.{ℕ, zero, suc, _+_, _-_, _*_, _/_, _≤_, _<_}
 use native.Mathlib.Omega.{arith}
-use mathlib.Core.Path.{_≡_, refl, sym, ap, _∙_}
+use mathlib.Core.Path.{_≡_, refl, _∙_}
 use mathlib.Core.Bool.{Bool, true, false, cond}
-use mathlib.Core.List.{List, [], _∷_, _++_}
+use mathlib.Core.List.{List, [], _∷_}
 use lib.ListN.{length, take, drop, set, length-append, length-take, length-drop, length-set, length-replicate}
 use lib.Seq.{take-at}
 use lib.Dec.{eqb}
-use Rattle.carts.specs.Bytes.{zeros, part, over, byte, u16, within, all, every, allZero, parts}
+use Rattle.carts.specs.Bytes.{zeros, part, over, byte, u16, within, every, parts}
 use Rattle.carts.specs.Cart.{cartSize, cartCount, copySize, titleSize, titleForm, cartAt}
 use Rattle.carts.specs.Operation.{isNew, isRetitle, isRecut, isWithdraw, operationFields, operationForm, operationsOf, made, retitled, recut, withdrawn, meetsCart, effect, actedOn, act, actAll}
 use Rattle.carts.specs.Title.{shownByNumbers, titled, titledFrom, titledIn, theOne, shownByTitle}

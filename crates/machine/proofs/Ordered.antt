@@ -1,13 +1,13 @@
 -- THEOREM A. Every history has a one-copy order: its entries by state, each commit before the reads of its state, in the history's own
 -- order where that leaves a choice.
-use Prim.Native.Nat.{ℕ, suc, _+_, _≤_}
+use Prim.Native.Nat.{ℕ, _+_, _≤_}
 use native.Mathlib.Omega.{arith}
 use mathlib.Core.Path.{_≡_, refl, sym, ap, _∙_, subst}
 use mathlib.Core.Bool.{Bool, true, false, cond}
 use mathlib.Core.List.{List, [], _∷_, map}
 use lib.Dec.{eqb}
 use lib.ListN.{length}
-use Rattle.machine.specs.Library.{Input, Reply, Library, library, Served, served, serve, play}
+use Rattle.machine.specs.Library.{Input, Reply, library, Served, served, serve, play}
 use Rattle.machine.specs.OneCopy.{Entry, OneCopy, ofSession}
 use Rattle.machine.proofs.Sort.{All, of, all-map, sort, sort-perm, all-sort, sorted-sort, of-sort}
 use Rattle.machine.proofs.Chain.{Chain, chain}
