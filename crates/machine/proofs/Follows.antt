@@ -119,50 +119,67 @@ module _ (H : List Call.Call) (go-on : Goes H) (m : Machine) (copies : ℕ → L
         waits-for = f .waits-for;
       }))
 
-  -- session s is shown the library of k commits, for a request that it makes or made
-  when-shown : (s : ℕ) (bytes : List ℕ) (k : ℕ) (out : List ℕ) → 1 ≤ s → s ≤ sessionCount → Askable (requestOf bytes)
-      → level (m .applied) (sessionOf m s) ≤ k → k ≤ n → k ≤ level (m .applied) (session (sessionOf m s .studio) (numberAfter (sessionOf m s .number) k) nothing)
-      → let r = answerFrom k (requestOf bytes) m s out in
-      Sound (r .next) → History n copies floor (readEntry i s bytes (r .answer) (r .output) ++ entries (i + 1) waited (events (r .next) H))
-  unfolding answerFrom readEntry isWaiting
-  when-shown s bytes k out low high askable u v top kept =
-      let r : Step = answerFrom k (requestOf bytes) m s out in
-      let q : Request = requestOf bytes in
-      let written = take-over out (needed q) (shownFrom (L (m .log) k) q) (length-shown (L (m .log) k) q (length-L (m .log) k (sound .formed)) askable) in
-      subst (λ (y : Reply). History n copies floor (entry i s (request bytes) y ∷ entries (i + 1) waited (events (r .next) H))) (rw (written, f .libraries k v))
-      (seen i s bytes k (omega (arith, f .floors s low)) v (go-on (r .next) n copies (put floor s k) waited (i + 1) refl kept (record {
-        libraries = f .libraries;
-        floors = floors-put s _ low high k top;
-        waits-for = waits-kept s _ low high (λ w. absurd (false≢true w));
-      })))
+  -- session s is shown the library of k commits, for the request q that `bytes` makes; by read, or by collect
+  module _ (s k : ℕ) (low : 1 ≤ s) (high : s ≤ sessionCount) (u : level (m .applied) (sessionOf m s) ≤ k) (v : k ≤ n)
+      (top : k ≤ level (m .applied) (session (sessionOf m s .studio) (numberAfter (sessionOf m s .number) k) nothing)) where
+    when-shown : (bytes : List ℕ) (q : Request) (out : List ℕ) → requestOf bytes ≡ q → Askable q
+        → let r = answerFrom k q m s out in
+        Sound (r .next) → History n copies floor (readEntry i s bytes (r .answer) (r .output) ++ entries (i + 1) waited (events (r .next) H))
+    unfolding answerFrom readEntry isWaiting
+    when-shown bytes q out e askable kept =
+        let r : Step = answerFrom k q m s out in
+        let written = take-over out (needed q) (shownFrom (L (m .log) k) q) (length-shown (L (m .log) k) q (length-L (m .log) k (sound .formed)) askable) in
+        subst (λ (y : Reply). History n copies floor (entry i s (request bytes) y ∷ entries (i + 1) waited (events (r .next) H))) (cc (written, f .libraries k v))
+        (seen i s bytes k (omega (arith, f .floors s low)) v (go-on (r .next) n copies (put floor s k) waited (i + 1) refl kept (record {
+          libraries = f .libraries;
+          floors = floors-put s _ low high k top;
+          waits-for = waits-kept s _ low high (λ w. absurd (false≢true w));
+        })))
+
+    read-shown : (bytes out : List ℕ) → Askable (requestOf bytes) → Fits (Call.read s bytes out) (answerFrom k (requestOf bytes) m s out)
+    unfolding answerFrom entryOf waitedAfter hasWaited
+    read-shown bytes out a = when-shown bytes (requestOf bytes) out refl a
+
+    collect-shown : (q : Request) (out : List ℕ) → requestOf (waited s) ≡ q → Askable q → Fits (Call.collect s out) (answerFrom k q m s out)
+    unfolding answerFrom entryOf waitedAfter
+    collect-shown q out e a = when-shown (waited s) q out e a
+
+  -- session s waits: read stores its request, collect leaves what is stored
+  module _ (s : ℕ) (low : 1 ≤ s) (high : s ≤ sessionCount) where
+    read-waits : (bytes out : List ℕ) → Fits (Call.read s bytes out) (wait m s (requestOf bytes) out)
+    unfolding wait entryOf readEntry waitedAfter hasWaited
+    read-waits bytes out kept = go-on _ n copies floor (put waited s bytes) (i + 1) refl kept (record {
+      libraries = f .libraries;
+      floors = floors-kept s _ low high (f .floors s low);
+      waits-for = waits-put s _ low high bytes (λ w. refl);
+    })
+
+    collect-waits : (q : Request) (out : List ℕ) → requestOf (waited s) ≡ q → Fits (Call.collect s out) (wait m s q out)
+    unfolding wait entryOf readEntry waitedAfter
+    collect-waits q out e kept = go-on _ n copies floor waited (i + 1) refl kept (record {
+      libraries = f .libraries;
+      floors = floors-kept s _ low high (f .floors s low);
+      waits-for = waits-kept s _ low high (λ w. e);
+    })
 
   when-read : (s : ℕ) (bytes out : List ℕ) → Fits (Call.read s bytes out) (read m s bytes out)
-  unfolding read wait answerFrom entryOf waitedAfter hasWaited readEntry
+  unfolding read
   when-read s bytes out = unless-case (Fits (Call.read s bytes out)) _ _ _ (λ k e. when-refused (Call.read s bytes out) out (suc k)) (λ e.
       let a = read-accepted s (sessionOf m s .studio) (sessionOf m s .waiting) bytes (length out) e in
       let who = a .who in
       block-case (Fits (Call.read s bytes out)) m s _ _ out
-      (λ u. when-shown s bytes (stateFor m s) out (who .low) (who .high) (request-askable bytes (a .form)) (omega arith) (applied-commits m sound _) (omega arith))
-      (λ u kept. go-on _ n copies floor (put waited s bytes) (i + 1) refl kept (record {
-        libraries = f .libraries;
-        floors = floors-kept s _ (who .low) (who .high) (f .floors s (who .low));
-        waits-for = waits-put s _ (who .low) (who .high) bytes (λ w. refl);
-      })))
+      (λ u. read-shown s (stateFor m s) (who .low) (who .high) (omega arith) (applied-commits m sound _) (omega arith) bytes out (request-askable bytes (a .form)))
+      (λ u. read-waits s (who .low) (who .high) bytes out))
 
   when-collect : (s : ℕ) (out : List ℕ) → Fits (Call.collect s out) (collect m s out)
-  unfolding collect wait answerFrom entryOf waitedAfter hasWaited readEntry
+  unfolding collect
   when-collect s out = unless-case (Fits (Call.collect s out)) _ _ _ (λ k e. when-refused (Call.collect s out) out (suc k)) (λ e.
       let a = collect-accepted s (sessionOf m s .studio) (sessionOf m s .waiting) (length out) e in
       let who = a .who in
-      let asked : requestOf (waited s) ≡ sessionOf m s .waiting = f .waits-for s (who .low) (a .waits) in
+      let asked = f .waits-for s (who .low) (a .waits) in
       block-case (Fits (Call.collect s out)) m s _ _ out
-      (λ u. subst (λ (q : Request). Fits (Call.collect s out) (answerFrom (stateFor m s) q m s out)) asked
-      (when-shown s (waited s) (stateFor m s) out (who .low) (who .high) (rw asked (sound .askable (s - 1))) (omega arith) (applied-commits m sound _) (omega arith)))
-      (λ u kept. go-on _ n copies floor waited (i + 1) refl kept (record {
-        libraries = f .libraries;
-        floors = floors-kept s _ (who .low) (who .high) (f .floors s (who .low));
-        waits-for = waits-kept s _ (who .low) (who .high) (f .waits-for s (who .low));
-      })))
+      (λ u. collect-shown s (stateFor m s) (who .low) (who .high) (omega arith) (applied-commits m sound _) (omega arith) _ out asked (sound .askable (s - 1)))
+      (λ u. collect-waits s (who .low) (who .high) _ out asked))
 
   goes : (x : Call.Call) → Fits x (call m x)
   unfolding call
