@@ -4,7 +4,7 @@ use mathlib.Core.Path.{_≡_, refl}
 use mathlib.Core.Bool.{Bool, true, false, cond}
 use mathlib.Core.List.{List}
 use lib.Dec.{leb}
-use borrow.Author.Tests.{leb-true, leb-false}
+use borrow.Author.Tests.{leb-true, leb-false, le-leb, lt-leb}
 use Rattle.replication.specs.Memory.{nth}
 use Rattle.replication.specs.Request.{Request}
 use Rattle.replication.specs.Rows.{unless}
@@ -24,10 +24,19 @@ unless-case P (suc n) refused accepted stops goes = stops n refl
 abbrev pub stateFor : Machine → ℕ → ℕ
 stateFor m s = nth (m .applied) (sessionOf m s .studio)
 
--- a read answered from that state, or not yet
+-- "if applied of the session's studio is at least the session's number, answered; else .."
+block-now : (m : Machine) (s : ℕ) (q : Request) (behind : Step) (out : List ℕ) → sessionOf m s .number ≤ stateFor m s → block m s q behind out ≡ answerFrom (stateFor m s) q m s out
+unfolding block
+block-now m s q behind out u = rw le-leb
+
+block-later : (m : Machine) (s : ℕ) (q : Request) (behind : Step) (out : List ℕ) → stateFor m s < sessionOf m s .number → block m s q behind out ≡ behind
+unfolding block
+block-later m s q behind out u = rw lt-leb
+
 pub block-case : (P : Step → Type 0) (m : Machine) (s : ℕ) (q : Request) (behind : Step) (out : List ℕ)
     → (sessionOf m s .number ≤ stateFor m s → P (answerFrom (stateFor m s) q m s out)) → (stateFor m s < sessionOf m s .number → P behind) → P (block m s q behind out)
-unfolding block
-block-case P m s q behind out now later = cond-case P (leb (sessionOf m s .number) (stateFor m s)) (answerFrom (stateFor m s) q m s out) behind
-    (λ e. now (leb-true _ _ e))
-    (λ e. later (leb-false _ _ e))
+block-case P m s q behind out now later = go (leb (sessionOf m s .number) (stateFor m s)) refl
+  where
+    go : (b : Bool) → leb (sessionOf m s .number) (stateFor m s) ≡ b → P (block m s q behind out)
+    go true e = let u = leb-true _ _ e in rw (block-now m s q behind out u) (now u)
+    go false e = let u = leb-false _ _ e in rw (block-later m s q behind out u) (later u)

@@ -122,13 +122,13 @@ module _ (H : List Call.Call) (go-on : Goes H) (m : Machine) (copies : ℕ → L
   -- session s is shown the library of k commits, for the request q that `bytes` makes; by read, or by collect
   module _ (s k : ℕ) (low : 1 ≤ s) (high : s ≤ sessionCount) (u : level (m .applied) (sessionOf m s) ≤ k) (v : k ≤ n)
       (top : k ≤ level (m .applied) (session (sessionOf m s .studio) (numberAfter (sessionOf m s .number) k) nothing)) where
-    when-shown : (bytes : List ℕ) (q : Request) (out : List ℕ) → requestOf bytes ≡ q → Askable q
+    when-shown : (bytes : List ℕ) (q : Request) (out : List ℕ) → requestOf bytes ≡ q → Askable (requestOf bytes)
         → let r = answerFrom k q m s out in
         Sound (r .next) → History n copies floor (readEntry i s bytes (r .answer) (r .output) ++ entries (i + 1) waited (events (r .next) H))
     unfolding answerFrom readEntry isWaiting
     when-shown bytes q out e askable kept =
         let r : Step = answerFrom k q m s out in
-        let written = take-over out (needed q) (shownFrom (L (m .log) k) q) (length-shown (L (m .log) k) q (length-L (m .log) k (sound .formed)) askable) in
+        let written = take-over out (needed q) (shownFrom (L (m .log) k) q) (length-shown (L (m .log) k) q (length-L (m .log) k (sound .formed)) (subst Askable e askable)) in
         subst (λ (y : Reply). History n copies floor (entry i s (request bytes) y ∷ entries (i + 1) waited (events (r .next) H))) (cc (written, f .libraries k v))
         (seen i s bytes k (omega (arith, f .floors s low)) v (go-on (r .next) n copies (put floor s k) waited (i + 1) refl kept (record {
           libraries = f .libraries;
@@ -140,7 +140,7 @@ module _ (H : List Call.Call) (go-on : Goes H) (m : Machine) (copies : ℕ → L
     unfolding answerFrom entryOf waitedAfter hasWaited
     read-shown bytes out a = when-shown bytes (requestOf bytes) out refl a
 
-    collect-shown : (q : Request) (out : List ℕ) → requestOf (waited s) ≡ q → Askable q → Fits (Call.collect s out) (answerFrom k q m s out)
+    collect-shown : (q : Request) (out : List ℕ) → requestOf (waited s) ≡ q → Askable (requestOf (waited s)) → Fits (Call.collect s out) (answerFrom k q m s out)
     unfolding answerFrom entryOf waitedAfter
     collect-shown q out e a = when-shown (waited s) q out e a
 
@@ -176,10 +176,10 @@ module _ (H : List Call.Call) (go-on : Goes H) (m : Machine) (copies : ℕ → L
   when-collect s out = unless-case (Fits (Call.collect s out)) _ _ _ (λ k e. when-refused (Call.collect s out) out (suc k)) (λ e.
       let a = collect-accepted s (sessionOf m s .studio) (sessionOf m s .waiting) (length out) e in
       let who = a .who in
-      let asked = f .waits-for s (who .low) (a .waits) in
+      let asked : requestOf (waited s) ≡ sessionOf m s .waiting = f .waits-for s (who .low) (a .waits) in
       block-case (Fits (Call.collect s out)) m s _ _ out
-      (λ u. collect-shown s (stateFor m s) (who .low) (who .high) (omega arith) (applied-commits m sound _) (omega arith) _ out asked (sound .askable (s - 1)))
-      (λ u. collect-waits s (who .low) (who .high) _ out asked))
+      (λ u. collect-shown s (stateFor m s) (who .low) (who .high) (omega arith) (applied-commits m sound _) (omega arith) _ out (cc asked) (rw asked (sound .askable (s - 1))))
+      (λ u. collect-waits s (who .low) (who .high) _ out (cc asked)))
 
   goes : (x : Call.Call) → Fits x (call m x)
   unfolding call
