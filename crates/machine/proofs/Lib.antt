@@ -12,6 +12,7 @@ pub mod Kept
 pub mod Libraries
 pub mod Events
 pub mod Follows
+pub mod Entries
 pub mod OneCopyOrder
 pub mod Places
 pub mod Table

@@ -14,7 +14,7 @@ use Rattle.machine.proofs.Sort.{sort}
 use Rattle.machine.proofs.History.{rank}
 use Rattle.machine.proofs.Ordered.{ordered}
 use Rattle.machine.proofs.Sound.{fresh-sound, fresh-session}
-use Rattle.machine.proofs.Follows.{history-from}
+use Rattle.machine.proofs.Entries.{history-from}
 
 pub one-copy : (studios : ℕ) (bytes : List ℕ) → length bytes ≡ 16 → (H : List Call) (none : List ℕ)
     → (order : List Entry) × OneCopy emptyLibrary (entries 0 (λ s. none) (events (fresh studios bytes) H)) order

@@ -13,7 +13,7 @@ use borrow.Author.Tests.{eqb-true, eqb-false}
 abbrev pub put : {B : Type 0} → (ℕ → B) → ℕ → B → ℕ → B
 put f i v j = cond (eqb j i) v (f j)
 
-pub eqb-case : (P : Bool → Type 0) (j i : ℕ) → (j ≡ i → P true) → ((j ≡ i → ⊥) → P false) → P (eqb j i)
+eqb-case : (P : Bool → Type 0) (j i : ℕ) → (j ≡ i → P true) → ((j ≡ i → ⊥) → P false) → P (eqb j i)
 eqb-case P j i here there = go (eqb j i) refl
   where
     go : (b : Bool) → eqb j i ≡ b → P b
