@@ -44,7 +44,8 @@ pub record CommitAccepted (s studio : ℕ) (waiting : Request) (used : ℕ) (pri
   pub room : noRoom used (length (operationsOf bytes)) ≡ false
   pub meets : meetsAll primary (operationsOf bytes) ≡ true
 
-pub commit-accepted : (s studio : ℕ) (waiting : Request) (used : ℕ) (primary bytes : List ℕ) → stopped (commitRows s studio waiting used primary bytes) ≡ 0 → CommitAccepted s studio waiting used primary bytes
+pub commit-accepted : (s studio : ℕ) (waiting : Request) (used : ℕ) (primary bytes : List ℕ)
+    → stopped (commitRows s studio waiting used primary bytes) ≡ 0 → CommitAccepted s studio waiting used primary bytes
 unfolding commitRows sessionRow
 commit-accepted s studio waiting used primary bytes e =
     let h = none-stops (commitRows s studio waiting used primary bytes) (omega arith) e in
@@ -84,7 +85,8 @@ pub record ReadAccepted (s studio : ℕ) (waiting : Request) (request : List ℕ
   pub form : requestForm request ≡ true
   pub fits : needed (requestOf request) ≤ room
 
-pub read-accepted : (s studio : ℕ) (waiting : Request) (request : List ℕ) (room : ℕ) → stopped (readRows s studio waiting request room) ≡ 0 → ReadAccepted s studio waiting request room
+pub read-accepted : (s studio : ℕ) (waiting : Request) (request : List ℕ) (room : ℕ)
+    → stopped (readRows s studio waiting request room) ≡ 0 → ReadAccepted s studio waiting request room
 unfolding readRows sessionRow
 read-accepted s studio waiting request room e =
     let h = none-stops (readRows s studio waiting request room) (omega arith) e in

@@ -69,7 +69,8 @@ Good L e = cond (raises e)
     ((m : ℕ) → state e ≡ m + 1 → serve (at L m) (e .input) ≡ served (e .reply) (at L (m + 1)))
     (serve (at L (state e)) (e .input) ≡ served (e .reply) (at L (state e)))
 
-made-good : (M L : ℕ → List ℕ) (n : ℕ) (bytes : List ℕ) → M n ≡ L n → M (n + 1) ≡ actAll (L n) (operationsOf bytes) → meetsAll (L n) (operationsOf bytes) ≡ true
+made-good : (M L : ℕ → List ℕ) (n : ℕ) (bytes : List ℕ)
+    → M n ≡ L n → M (n + 1) ≡ actAll (L n) (operationsOf bytes) → meetsAll (L n) (operationsOf bytes) ≡ true
     → (m : ℕ) → n + 1 ≡ m + 1 → serve (at M m) (operations bytes) ≡ served (number (n + 1)) (at M (m + 1))
 unfolding serve
 made-good M L n bytes old new f m e =
@@ -81,7 +82,8 @@ unfolding serve
 seen-good M L k bytes e = rw e
 
 -- there are libraries M of all the commits, which go on from L, and by which each entry is answered rightly
-pub good : {n : ℕ} {L : ℕ → List ℕ} {floor : ℕ → ℕ} {E : List Entry} → History n L floor E → (M : ℕ → List ℕ) × ((k : ℕ) → k ≤ n → M k ≡ L k) × All (Good M) E
+pub good : {n : ℕ} {L : ℕ → List ℕ} {floor : ℕ → ℕ} {E : List Entry} → History n L floor E
+    → (M : ℕ → List ℕ) × ((k : ℕ) → k ≤ n → M k ≡ L k) × All (Good M) E
 good (ended {L = L}) = (L, (λ k u. refl), tt)
 good (made {n = n} {L = L} i s bytes f h) =
     let (M, same, g) = good h in
@@ -135,7 +137,8 @@ reached (seen {E = E} i s bytes k u v h) = (omega arith, reached h)
 
 same-session : (floor : ℕ → ℕ) (s v j : ℕ) (e : Entry) → eqb j s ≡ true → isOf j e ≡ true → Above (put floor s v) e → v + v + 1 ≤ rank e
 same-session floor s v j e p r a =
-    let q : put floor s v (e .session) ≡ v = put-case (λ x. x ≡ v) floor s v (e .session) (λ k. refl) (λ k. absurd (k (sym (eqb-true j (e .session) r) ∙ eqb-true j s p))) in
+    let same : e .session ≡ s = sym (eqb-true j (e .session) r) ∙ eqb-true j s p in
+    let q : put floor s v (e .session) ≡ v = put-case (λ x. x ≡ v) floor s v (e .session) (λ k. refl) (λ k. absurd (k same)) in
     omega arith
 
 -- ranks rise within a session, and among the commits

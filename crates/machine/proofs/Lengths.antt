@@ -50,7 +50,8 @@ unfolding cartAt
 length-cartAt copy c e low high = length-part copy (cartSize * (c - 1)) cartSize (omega arith)
 
 -- fields of an operation put over the same fields of a cart
-length-fields : (op cart : List ℕ) (a n : ℕ) → length op ≡ cartSize → length cart ≡ cartSize → a + n ≤ cartSize → length (over cart a n (part op a n)) ≡ cartSize
+length-fields : (op cart : List ℕ) (a n : ℕ) → length op ≡ cartSize → length cart ≡ cartSize → a + n ≤ cartSize
+    → length (over cart a n (part op a n)) ≡ cartSize
 length-fields op cart a n e h u = length-over cart a n (part op a n) (omega arith) (length-part op a n (omega arith)) ∙ h
 
 length-effect : (op cart : List ℕ) → length op ≡ cartSize → length cart ≡ cartSize → length (effect op cart) ≡ cartSize
@@ -117,12 +118,14 @@ pub request-askable : (bytes : List ℕ) → requestForm bytes ≡ true → Aska
 unfolding requestForm requestFields requestOf numbersForm
 request-askable bytes e = go (eqb (byte bytes 0) 1) (eqb (byte bytes 0) 2) (all-pass _ e .1 .0)
   where
-    go : (b c : Bool) → cond b (numbersForm bytes) (cond c (titleForm (byte bytes 1) (part bytes 16 titleSize)) false) ≡ true → Askable (cond b (byNumbers (numbersIn bytes)) (cond c (byTitle (part bytes 16 (byte bytes 1))) nothing))
+    go : (b c : Bool) → cond b (numbersForm bytes) (cond c (titleForm (byte bytes 1) (part bytes 16 titleSize)) false) ≡ true
+        → Askable (cond b (byNumbers (numbersIn bytes)) (cond c (byTitle (part bytes 16 (byte bytes 1))) nothing))
     go true c h = all-pass _ h .1 .0
     go false true h = tt
     go false false h = tt
 
-length-numbers : (copy cs : List ℕ) → length copy ≡ copySize → All (λ c. within 1 cartCount c ≡ true) cs → length (shownByNumbers copy cs) ≡ cartSize * length cs
+length-numbers : (copy cs : List ℕ) → length copy ≡ copySize → All (λ c. within 1 cartCount c ≡ true) cs
+    → length (shownByNumbers copy cs) ≡ cartSize * length cs
 unfolding shownByNumbers
 length-numbers copy [] e h = refl
 length-numbers copy (c ∷ cs) e h =

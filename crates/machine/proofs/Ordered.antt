@@ -13,24 +13,26 @@ use Rattle.machine.proofs.Sort.{All, of, all-map, sort, sort-perm, all-
 use Rattle.machine.proofs.Chain.{Chain, chain}
 use Rattle.machine.proofs.History.{History, state, raises, rank, isOf, at, Good, good, Below, above, consecutive, reached, sessions-rise, raises-rise}
 
+abbrev inputs : List Entry → List Input
+inputs l = map (λ (e : Entry). e .input) l
+
+abbrev replies : List Entry → List Reply
+replies l = map (λ (e : Entry). e .reply) l
+
 -- an order whose entries form a chain is played
-played : (M : ℕ → List ℕ) (n : ℕ) (o : List Entry) → Chain state raises n o → All (Good M) o → play (at M n) (map (λ (e : Entry). e .input) o) ≡ map (λ (e : Entry). e .reply) o
+played : (M : ℕ → List ℕ) (n : ℕ) (o : List Entry) → Chain state raises n o → All (Good M) o → play (at M n) (inputs o) ≡ replies o
 unfolding play
 played M n [] c g = refl
 played M n (e ∷ o) c g = go (raises e) c (g .0) (λ m d. played M m o d (g .1))
   where
-    ins : List Input
-    ins = map (λ (x : Entry). x .input) o
-
-    outs : List Reply
-    outs = map (λ (x : Entry). x .reply) o
-
-    after : (m : ℕ) → serve (at M n) (e .input) ≡ served (e .reply) (at M m) → play (at M m) ins ≡ outs → play (at M n) (e .input ∷ ins) ≡ e .reply ∷ outs
-    after m q t = ap (λ (r : Served). r .reply ∷ play (r .next) ins) q ∙ ap (λ (l : List Reply). e .reply ∷ l) t
+    after : (m : ℕ) → serve (at M n) (e .input) ≡ served (e .reply) (at M m) → play (at M m) (inputs o) ≡ replies o
+        → play (at M n) (inputs (e ∷ o)) ≡ replies (e ∷ o)
+    after m q t = ap (λ (r : Served). r .reply ∷ play (r .next) (inputs o)) q ∙ ap (λ (l : List Reply). e .reply ∷ l) t
 
     go : (b : Bool) → cond b ((state e ≡ n + 1) × Chain state raises (n + 1) o) ((state e ≡ n) × Chain state raises n o)
-        → cond b ((m : ℕ) → state e ≡ m + 1 → serve (at M m) (e .input) ≡ served (e .reply) (at M (m + 1))) (serve (at M (state e)) (e .input) ≡ served (e .reply) (at M (state e)))
-        → ((m : ℕ) → Chain state raises m o → play (at M m) ins ≡ outs) → play (at M n) (e .input ∷ ins) ≡ e .reply ∷ outs
+        → cond b ((m : ℕ) → state e ≡ m + 1 → serve (at M m) (e .input) ≡ served (e .reply) (at M (m + 1)))
+        (serve (at M (state e)) (e .input) ≡ served (e .reply) (at M (state e)))
+        → ((m : ℕ) → Chain state raises m o → play (at M m) (inputs o) ≡ replies o) → play (at M n) (inputs (e ∷ o)) ≡ replies (e ∷ o)
     go true d k ih = after (n + 1) (k n (d .0)) (ih (n + 1) (d .1))
     go false d k ih = after n (subst (λ (m : ℕ). serve (at M m) (e .input) ≡ served (e .reply) (at M m)) (d .0) k) (ih n (d .1))
 
@@ -50,5 +52,6 @@ ordered {n} {L} {E} h =
     record {
       once = sort-perm rank E;
       sessions = λ s. of-session s (sort rank E) ∙ of-sort rank (isOf s) E (sessions-rise b h s) ∙ sym (of-session s E);
-      answers = subst (λ (l : List ℕ). play (library n l) (map (λ (e : Entry). e .input) (sort rank E)) ≡ map (λ (e : Entry). e .reply) (sort rank E)) (same n (omega arith)) (played M n (sort rank E) c (all-sort rank (Good M) E g));
+      answers = subst (λ (l : List ℕ). play (library n l) (inputs (sort rank E)) ≡ replies (sort rank E)) (same n (omega arith))
+          (played M n (sort rank E) c (all-sort rank (Good M) E g));
     }

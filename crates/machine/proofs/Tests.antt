@@ -38,6 +38,7 @@ unfolding stopped
 none-stops [] h e = tt
 none-stops (r ∷ rs) h e = go (r .stops) refl e (none-stops rs (h .1))
   where
-    go : (b : Bool) → r .stops ≡ b → cond b (r .number) (stopped rs) ≡ 0 → (stopped rs ≡ 0 → All (λ x. x .stops ≡ false) rs) → All (λ x. x .stops ≡ false) (r ∷ rs)
+    go : (b : Bool) → r .stops ≡ b → cond b (r .number) (stopped rs) ≡ 0
+        → (stopped rs ≡ 0 → All (λ x. x .stops ≡ false) rs) → All (λ x. x .stops ≡ false) (r ∷ rs)
     go true k z ih = absurd (omega (arith, h .0))
     go false k z ih = (k, ih z)

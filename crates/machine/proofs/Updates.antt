@@ -32,7 +32,8 @@ set-either P (x ∷ l) (suc p) v d zero here old = old
 set-either P (x ∷ l) (suc p) v d (suc k) here old = set-either P l p v d k (λ e. here (ap suc e)) old
 
 -- what holds of each item, counted from 1, after a change of item i
-pub each-set : {A : Type 0} (P : ℕ → A → Type 0) (l : List A) (i : ℕ) (v d : A) → 1 ≤ i → P i v → ((j : ℕ) → 1 ≤ j → P j (getD l (j - 1) d)) → (j : ℕ) → 1 ≤ j → P j (getD (set l (i - 1) v) (j - 1) d)
+pub each-set : {A : Type 0} (P : ℕ → A → Type 0) (l : List A) (i : ℕ) (v d : A) → 1 ≤ i → P i v
+    → ((j : ℕ) → 1 ≤ j → P j (getD l (j - 1) d)) → (j : ℕ) → 1 ≤ j → P j (getD (set l (i - 1) v) (j - 1) d)
 each-set P l i v d low here old j u = set-either (P j) l (i - 1) v d (j - 1) (λ e. let same : i ≡ j = omega arith in subst (λ (k : ℕ). P k v) same here) (old j u)
 
 -- a function and a list, both changed at i, counted from 1
