@@ -18,3 +18,5 @@ pub mod Read
 pub mod Commit
 pub mod Setup
 pub mod Simulation
+pub mod Theorems
+pub mod BytesTable
