@@ -16,7 +16,7 @@ use Rattle.refinement.specs.Represents.{handedIn}
 use Rattle.refinement.proofs.Parts.{length-over}
 use Rattle.refinement.proofs.Zeros.{zero-first}
 use Rattle.refinement.proofs.Fields.{Head, bytes, by-fields}
-use Rattle.refinement.proofs.Memories.{length-withRecord, record-same, record-other, record-past}
+use Rattle.refinement.proofs.Memories.{length-cells, cell-same, cell-other, cells-past}
 use Rattle.refinement.proofs.Chains.{Linked}
 
 -- an operation as handed in
@@ -105,18 +105,18 @@ pub record Wrote (log : List ℕ) (e : ℕ) (ops : List (List ℕ)) (log′ : Li
 
 pub wrote : (ops : List (List ℕ)) (e : ℕ) (log : List ℕ) → length log ≡ 40960 → Givens ops → 1 ≤ e → e + length ops ≤ 513
     → Wrote log e ops (writeAll (upFrom e (length ops)) ops log)
-unfolding writeAll upFrom Givens Written
+unfolding writeAll upFrom Givens Written recordAt withRecord
 wrote [] e log n g l h = record { size = n; below = λ q a b. refl; past = λ k a. refl; new = tt }
 wrote (op ∷ ops) e log n g l h =
     let x = linkedTo (front (upFrom (e + 1) (length ops))) op in
     let k : length x ≡ 80 = length-linked (front (upFrom (e + 1) (length ops))) op (g 0 (omega arith) .size) in
     let e512 : e ≤ 512 = omega arith in
-    let w = wrote ops (e + 1) (withRecord log e x) (length-withRecord log n e l e512 x k) (λ i a. g (suc i) (omega arith)) (omega arith) (omega arith) in
+    let w = wrote ops (e + 1) (withRecord log e x) (length-cells 512 log n e l e512 x k) (λ i a. g (suc i) (omega arith)) (omega arith) (omega arith) in
     record {
       size = w .size;
-      below = λ q a b. w .below q a (omega arith) ∙ record-other log n e l e512 x k q a (omega arith);
-      past = λ j a. w .past j (omega arith) ∙ record-past log n e l e512 x k j (omega arith);
-      new = (w .below e l (omega arith) ∙ record-same log n e l e512 x k, w .new);
+      below = λ q a b. w .below q a (omega arith) ∙ cell-other 512 log n e l e512 x k q a (omega arith);
+      past = λ j a. w .past j (omega arith) ∙ cells-past 512 log n e l e512 x k j (omega arith);
+      new = (w .below e l (omega arith) ∙ cell-same 512 log n e l e512 x k, w .new);
     }
 
 -- a record that has an operation of them

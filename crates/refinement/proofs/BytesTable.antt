@@ -18,8 +18,7 @@ use Rattle.machine.proofs.Table as Plain
 use Rattle.machine.proofs.Table.{start, A, askNumber, askTitle, buffer, holding, morning, long, longTitles, oneTitle, Seen, seen, last, table}
 use Rattle.refinement.specs.Represents.{transactionsFrom, Represents}
 use Rattle.refinement.specs.Lists.{afterCalls, machineAfter, seenIn}
-use Rattle.refinement.proofs.Setup.{Fresh, setup-fresh}
-use Rattle.refinement.proofs.Theorems.{answers, represents-after}
+use Rattle.refinement.proofs.Simulation.{same-history, represents-after}
 
 -- the answers and outputs of n calls from call i on, counted from 0, of a list of calls on the bytes that r left
 unfoldable pub calls : After → List Call → ℕ → ℕ → List Seen
@@ -66,10 +65,10 @@ unfolding machineAfter run last
 last-run M [] = refl
 last-run M (x ∷ H) = last-run (call M x .next) H
 
--- "S = 2; sessions 1 and 2 at studio 1, session 3 at studio 2"
-pub bytes-table : (before : Memory) → setup before 2 (1 ∷ 1 ∷ 2 ∷ zeros 13) .answer ≡ done 0 → BytesTable (setup before 2 (1 ∷ 1 ∷ 2 ∷ zeros 13))
-unfolding start calls Plain.calls
-bytes-table before accepted = record {
+-- where the bytes stand for the table's start
+pub bytes-table : (r : After) → Represents (r .control) (r .memory) start → BytesTable r
+unfolding calls Plain.calls
+bytes-table r h = record {
   case1 = same _ 0 1 ∙ table .case1;
   case2 = same morning 0 1 ∙ table .case2;
   case3 = same morning 1 1 ∙ table .case3;
@@ -86,13 +85,9 @@ bytes-table before accepted = record {
   case12 = same oneTitle 0 4 ∙ table .case12;
 }
   where
-    r : After
-    r = setup before 2 (1 ∷ 1 ∷ 2 ∷ zeros 13)
-
     same : (H : List Call) (i n : ℕ) → calls r H i n ≡ Plain.calls H i n
-    same H i n = ap (λ (l : List Seen). take n (drop i l)) (ap seenIn (answers before 2 (1 ∷ 1 ∷ 2 ∷ zeros 13) accepted H) ∙ seen-events start H)
+    same H i n = ap (λ (l : List Seen). take n (drop i l)) (ap seenIn (same-history H (r .control) (r .memory) start h) ∙ seen-events start H)
 
-    log : transactionsFrom (afterCalls r morning .control .commits) (afterCalls r morning .memory .log) (firstRecord (afterCalls r morning .control)) ≡ last start (run start morning) .log
-    log =
-        sym (represents-after morning r start (setup-fresh before 2 (1 ∷ 1 ∷ 2 ∷ zeros 13) accepted .represents) .log)
-        ∙ ap (λ (M : Machine). M .log) (last-run start morning)
+    log : transactionsFrom (afterCalls r morning .control .commits) (afterCalls r morning .memory .log) (firstRecord (afterCalls r morning .control))
+        ≡ last start (run start morning) .log
+    log = sym (represents-after morning r start h .log) ∙ ap (λ (M : Machine). M .log) (last-run start morning)

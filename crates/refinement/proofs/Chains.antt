@@ -17,7 +17,7 @@ use Rattle.replication.specs.Log.{nextOperation, nextTransaction, chain, record
 use Rattle.machine.specs.Machine.{recordsUsed}
 use Rattle.refinement.specs.Represents.{handedIn, transactionsFrom}
 use Rattle.refinement.proofs.Tests.{and-left, and-right, all-at, all-cons, all-nil, within-low, within-high, within-of, pairwise-eq, pairwise-refl}
-use Rattle.refinement.proofs.Memories.{length-recordAt}
+use Rattle.refinement.proofs.Memories.{length-cell}
 use Rattle.refinement.proofs.Effect.{Operation, Operations}
 
 -- records that follow one another
@@ -189,14 +189,14 @@ placed (suc n) log first r end h (suc k) l =
 -- its operations are of form where the records are
 pub placed-operations : (log : List ℕ) (used r : ℕ) → length log ≡ 40960 → used ≤ 512 → ((q : ℕ) → 1 ≤ q → q ≤ used → operationFields (recordAt log q) ≡ true)
     → Placed log 1 (used + 1) r → Operations (transactionAt log r)
-unfolding transactionAt Operations
+unfolding transactionAt Operations recordAt
 placed-operations log used r n u f p = rw (p .own) go
   where
     go : (i : ℕ) → i < length (map (recordAt log) (upFrom r (p .size))) → Operation (getD (map (recordAt log) (upFrom r (p .size))) i [])
     go i l =
         let k : i < p .size = rw (length-map (upFrom r (p .size)) (recordAt log), length-upFrom r (p .size)) at l in
         rw (map-upFrom-at (recordAt log) [] r (p .size) i k)
-        (record { size = length-recordAt log n (r + i) (omega arith) (omega arith); fields = f (r + i) (omega arith) (omega arith) })
+        (record { size = length-cell 512 log n (r + i) (omega arith) (omega arith); fields = f (r + i) (omega arith) (omega arith) })
 
 -- the records of the transactions are those in use
 pub records-used : (n : ℕ) (log : List ℕ) (first r end : ℕ) → chainForm n log first r end ≡ true → r + recordsUsed (transactionsFrom n log first) ≡ end

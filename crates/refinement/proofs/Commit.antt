@@ -28,16 +28,16 @@ use Rattle.refinement.proofs.Tests.{all-at, all-set, every-at, within-l
 use Rattle.refinement.proofs.Parts.{length-part, length-parts, parts-at}
 use Rattle.refinement.proofs.Zeros.{zero-drop}
 use Rattle.refinement.proofs.Effect.{Operations, Copy, actAll-copy}
-use Rattle.refinement.proofs.Memories.{length-copyAt, length-withCopy, copy-same, copy-other, length-sessionAt, length-withSession}
+use Rattle.refinement.proofs.Memories.{length-copyAt, length-withCopy, copy-same, copy-other}
 use Rattle.refinement.proofs.Chains.{records-used}
 use Rattle.refinement.proofs.Append.{Given, Givens}
 use Rattle.refinement.proofs.Grow.{Grown, grown}
 use Rattle.refinement.proofs.Transactions.{L-step, L-append}
 use Rattle.refinement.proofs.Represented.{machineOf, log-length}
-use Rattle.refinement.proofs.Formed.{Formed, formed, of-layout, applied-known, studio-copy, copy-in-use}
+use Rattle.refinement.proofs.Formed.{Formed, formed, of-layout, applied-known, counts-more, studio-copy, copy-in-use}
 use Rattle.refinement.proofs.Rows as Rows
 use Rattle.refinement.proofs.Rows.{memory-passes, unless-by, unless-both, Committable, commit-passed}
-use Rattle.refinement.proofs.Sessions.{SessionBytes, length-withSequence, session-bytes, sessions-form, sessions-shown, session-of}
+use Rattle.refinement.proofs.Sessions.{SessionBytes, session-more, own-bytes, length-sessions, sessions-form, sessions-shown, session-of}
 
 -- the operations in the bytes of a commit that rows 5 and 6 let pass
 operations-count : (bytes : List ℕ) → length (operationsOf bytes) ≡ length bytes / 80
@@ -68,36 +68,6 @@ given-operations : (ops : List (List ℕ)) → Givens ops → Operations ops
 unfolding Givens Operations
 given-operations ops g i l = let o = g i l in record { size = o .size; fields = o .fields }
 
--- one commit more leaves the other sessions and the counts within their rule
-session-more : (c : Control) (k s : ℕ) (x : List ℕ) → sessionForm c s x ≡ true → sessionForm (committed c k) s x ≡ true
-unfolding sessionForm committed studioOf
-session-more c k s x f = go (eqb (studioOf c s) 0) refl
-  where
-    tests : List Bool
-    tests = leb (sequenceOf x) (c .commits) ∷ allZero (part x 4 12) ∷ waitingForm x ∷ []
-
-    go : (b : Bool) → eqb (studioOf c s) 0 ≡ b
-        → cond (eqb (studioOf c s) 0) (allZero x) (all (leb (sequenceOf x) (c .commits + 1) ∷ allZero (part x 4 12) ∷ waitingForm x ∷ [])) ≡ true
-    go true e = rw e (rw e at f)
-    go false e =
-        let h : all tests ≡ true = rw e at f in
-        let l : sequenceOf x ≤ c .commits = leb-true _ _ (all-at 0 tests h) in
-        rw e (all-set 0 tests (leb (sequenceOf x) (c .commits + 1)) h (le-leb (sequenceOf x) (c .commits + 1) (omega arith)))
-
-counts-more : (c : Control) (k i : ℕ) → countsForm c i ≡ true → countsForm (committed c k) i ≡ true
-unfolding countsForm committed
-counts-more c k i f = go (leb i (c .studios)) refl
-  where
-    tests : List Bool
-    tests = leb (nth (c .applied) i) (nth (c .sent) i) ∷ leb (nth (c .sent) i) (c .commits) ∷ leb (nth (c .sent) i - nth (c .applied) i) 32 ∷ []
-
-    go : (b : Bool) → leb i (c .studios) ≡ b → countsForm (committed c k) i ≡ true
-    go true e =
-        let h : all tests ≡ true = rw e at f in
-        let l : nth (c .sent) i ≤ c .commits = leb-true _ _ (all-at 1 tests h) in
-        rw e (all-set 1 tests (leb (nth (c .sent) i) (c .commits + 1)) h (le-leb (nth (c .sent) i) (c .commits + 1) (omega arith)))
-    go false e = rw e (rw e at f)
-
 -- memory after a commit
 abbrev left : Control → Memory → ℕ → List (List ℕ) → Memory
 left c m s ops = record {
@@ -110,53 +80,49 @@ left c m s ops = record {
 module _ (c : Control) (m : Memory) (s : ℕ) (ops : List (List ℕ)) (f : Formed c m) (w : Rows.Session s (studioOf c s)) (g : Givens ops)
     (k1 : 1 ≤ length ops) (k8 : length ops ≤ 8) (room : c .used + length ops ≤ 512) where
   log-grown : Grown (c .commits) (c .used) (firstRecord c) (m .log) (appended c (m .log) ops) ops
-  log-grown = grown c (m .log) ops (f .log) g k1 k8 room (f .records) (f .chain)
+  log-grown = grown c (m .log) ops (f .log .size) g k1 k8 room (f .log .records) (f .log .chain)
 
   primary : Copy (actAll (copyAt (m .library) 0) ops)
   primary =
       actAll-copy _ ops
-      (record { size = length-copyAt (m .library) (f .library) 0 (omega arith); form = copy-in-use (c .studios) 0 _ (omega arith) (f .copies 0 (omega arith)) })
+      (record { size = length-copyAt (m .library) (f .library .size) 0 (omega arith); form = copy-in-use (c .studios) 0 _ (omega arith) (f .library .copies 0 (omega arith)) })
       (given-operations ops g)
 
   same-copy : copyAt (left c m s ops .library) 0 ≡ actAll (copyAt (m .library) 0) ops
-  same-copy = copy-same (m .library) (f .library) 0 (omega arith) _ (primary .size)
+  same-copy = copy-same (m .library) (f .library .size) 0 (omega arith) _ (primary .size)
 
   other-copy : (j : ℕ) → j ≢ 0 → copyAt (left c m s ops .library) j ≡ copyAt (m .library) j
-  other-copy = copy-other (m .library) (f .library) 0 (omega arith) _ (primary .size)
+  other-copy = copy-other (m .library) (f .library .size) 0 (omega arith) _ (primary .size)
 
-  own-bytes : SessionBytes (sessionAt (m .sessions) s)
-  own-bytes = session-bytes c s (w .used) _ (length-sessionAt (m .sessions) (f .sessions) s (w .low) (w .high)) (f .sessionForms s (w .low) (w .high))
+  own : SessionBytes (sessionAt (m .sessions) s)
+  own = own-bytes c (m .sessions) (f .sessions) s (w .low) (w .high) (w .used)
 
   commit-formed : Formed (committed c (length ops)) (left c m s ops)
   unfolding committed firstRecord studioOf
   commit-formed = record {
-    sessionStudios = f .sessionStudios;
-    sents = f .sents;
-    applieds = f .applieds;
-    library = length-withCopy (m .library) (f .library) 0 (omega arith) _ (primary .size);
-    log = log-grown .size;
-    sessions = length-withSession (m .sessions) (f .sessions) s (w .low) (w .high) _ (length-withSequence _ _ (own-bytes .size));
-    studios = f .studios;
-    places = f .places;
-    copies = λ j l. copies j l (ℕ-discrete j 0);
-    used = room;
-    records = log-grown .records;
-    free = free;
-    chain = chain;
-    sessionForms = sessions-form (committed c (length ops)) (m .sessions) (f .sessions) s (w .low) (w .high) _ _ own-bytes (w .used) (omega arith)
-        (λ q a b. session-more c (length ops) q _ (f .sessionForms q a b));
-    counts = λ i a b. counts-more c (length ops) i (f .counts i a b);
+    control = f .control;
+    library = record {
+      size = length-withCopy (m .library) (f .library .size) 0 (omega arith) _ (primary .size);
+      copies = λ j l. copies j l (ℕ-discrete j 0);
+    };
+    log = record { size = log-grown .size; used = room; records = log-grown .records; free = free; chain = chain };
+    sessions = record {
+      size = length-sessions c (m .sessions) (f .sessions .size) s (w .low) (w .high) _ _ own;
+      forms = sessions-form (committed c (length ops)) (m .sessions) (f .sessions .size) s (w .low) (w .high) _ _ own (w .used) (omega arith)
+          (λ q a b. session-more c (length ops) q _ (f .sessions .forms q a b));
+    };
+    counts = λ i a b. counts-more c i (length ops) (f .counts i a b);
   }
     where
       copies : (j : ℕ) → j ≤ 4 → Dec (j ≡ 0) → replicaForm (c .studios) j (copyAt (left c m s ops .library) j) ≡ true
       copies j l (yes e) = rw (e, same-copy) (studio-copy (c .studios) 0 _ (omega arith) (primary .form))
-      copies j l (no ne) = rw (other-copy j ne) (f .copies j l)
+      copies j l (no ne) = rw (other-copy j ne) (f .library .copies j l)
 
       free : allZero (drop (80 * (c .used + length ops)) (appended c (m .log) ops)) ≡ true
       free =
           let d : 80 * c .used + 80 * length ops ≡ 80 * (c .used + length ops) = omega arith in
           ap allZero (log-grown .past ∙ sym (drop-drop (80 * length ops) (80 * c .used) (m .log) ∙ ap (λ (z : ℕ). drop z (m .log)) d))
-          ∙ zero-drop (80 * length ops) (drop (80 * c .used) (m .log)) (f .free)
+          ∙ zero-drop (80 * length ops) (drop (80 * c .used) (m .log)) (f .log .free)
 
       chain : chainForm (c .commits + 1) (appended c (m .log) ops) (cond (eqb (c .commits + 1) 0) 0 1) 1 (c .used + length ops + 1) ≡ true
       chain =
@@ -176,7 +142,7 @@ module _ (c : Control) (m : Memory) (s : ℕ) (ops : List (List ℕ)) (f : Forme
     sent = refl;
     applied = refl;
     count = length-set sessions (s - 1) _ ∙ h .count;
-    sessions = sessions-shown (committed c (length ops)) (m .sessions) (f .sessions) s (w .low) (w .high) _ _ own-bytes sessions _ (h .count) (h .sessions);
+    sessions = sessions-shown (committed c (length ops)) (m .sessions) (f .sessions .size) s (w .low) (w .high) _ _ own sessions _ (h .count) (h .sessions);
     primary = same-copy ∙ ap (λ (z : List ℕ). actAll z ops) (h .primary) ∙ level;
     replicas = λ j a b. other-copy j (omega arith) ∙ h .replicas j a b
         ∙ sym (L-append log (ops ∷ []) (nth (c .applied) j) (rw (log-length c m _ h) (applied-known c j (f .counts j a b))));
@@ -227,4 +193,4 @@ module _ (c : Control) (m : Memory) (s : ℕ) (bytes : List ℕ) where
       }))
     where
       used : recordsUsed log ≡ c .used
-      used = let e = records-used (c .commits) (m .log) (firstRecord c) 1 (c .used + 1) (formed c m (h .form) .chain) in ap recordsUsed (h .log) ∙ omega arith
+      used = let e = records-used (c .commits) (m .log) (firstRecord c) 1 (c .used + 1) (formed c m (h .form) .log .chain) in ap recordsUsed (h .log) ∙ omega arith

@@ -13,8 +13,9 @@ use lib.Seq.{take-at, length-take-le}
 use Rattle.carts.specs.Bytes.{zeros, part, over, byte, u16, u32, within, all, allZero, eachPart}
 use Rattle.carts.specs.Cart.{copySize, cartAt, titleForm, hasTitle, noTitle, hasAudio, noAudio, held, heldForm, cartForm, copyForm}
 use Rattle.carts.specs.Operation.{isNew, isRetitle, isRecut, isWithdraw, operationFields, made, retitled, recut, withdrawn, meetsCart, effect, actedOn, act, actAll}
-use Rattle.refinement.proofs.Tests.{all-at, all-set, all-cons, all-nil, within-low, within-high}
-use Rattle.refinement.proofs.Parts.{length-part, length-over, over-same, cell-other, each-at, at-each}
+use Rattle.refinement.proofs.Tests.{by-cond, all-at, all-set, all-cons, all-nil, within-low, within-high}
+use Rattle.refinement.proofs.Parts.{length-part, length-over, each-at, at-each}
+use Rattle.refinement.proofs.Memories.{length-cell, length-cells, cell-same, cell-other}
 use Rattle.refinement.proofs.Zeros.{zero-part, length-zeros, zeros-zero, zero-first}
 use Rattle.refinement.proofs.Fields.{Head, bytes, by-fields}
 
@@ -69,11 +70,6 @@ module _ (cart op : List ℕ) (lc : length cart ≡ 80) (lo : length op ≡ 80) 
   length-recut : length (recut op cart) ≡ 80
   unfolding recut
   length-recut = length-over cart 4 8 (part op 4 8) (length-part op 4 8 (omega arith)) (omega arith) ∙ lc
-
--- what holds of both sides of a test
-pub by-cond : {A : Type 0} (P : A → Type 0) (b : Bool) (x y : A) → (b ≡ true → P x) → (b ≡ false → P y) → P (cond b x y)
-by-cond P true x y f g = f refl
-by-cond P false x y f g = g refl
 
 -- a cart of number c: its length and form
 pub record Cart (c : ℕ) (cart : List ℕ) : Type 0 where
@@ -170,8 +166,7 @@ pub cart-of : (copy : List ℕ) → Copy copy → (c : ℕ) → 1 ≤ c → c �
 unfolding cartAt copyForm
 cart-of copy h c l g =
     let e : 1 + (c - 1) ≡ c = omega arith in
-    let n = h .size in
-    record { size = length-part copy (80 * (c - 1)) 80 (omega arith); form = rw e at (each-at cartForm 80 128 1 copy (h .form) (c - 1) (omega arith)) }
+    record { size = length-cell 128 copy (h .size) c l g; form = rw e at (each-at cartForm 80 128 1 copy (h .form) (c - 1) (omega arith)) }
 
 pub copy-of : (copy : List ℕ) → length copy ≡ 10240 → ((c : ℕ) → 1 ≤ c → c ≤ 128 → cartForm c (cartAt copy c) ≡ true) → Copy copy
 unfolding cartAt copyForm
@@ -180,8 +175,7 @@ copy-of copy n f = record { size = n; form = at-each cartForm 80 128 1 copy (λ 
 -- an operation keeps a copy
 pub act-copy : (copy op : List ℕ) → Copy copy → Operation op → Copy (act copy op)
 unfolding act cartAt
-act-copy copy op h o =
-    copy-of (act copy op) (length-over copy (80 * (c - 1)) 80 x (new .size) room ∙ h .size) (λ d l g. go d l g (ℕ-discrete d c))
+act-copy copy op h o = copy-of (act copy op) (length-cells 128 copy (h .size) c low high x (new .size)) (λ d l g. go d l g (ℕ-discrete d c))
   where
     c : ℕ
     c = u16 op 2
@@ -198,12 +192,9 @@ act-copy copy op h o =
     new : Cart c x
     new = acted-cart op o (cartAt copy c) (cart-of copy h c low high)
 
-    room : 80 * (c - 1) + 80 ≤ length copy
-    room = omega (arith, h .size, low, high)
-
     go : (d : ℕ) → 1 ≤ d → d ≤ 128 → Dec (d ≡ c) → cartForm d (cartAt (act copy op) d) ≡ true
-    go d l g (yes e) = rw (e, over-same copy (80 * (c - 1)) 80 x (new .size) room) (new .form)
-    go d l g (no ne) = rw (cell-other 80 copy (c - 1) x (new .size) room (d - 1) (omega (arith, low))) (cart-of copy h d l g .form)
+    go d l g (yes e) = rw (e, cell-same 128 copy (h .size) c low high x (new .size)) (new .form)
+    go d l g (no ne) = rw (cell-other 128 copy (h .size) c low high x (new .size) d l ne) (cart-of copy h d l g .form)
 
 -- every operation of a list
 unfoldable pub Operations : List (List ℕ) → Type 0

@@ -17,7 +17,7 @@ use Rattle.replication.specs.declared.control.Control.{Control}
 use Rattle.machine.specs.Machine.{Transaction}
 use Rattle.refinement.specs.Represents.{handedIn, transactionsFrom}
 use Rattle.refinement.proofs.Tests.{all-at, all-cons, all-nil}
-use Rattle.refinement.proofs.Memories.{length-recordAt, length-withRecord, record-same, record-other, record-past}
+use Rattle.refinement.proofs.Memories.{length-cell, length-cells, cell-same, cell-other, cells-past}
 use Rattle.refinement.proofs.Chains.{front-upFrom, Linked, linked-chain, linked-kept, Chained, chained, of-chained, chained-links, Placed, placed}
 use Rattle.refinement.proofs.Append.{Givens, followedBy, length-followed, followed-next, followed-last, followed-fields, followed-handed, Written, written-kept, Wrote, wrote, holds, holds-last, holds-fields, written-linked, written-handed}
 
@@ -168,27 +168,32 @@ module _ (used : ℕ) (log : List ℕ) (ops : List (List ℕ)) (size : length lo
 
     -- its first record, now followed by the new transaction
     length-last : length (recordAt full last) ≡ 80
-    length-last = let h = high in length-recordAt full (w .size) last low (omega arith)
+    unfolding recordAt
+    length-last = let h = high in length-cell 512 full (w .size) last low (omega arith)
 
-    length-x : length (followedBy (used + 1) (recordAt full last)) ≡ 80
+    x : List ℕ
+    x = followedBy (used + 1) (recordAt full last)
+
+    length-x : length x ≡ 80
+    unfolding x
     length-x = length-followed (used + 1) (recordAt full last) length-last
 
     joined : List ℕ
-    joined = withRecord full last (followedBy (used + 1) (recordAt full last))
+    joined = withRecord full last x
 
-    same : recordAt joined last ≡ followedBy (used + 1) (recordAt full last)
-    unfolding joined
-    same = let h = high in record-same full (w .size) last low (omega arith) _ length-x
+    same : recordAt joined last ≡ x
+    unfolding joined recordAt withRecord
+    same = let h = high in cell-same 512 full (w .size) last low (omega arith) x length-x
 
     other : (q : ℕ) → 1 ≤ q → q ≢ last → recordAt joined q ≡ recordAt full q
-    unfolding joined
-    other = let h = high in record-other full (w .size) last low (omega arith) _ length-x
+    unfolding joined recordAt withRecord
+    other = let h = high in cell-other 512 full (w .size) last low (omega arith) x length-x
 
     before : (q : ℕ) → 1 ≤ q → q < used + 1 → recordAt full q ≡ recordAt log q
     before = w .below
 
     old : (q : ℕ) → 1 ≤ q → q < used + 1 → Kept log joined last q
-    unfolding nextOperation nextTransaction
+    unfolding nextOperation nextTransaction x
     old q a b = go (ℕ-discrete q last)
       where
         go : Dec (q ≡ last) → Kept log joined last q
@@ -208,10 +213,11 @@ module _ (used : ℕ) (log : List ℕ) (ops : List (List ℕ)) (size : length lo
     new = written-kept full joined (used + 1) ops (λ q a. let h = high in other q (omega arith) (omega arith)) (w .new)
 
     link : nextTransaction joined last ≡ used + 1
-    unfolding nextTransaction
+    unfolding nextTransaction x
     link = ap (λ (z : List ℕ). u16 z 14) same ∙ followed-last (used + 1) (recordAt full last) length-last
 
     fields : (q : ℕ) → 1 ≤ q → q ≤ used + length ops → operationFields (recordAt joined q) ≡ true
+    unfolding x
     fields q a b = go (decLe q used) (ℕ-discrete q last)
       where
         go : Dec (q ≤ used) → Dec (q ≡ last) → operationFields (recordAt joined q) ≡ true
@@ -221,15 +227,15 @@ module _ (used : ℕ) (log : List ℕ) (ops : List (List ℕ)) (size : length lo
         go (no l) d = holds-fields joined q (holds joined (used + 1) ops g new q (omega arith) (omega arith))
 
     next-grown : Grown (suc n) used 1 log joined ops
-    unfolding joined last
+    unfolding joined last withRecord
     next-grown =
         let h = high in
         let r = grows log joined (used + 1) last (length ops) ops old link
         (new-form joined (used + 1) ops (omega arith) g new k1 k8) (new-shown joined (used + 1) ops (omega arith) g new k1 k8) n 1 1 (omega arith) form refl in
         record {
-          size = length-withRecord full (w .size) last low (omega arith) _ length-x;
+          size = length-cells 512 full (w .size) last low (omega arith) x length-x;
           records = fields;
-          past = record-past full (w .size) last low (omega arith) _ length-x (used + length ops) (omega arith) ∙ w .past (used + length ops) (omega arith);
+          past = cells-past 512 full (w .size) last low (omega arith) x length-x (used + length ops) (omega arith) ∙ w .past (used + length ops) (omega arith);
           form = r .0;
           shown = r .1;
         }
@@ -238,7 +244,7 @@ module _ (used : ℕ) (log : List ℕ) (ops : List (List ℕ)) (size : length lo
       → Grown n used (cond (eqb n 0) 0 1) log
       (cond (eqb n 0) (writeAll (upFrom (used + 1) (length ops)) ops log)
       (linked (writeAll (upFrom (used + 1) (length ops)) ops log) (walk (n - 1) log (cond (eqb n 0) 0 1)) (front (upFrom (used + 1) (length ops))))) ops
-  unfolding full joined last linked
+  unfolding full joined x last linked
   grown-at zero form = let u : 1 ≡ used + 1 = chain-end log 0 1 (used + 1) form in first-grown (omega arith)
   grown-at (suc n) form =
       let nz : eqb (suc n) 0 ≡ false = ne-eqb (suc n) 0 (omega arith) in

@@ -2,12 +2,12 @@ pub mod Tests
 pub mod Parts
 pub mod Zeros
 pub mod Fields
+pub mod Memories
 pub mod Effect
 pub mod Formed
 pub mod Rows
 pub mod Transactions
 pub mod Represented
-pub mod Memories
 pub mod Chains
 pub mod Append
 pub mod Grow
@@ -18,5 +18,5 @@ pub mod Read
 pub mod Commit
 pub mod Setup
 pub mod Simulation
-pub mod Theorems
 pub mod BytesTable
+pub mod Theorems

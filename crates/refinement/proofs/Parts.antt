@@ -49,8 +49,8 @@ module _ (s : List ℕ) (a n : ℕ) (ys : List ℕ) (e : length ys ≡ n) (h : a
 
 -- parts of one size: part k of them replaced leaves the others
 module _ (size : ℕ) (s : List ℕ) (k : ℕ) (x : List ℕ) (e : length x ≡ size) (h : size * k + size ≤ length s) where
-  pub cell-other : (j : ℕ) → j ≢ k → part (over s (size * k) size x) (size * j) size ≡ part s (size * j) size
-  cell-other j ne = go (decLe j k)
+  pub part-other : (j : ℕ) → j ≢ k → part (over s (size * k) size x) (size * j) size ≡ part s (size * j) size
+  part-other j ne = go (decLe j k)
     where
       go : Dec (j ≤ k) → part (over s (size * k) size x) (size * j) size ≡ part s (size * j) size
       go (yes le) =

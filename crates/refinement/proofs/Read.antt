@@ -21,47 +21,28 @@ use Rattle.replication.specs.declared.control.Control.{Control}
 use Rattle.machine.specs.Machine as Plain
 use Rattle.machine.specs.Machine.{Transaction, Session, session, L, Step}
 use Rattle.refinement.specs.Represents.{OfLayout, Represents, Simulates}
-use Rattle.refinement.proofs.Effect.{by-cond}
-use Rattle.refinement.proofs.Memories.{length-sessionAt, length-withSession}
+use Rattle.refinement.proofs.Tests.{by-cond, cond-both}
 use Rattle.refinement.proofs.Represented.{machineOf}
 use Rattle.refinement.proofs.Formed.{Formed, formed, of-layout, few, studio-known}
 use Rattle.refinement.proofs.Rows as Rows
 use Rattle.refinement.proofs.Rows.{memory-passes, unless-by, unless-both, Readable, read-passed, collect-passed}
-use Rattle.refinement.proofs.Sessions.{SessionBytes, length-withSequence, session-bytes, sequence-known, request-bytes, empty-bytes, empty-request, sessions-form, sessions-shown, session-of}
-
--- two calls, each with the same test
-cond-both : {A B : Type 0} (P : A → B → Type 0) (b : Bool) (x y : A) (u v : B) → P x u → P y v → P (cond b x y) (cond b u v)
-cond-both P true x y u v p q = p
-cond-both P false x y u v p q = q
+use Rattle.refinement.proofs.Sessions.{SessionBytes, request-bytes, empty-bytes, empty-request, own-bytes, own-sequence, length-sessions, sessions-form, sessions-shown, session-of}
 
 -- memory with other bytes of session s
 abbrev with : Memory → ℕ → ℕ → List ℕ → Memory
 with m s n x = withSessions m (withSession (m .sessions) s (withSequence n x))
 
 module _ (c : Control) (m : Memory) (s : ℕ) (w : Rows.Session s (studioOf c s)) (f : Formed c m) where
-  number-known : sequenceOf (sessionAt (m .sessions) s) ≤ c .commits
-  number-known = sequence-known c s (w .used) _ (f .sessionForms s (w .low) (w .high))
-
-  own-bytes : SessionBytes (sessionAt (m .sessions) s)
-  own-bytes = session-bytes c s (w .used) _ (length-sessionAt (m .sessions) (f .sessions) s (w .low) (w .high)) (f .sessionForms s (w .low) (w .high))
-
   module _ (n : ℕ) (x : List ℕ) (b : SessionBytes x) (l : n ≤ c .commits) where
     session-formed : Formed c (with m s n x)
     session-formed = record {
-      sessionStudios = f .sessionStudios;
-      sents = f .sents;
-      applieds = f .applieds;
+      control = f .control;
       library = f .library;
       log = f .log;
-      sessions = length-withSession (m .sessions) (f .sessions) s (w .low) (w .high) _ (length-withSequence n x (b .size));
-      studios = f .studios;
-      places = f .places;
-      copies = f .copies;
-      used = f .used;
-      records = f .records;
-      free = f .free;
-      chain = f .chain;
-      sessionForms = sessions-form c (m .sessions) (f .sessions) s (w .low) (w .high) n x b (w .used) l (f .sessionForms);
+      sessions = record {
+        size = length-sessions c (m .sessions) (f .sessions .size) s (w .low) (w .high) n x b;
+        forms = sessions-form c (m .sessions) (f .sessions .size) s (w .low) (w .high) n x b (w .used) l (f .sessions .forms);
+      };
       counts = f .counts;
     }
 
@@ -74,7 +55,7 @@ module _ (c : Control) (m : Memory) (s : ℕ) (w : Rows.Session s (studioOf c s)
       sent = refl;
       applied = refl;
       count = length-set sessions (s - 1) _ ∙ h .count;
-      sessions = sessions-shown c (m .sessions) (f .sessions) s (w .low) (w .high) n x b sessions _ (h .count) (h .sessions);
+      sessions = sessions-shown c (m .sessions) (f .sessions .size) s (w .low) (w .high) n x b sessions _ (h .count) (h .sessions);
       primary = h .primary;
       replicas = h .replicas;
     }
@@ -86,7 +67,7 @@ module _ (c : Control) (m : Memory) (s : ℕ) (w : Rows.Session s (studioOf c s)
     unfolding Bytes.block Bytes.answerFrom numberAfter
     block-keeps behind h =
         by-cond (λ (r : After). OfLayout (r .control) (r .memory)) (leb (sequenceOf (sessionAt (m .sessions) s)) (nth (c .applied) (studioOf c s))) _ _
-        (λ _. of-layout _ _ (session-formed _ x b number-known)) (λ _. h)
+        (λ _. of-layout _ _ (session-formed _ x b (own-sequence c (m .sessions) (f .sessions) s (w .low) (w .high) (w .used)))) (λ _. h)
 
     block-simulates : requestOf x ≡ nothing → (log : List Transaction) (sessions : List Session) → Represents c m (machineOf c log sessions)
         → (behind : After) (waits : Step) → Simulates behind waits
@@ -98,7 +79,7 @@ module _ (c : Control) (m : Memory) (s : ℕ) (w : Rows.Session s (studioOf c s)
         (record {
           answer = ap (λ (z : List ℕ). answered (nth (c .applied) (studioOf c s)) (foundIn z q)) copy;
           output = ap (λ (z : List ℕ). over out 0 (needed q) (shownFrom z q)) copy;
-          next = rw (← e) (session-represents _ x b number-known log sessions h);
+          next = rw (← e) (session-represents _ x b (own-sequence c (m .sessions) (f .sessions) s (w .low) (w .high) (w .used)) log sessions h);
         }) k)
       where
         copy : copyAt (m .library) (studioOf c s) ≡ L log (nth (c .applied) (studioOf c s))
@@ -118,8 +99,8 @@ module _ (c : Control) (m : Memory) (s : ℕ) (request out : List ℕ) where
       rw (memory-passes c m readRowsOf h)
       (unless-by (λ (r : After). OfLayout (r .control) (r .memory)) (stopped readRowsOf) _ _ (λ _. h)
       (λ e. let p = read-passed _ _ _ _ _ e in
-      block-keeps c m s (p .who) f (requestOf request) _ (own-bytes c m s (p .who) f) out _
-      (of-layout _ _ (session-formed c m s (p .who) f _ request (request-bytes request (p .form)) (number-known c m s (p .who) f)))))
+      block-keeps c m s (p .who) f (requestOf request) _ (own-bytes c (m .sessions) (f .sessions) s (p .who .low) (p .who .high) (p .who .used)) out _
+      (of-layout _ _ (session-formed c m s (p .who) f _ request (request-bytes request (p .form)) (own-sequence c (m .sessions) (f .sessions) s (p .who .low) (p .who .high) (p .who .used))))))
     where
       f : Formed c m
       f = formed c m h
@@ -132,11 +113,11 @@ module _ (c : Control) (m : Memory) (s : ℕ) (request out : List ℕ) where
       (unless-both Simulates (stopped readRowsOf) _ _ _ _
       (λ _. record { answer = refl; output = refl; next = h })
       (λ e. let p = read-passed _ _ _ _ _ e in
-      block-simulates c m s (p .who) f (requestOf request) _ (own-bytes c m s (p .who) f) out (p .idle) log sessions h _ _
+      block-simulates c m s (p .who) f (requestOf request) _ (own-bytes c (m .sessions) (f .sessions) s (p .who .low) (p .who .high) (p .who .used)) out (p .idle) log sessions h _ _
       (record {
         answer = refl;
         output = refl;
-        next = session-represents c m s (p .who) f _ request (request-bytes request (p .form)) (number-known c m s (p .who) f) log sessions h;
+        next = session-represents c m s (p .who) f _ request (request-bytes request (p .form)) (own-sequence c (m .sessions) (f .sessions) s (p .who .low) (p .who .high) (p .who .used)) log sessions h;
       })))
     where
       f : Formed c m

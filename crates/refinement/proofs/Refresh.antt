@@ -51,20 +51,20 @@ module _ (c : Control) (m : Memory) (i : ℕ) where
 
     operations : Operations (transactionAfter c (m .log) (nth (c .applied) i))
     unfolding transactionAfter
-    operations = placed-operations (m .log) (c .used) _ (f .log) (f .used) (f .records) (placed (c .commits) (m .log) (firstRecord c) 1 (c .used + 1) (f .chain) _ ready)
+    operations = placed-operations (m .log) (c .used) _ (f .log .size) (f .log .used) (f .log .records) (placed (c .commits) (m .log) (firstRecord c) 1 (c .used + 1) (f .log .chain) _ ready)
 
     copy : Copy (refreshedCopy c m i)
-    copy = actAll-copy _ _ (record { size = length-copyAt (m .library) (f .library) i four; form = copy-in-use (c .studios) i _ (p .who .high) (f .copies i four) }) operations
+    copy = actAll-copy _ _ (record { size = length-copyAt (m .library) (f .library .size) i four; form = copy-in-use (c .studios) i _ (p .who .high) (f .library .copies i four) }) operations
 
     same-copy : copyAt (refreshed c m i .library) i ≡ refreshedCopy c m i
-    same-copy = copy-same (m .library) (f .library) i four _ (copy .size)
+    same-copy = copy-same (m .library) (f .library .size) i four _ (copy .size)
 
     other-copy : (j : ℕ) → j ≢ i → copyAt (refreshed c m i .library) j ≡ copyAt (m .library) j
-    other-copy = copy-other (m .library) (f .library) i four _ (copy .size)
+    other-copy = copy-other (m .library) (f .library .size) i four _ (copy .size)
 
     same-applied : nth (withApplied c i (nth (c .applied) i + 1) .applied) i ≡ nth (c .applied) i + 1
     unfolding withApplied
-    same-applied = let n = f .applieds in let k = four in let w = p .who in getD-set-same (c .applied) (i - 1) _ 0 (omega arith)
+    same-applied = let n = f .control .applied in let k = four in let w = p .who in getD-set-same (c .applied) (i - 1) _ 0 (omega arith)
 
     other-applied : (j : ℕ) → 1 ≤ j → j ≢ i → nth (withApplied c i (nth (c .applied) i + 1) .applied) j ≡ nth (c .applied) j
     unfolding withApplied
@@ -73,26 +73,22 @@ module _ (c : Control) (m : Memory) (i : ℕ) where
     refreshed-formed : Formed (withApplied c i (nth (c .applied) i + 1)) (refreshed c m i)
     unfolding withApplied firstRecord sessionForm studioOf countsForm
     refreshed-formed = record {
-      sessionStudios = f .sessionStudios;
-      sents = f .sents;
-      applieds = length-set (c .applied) (i - 1) _ ∙ f .applieds;
-      library = length-withCopy (m .library) (f .library) i four _ (copy .size);
+      control = record {
+        sessionStudios = f .control .sessionStudios;
+        sent = f .control .sent;
+        applied = length-set (c .applied) (i - 1) _ ∙ f .control .applied;
+        studios = f .control .studios;
+        places = f .control .places;
+      };
+      library = record { size = length-withCopy (m .library) (f .library .size) i four _ (copy .size); copies = λ j g. copies j g (ℕ-discrete j i) };
       log = f .log;
       sessions = f .sessions;
-      studios = f .studios;
-      places = f .places;
-      copies = λ j g. copies j g (ℕ-discrete j i);
-      used = f .used;
-      records = f .records;
-      free = f .free;
-      chain = f .chain;
-      sessionForms = f .sessionForms;
       counts = λ j l g. count j l g (ℕ-discrete j i);
     }
       where
         copies : (j : ℕ) → j ≤ 4 → Dec (j ≡ i) → replicaForm (c .studios) j (copyAt (refreshed c m i .library) j) ≡ true
         copies j g (yes e) = rw (e, same-copy) (studio-copy (c .studios) i _ (p .who .high) (copy .form))
-        copies j g (no ne) = rw (other-copy j ne) (f .copies j g)
+        copies j g (no ne) = rw (other-copy j ne) (f .library .copies j g)
 
         count : (j : ℕ) → 1 ≤ j → j ≤ 4 → Dec (j ≡ i) → countsForm (withApplied c i (nth (c .applied) i + 1)) j ≡ true
         count j l g (yes e) =

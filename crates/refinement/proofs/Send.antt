@@ -31,20 +31,16 @@ module _ (c : Control) (m : Memory) (i : ℕ) where
       → Formed (withSent c i (nth (c .sent) i + 1)) m
   unfolding withSent firstRecord sessionForm studioOf countsForm
   sent-formed f p = record {
-    sessionStudios = f .sessionStudios;
-    sents = length-set (c .sent) (i - 1) (nth (c .sent) i + 1) ∙ f .sents;
-    applieds = f .applieds;
+    control = record {
+      sessionStudios = f .control .sessionStudios;
+      sent = length-set (c .sent) (i - 1) (nth (c .sent) i + 1) ∙ f .control .sent;
+      applied = f .control .applied;
+      studios = f .control .studios;
+      places = f .control .places;
+    };
     library = f .library;
     log = f .log;
     sessions = f .sessions;
-    studios = f .studios;
-    places = f .places;
-    copies = f .copies;
-    used = f .used;
-    records = f .records;
-    free = f .free;
-    chain = f .chain;
-    sessionForms = f .sessionForms;
     counts = λ j l g. count j l g (ℕ-discrete j i);
   }
     where
@@ -56,7 +52,7 @@ module _ (c : Control) (m : Memory) (i : ℕ) where
           let w = p .who in
           let q = few c m f in
           let k = counts-of c i (w .high) (f .counts i (w .low) (omega arith)) in
-          let same : getD (set (c .sent) (i - 1) n) (i - 1) 0 ≡ n = getD-set-same (c .sent) (i - 1) n 0 (let k = f .sents in omega arith) in
+          let same : getD (set (c .sent) (i - 1) n) (i - 1) 0 ≡ n = getD-set-same (c .sent) (i - 1) n 0 (let k = f .control .sent in omega arith) in
           let a : nth (c .applied) i ≤ n = omega arith in
           let b : n ≤ c .commits = let x = p .more in omega arith in
           let d : n - nth (c .applied) i ≤ 32 = let x = p .near in omega arith in

@@ -15,15 +15,16 @@ use Rattle.carts.specs.Cart.{titleForm}
 use Rattle.replication.specs.Memory.{Memory, sessionAt, withSession, sequenceOf, withSequence, nth, studioOf}
 use Rattle.replication.specs.Request.{Request, nothing, numbersIn, requestOf, numbersForm, requestFields, requestForm}
 use Rattle.replication.specs.Layout.{waitingForm, sessionForm}
+use Rattle.replication.specs.Calls.{committed}
 use Rattle.replication.specs.declared.control.Control.{Control}
 use Rattle.machine.specs.Machine.{Session, session, Machine, sessionOf}
 use Rattle.refinement.specs.Represents.{OfLayout, Represents}
-use Rattle.refinement.proofs.Tests.{all-at, all-cons, all-nil}
+use Rattle.refinement.proofs.Tests.{all-at, all-set, all-cons, all-nil}
 use Rattle.refinement.proofs.Parts.{length-over}
 use Rattle.refinement.proofs.Zeros.{zero-part, length-zeros}
 use Rattle.refinement.proofs.Fields.{Head, bytes, by-fields}
-use Rattle.refinement.proofs.Memories.{session-same, session-other}
-use Rattle.refinement.proofs.Formed.{Formed, formed}
+use Rattle.refinement.proofs.Memories.{length-cell, length-cells, cell-same, cell-other}
+use Rattle.refinement.proofs.Formed.{SessionsFormed, formed}
 
 -- 80 bytes of a session in use, but for their sequence number
 pub record SessionBytes (x : List ℕ) : Type 0 where
@@ -49,33 +50,45 @@ module _ (n : ℕ) (x : List ℕ) (l : 16 ≤ length x) where
   unfolding withSequence u16Bytes
   zeros-kept = by-fields (λ x. part (withSequence n x) 4 12 ≡ part x 4 12) 0 (λ h t l. refl) x l
 
-pub length-withSequence : (n : ℕ) (x : List ℕ) → length x ≡ 80 → length (withSequence n x) ≡ 80
+length-withSequence : (n : ℕ) (x : List ℕ) → length x ≡ 80 → length (withSequence n x) ≡ 80
 unfolding withSequence u16Bytes
 length-withSequence n x e = length-over x 2 2 (n % 256 ∷ n / 256 ∷ []) refl (omega arith) ∙ e
 
 -- the form of a session that is in use
-module _ (c : Control) (s : ℕ) (used : studioOf c s ≢ 0) (x : List ℕ) where
-  tests : List Bool
-  tests = leb (sequenceOf x) (c .commits) ∷ allZero (part x 4 12) ∷ waitingForm x ∷ []
+tests : Control → List ℕ → List Bool
+tests c x = leb (sequenceOf x) (c .commits) ∷ allZero (part x 4 12) ∷ waitingForm x ∷ []
 
-  pub session-bytes : length x ≡ 80 → sessionForm c s x ≡ true → SessionBytes x
+module _ (c : Control) (s : ℕ) (used : studioOf c s ≢ 0) (x : List ℕ) where
+  session-bytes : length x ≡ 80 → sessionForm c s x ≡ true → SessionBytes x
   unfolding sessionForm tests
   session-bytes l f =
-      let g : all tests ≡ true = rw (ne-eqb (studioOf c s) 0 used) at f in
-      record { size = l; zero = all-at 1 tests g; form = all-at 2 tests g }
+      let g : all (tests c x) ≡ true = rw (ne-eqb (studioOf c s) 0 used) at f in
+      record { size = l; zero = all-at 1 (tests c x) g; form = all-at 2 (tests c x) g }
 
-  pub sequence-known : sessionForm c s x ≡ true → sequenceOf x ≤ c .commits
+  sequence-known : sessionForm c s x ≡ true → sequenceOf x ≤ c .commits
   unfolding sessionForm tests
   sequence-known f =
-      let g : all tests ≡ true = rw (ne-eqb (studioOf c s) 0 used) at f in
-      leb-true _ _ (all-at 0 tests g)
+      let g : all (tests c x) ≡ true = rw (ne-eqb (studioOf c s) 0 used) at f in
+      leb-true _ _ (all-at 0 (tests c x) g)
 
-  pub session-form : (n : ℕ) → n ≤ c .commits → SessionBytes x → sessionForm c s (withSequence n x) ≡ true
+  session-form : (n : ℕ) → n ≤ c .commits → SessionBytes x → sessionForm c s (withSequence n x) ≡ true
   unfolding sessionForm
   session-form n l b =
       let k = b .size in
       rw (ne-eqb (studioOf c s) 0 used, sequence-set n x (omega arith), zeros-kept n x (omega arith), waiting-kept n x (omega arith))
       (all-cons _ _ (le-leb _ _ l) (all-cons _ _ (b .zero) (all-cons _ _ (b .form) all-nil)))
+
+-- one commit more
+pub session-more : (c : Control) (k s : ℕ) (x : List ℕ) → sessionForm c s x ≡ true → sessionForm (committed c k) s x ≡ true
+unfolding sessionForm committed studioOf tests
+session-more c k s x f = go (eqb (studioOf c s) 0) refl
+  where
+    go : (b : Bool) → eqb (studioOf c s) 0 ≡ b → cond (eqb (studioOf c s) 0) (allZero x) (all (set (tests c x) 0 (leb (sequenceOf x) (c .commits + 1)))) ≡ true
+    go true e = rw e (rw e at f)
+    go false e =
+        let h : all (tests c x) ≡ true = rw e at f in
+        let l : sequenceOf x ≤ c .commits = leb-true _ _ (all-at 0 (tests c x) h) in
+        rw e (all-set 0 (tests c x) _ h (le-leb (sequenceOf x) (c .commits + 1) (omega arith)))
 
 -- a request as handed in, and the bytes of a session that waits for nothing
 request-kind : (s : List ℕ) → requestFields s ≡ true → byte s 0 ≢ 0
@@ -102,13 +115,28 @@ pub empty-request : requestOf (zeros 80) ≡ nothing
 unfolding zeros requestOf
 empty-request = refl
 
+-- the bytes of session s, in use
+module _ (c : Control) (memory : List ℕ) (f : SessionsFormed c memory) (s : ℕ) (s1 : 1 ≤ s) (s16 : s ≤ 16) (used : studioOf c s ≢ 0) where
+  pub own-bytes : SessionBytes (sessionAt memory s)
+  unfolding sessionAt
+  own-bytes = session-bytes c s used _ (length-cell 16 memory (f .size) s s1 s16) (f .forms s s1 s16)
+
+  pub own-sequence : sequenceOf (sessionAt memory s) ≤ c .commits
+  own-sequence = sequence-known c s used _ (f .forms s s1 s16)
+
 -- session s replaced
 module _ (c : Control) (memory : List ℕ) (k : length memory ≡ 1280) (s : ℕ) (s1 : 1 ≤ s) (s16 : s ≤ 16) (n : ℕ) (x : List ℕ) (b : SessionBytes x) where
   same : sessionAt (withSession memory s (withSequence n x)) s ≡ withSequence n x
-  same = session-same memory k s s1 s16 (withSequence n x) (length-withSequence n x (b .size))
+  unfolding sessionAt withSession
+  same = cell-same 16 memory k s s1 s16 (withSequence n x) (length-withSequence n x (b .size))
 
   other : (q : ℕ) → 1 ≤ q → q ≢ s → sessionAt (withSession memory s (withSequence n x)) q ≡ sessionAt memory q
-  other = session-other memory k s s1 s16 (withSequence n x) (length-withSequence n x (b .size))
+  unfolding sessionAt withSession
+  other = cell-other 16 memory k s s1 s16 (withSequence n x) (length-withSequence n x (b .size))
+
+  pub length-sessions : length (withSession memory s (withSequence n x)) ≡ 1280
+  unfolding withSession
+  length-sessions = length-cells 16 memory k s s1 s16 (withSequence n x) (length-withSequence n x (b .size))
 
   -- the sessions keep their form
   pub sessions-form : studioOf c s ≢ 0 → n ≤ c .commits → ((q : ℕ) → 1 ≤ q → q ≤ 16 → sessionForm c q (sessionAt memory q) ≡ true)
@@ -150,6 +178,6 @@ session-of c m M h (suc s) = go (decLe (suc s) 16)
     go (no g) =
         let f = formed c m (h .form) in
         let a : length (M .sessions) ≤ suc s - 1 = let n = h .count in omega arith in
-        let b : length (c .«session_studios») ≤ suc s - 1 = let n = f .sessionStudios in omega arith in
-        let d : length (m .sessions) ≤ 80 * (suc s - 1) = let n = f .sessions in omega arith in
+        let b : length (c .«session_studios») ≤ suc s - 1 = let n = f .control .sessionStudios in omega arith in
+        let d : length (m .sessions) ≤ 80 * (suc s - 1) = let n = f .sessions .size in omega arith in
         rw (List·getD-eq-default (M .sessions) (session 0 0 nothing) a, List·getD-eq-default (c .«session_studios») 0 b, drop-of-length-le (m .sessions) d)

@@ -4,17 +4,17 @@ use mathlib.Core.Bool.{Bool, true, false, cond, not}
 use mathlib.Core.List.{List, [], _∷_, _++_, map}
 use Prim.Native.Nat.{ℕ, zero, suc, _+_, _*_, _-_, _≤_, _<_}
 use native.Mathlib.Omega.{arith}
-use borrow.Author.Tests.{le-leb, eqb-true, not-false}
+use borrow.Author.Tests.{le-leb, eqb-true, eq-eqb, not-false}
 use lib.Dec.{leb, eqb}
 use lib.ListN.{length, drop, getD, length-map, List·getD-map}
 use Rattle.carts.specs.Bytes.{zeros, part, u16, within, all, every, allZero}
 use Rattle.carts.specs.Cart.{cartAt, cartForm, copyForm}
 use Rattle.replication.specs.Answer.{Answer, refused, done}
-use Rattle.replication.specs.Memory.{Memory, copyAt, sessionAt, sequenceOf, nth, studioOf}
+use Rattle.replication.specs.Memory.{Memory, lengthsForm, copyAt, sessionAt, sequenceOf, nth, studioOf}
 use Rattle.replication.specs.Log.{firstRecord, chainForm, freshLog}
 use Rattle.replication.specs.Request.{nothing, requestOf}
 use Rattle.replication.specs.Layout.{replicaForm, waitingForm, sessionForm, countsForm}
-use Rattle.replication.specs.Rows.{Row, stopped, lengthsRow, setupRows}
+use Rattle.replication.specs.Rows.{Row, stopped, unless, lengthsRow, setupRows}
 use Rattle.replication.specs.Calls.{After, controlOf, freshMemory, setup}
 use Rattle.replication.specs.declared.control.Control.{Control}
 use Rattle.machine.specs.Machine.{session, Machine, L, fresh}
@@ -75,21 +75,17 @@ module _ (studios : ℕ) (bytes : List ℕ) (few : within 1 4 studios ≡ true) 
   fresh-formed : Formed (controlOf studios bytes) freshMemory
   unfolding controlOf freshMemory freshLog firstRecord
   fresh-formed = record {
-    sessionStudios = n;
-    sents = length-zeros 4;
-    applieds = length-zeros 4;
-    library = length-zeros 51200;
-    log = length-zeros 40960;
-    sessions = length-zeros 1280;
-    studios = few;
-    places = places;
-    copies = copies;
-    used = omega arith;
-    records = λ r a b. let z : ⊥ = omega arith in absurd z;
-    free = zero-drop (80 * 0) (zeros 40960) (zeros-zero 40960);
-    chain = chain;
-    sessionForms = λ s a b. ap (sessionForm _ s) (zeros-sessionAt s a b) ∙ zeros-session _ s;
-    counts = counts;
+    control = record { sessionStudios = n; sent = length-zeros 4; applied = length-zeros 4; studios = few; places = places };
+    library = record { size = length-zeros 51200; copies = copies };
+    log = record {
+      size = length-zeros 40960;
+      used = omega arith;
+      records = λ r a b. let z : ⊥ = omega arith in absurd z;
+      free = zero-drop (80 * 0) (zeros 40960) (zeros-zero 40960);
+      chain = chain;
+    };
+    sessions = record { size = length-zeros 1280; forms = λ s a b. ap (sessionForm _ s) (zeros-sessionAt s a b) ∙ zeros-session _ s };
+    counts = λ i a b. zeros-counts studios bytes i;
   }
     where
       copies : (i : ℕ) → i ≤ 4 → replicaForm studios i (copyAt (zeros 51200) i) ≡ true
@@ -97,9 +93,6 @@ module _ (studios : ℕ) (bytes : List ℕ) (few : within 1 4 studios ≡ true) 
 
       chain : chainForm 0 (zeros 40960) 0 1 (0 + 1) ≡ true
       chain = no-chain (zeros 40960)
-
-      counts : (i : ℕ) → 1 ≤ i → i ≤ 4 → countsForm (controlOf studios bytes) i ≡ true
-      counts i a b = zeros-counts studios bytes i
 
   fresh-represents : Represents (controlOf studios bytes) freshMemory (fresh studios bytes)
   unfolding controlOf freshMemory freshLog fresh transactionsFrom studioOf
@@ -138,3 +131,9 @@ setup-fresh before studios bytes =
   where
     tests : List Bool
     tests = within 1 4 studios ∷ eqb (length bytes) 16 ∷ every (λ b. leb b studios) bytes ∷ []
+
+-- setup accepts what rows 1 and 15 let pass
+pub setup-accepted : (before : Memory) (studios : ℕ) (bytes : List ℕ) → lengthsForm before ≡ true → within 1 4 studios ≡ true → length bytes ≡ 16
+    → every (λ b. leb b studios) bytes ≡ true → setup before studios bytes .answer ≡ done 0
+unfolding setup setupRows lengthsRow stopped unless all
+setup-accepted before studios bytes lengths few n places = rw (lengths, few, eq-eqb (length bytes) 16 n, places)

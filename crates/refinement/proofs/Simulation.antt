@@ -4,12 +4,14 @@ use mathlib.Core.List.{List, [], _∷_}
 use Rattle.replication.specs.Memory.{Memory}
 use Rattle.replication.specs.Call.{Call, commit, send, refresh, read, collect}
 use Rattle.replication.specs.Calls as Bytes
+use Rattle.replication.specs.Calls.{After}
 use Rattle.replication.specs.declared.control.Control.{Control}
 use Rattle.machine.specs.Machine as Plain
 use Rattle.machine.specs.Machine.{Transaction, Session, Machine}
 use Rattle.machine.specs.OneCopy.{Event, event, history}
 use Rattle.machine.proofs.Events.{events}
 use Rattle.refinement.specs.Represents.{OfLayout, Represents, Simulates}
+use Rattle.refinement.specs.Lists.{afterCalls, machineAfter}
 use Rattle.refinement.proofs.Represented.{machineOf, by-machine}
 use Rattle.refinement.proofs.Send.{send-keeps, send-simulates}
 use Rattle.refinement.proofs.Refresh.{refresh-keeps, refresh-simulates}
@@ -33,7 +35,18 @@ simulates c m M h (refresh i) = by-machine c m (λ M. Simulates (Bytes.refresh c
 simulates c m M h (read s request out) = by-machine c m (λ M. Simulates (Bytes.read c m s request out) (Plain.read M s request out)) (read-simulates c m s request out) M h
 simulates c m M h (collect s out) = by-machine c m (λ M. Simulates (Bytes.collect c m s out) (Plain.collect M s out)) (collect-simulates c m s out) M h
 
--- answers and outputs of a list of calls
+-- a list of calls: what it leaves, and its answers and outputs
+pub layout-after : (H : List Call) (r : After) → OfLayout (r .control) (r .memory) → OfLayout (afterCalls r H .control) (afterCalls r H .memory)
+unfolding afterCalls
+layout-after [] r h = h
+layout-after (x ∷ H) r h = layout-after H (Bytes.call (r .control) (r .memory) x) (keeps-layout (r .control) (r .memory) h x)
+
+pub represents-after : (H : List Call) (r : After) (M : Machine) → Represents (r .control) (r .memory) M
+    → Represents (afterCalls r H .control) (afterCalls r H .memory) (machineAfter M H)
+unfolding afterCalls machineAfter
+represents-after [] r M h = h
+represents-after (x ∷ H) r M h = represents-after H _ _ (simulates (r .control) (r .memory) M h x .next)
+
 pub same-history : (H : List Call) (c : Control) (m : Memory) (M : Machine) → Represents c m M → history c m H ≡ events M H
 unfolding history events
 same-history [] c m M h = refl

@@ -38,6 +38,15 @@ pub all-cons : (b : Bool) (bs : List Bool) → b ≡ true → all bs ≡ true �
 unfolding all
 all-cons b bs h g = rw (h, g)
 
+-- what holds of both sides of a test; and of two calls with one test
+pub by-cond : {A : Type 0} (P : A → Type 0) (b : Bool) (x y : A) → (b ≡ true → P x) → (b ≡ false → P y) → P (cond b x y)
+by-cond P true x y f g = f refl
+by-cond P false x y f g = g refl
+
+pub cond-both : {A B : Type 0} (P : A → B → Type 0) (b : Bool) (x y : A) (u v : B) → P x u → P y v → P (cond b x y) (cond b u v)
+cond-both P true x y u v p q = p
+cond-both P false x y u v p q = q
+
 -- a range
 pub within-low : (a b n : ℕ) → within a b n ≡ true → a ≤ n
 unfolding within
