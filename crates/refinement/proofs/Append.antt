@@ -1,13 +1,12 @@
 -- What a commit writes to the log: the operations in free records, each linked to the next.
-use mathlib.Core.Path.{_≡_, refl, sym, ap, _∙_}
-use mathlib.Core.Logic.{_≢_}
-use mathlib.Core.Bool.{Bool, true, false, cond}
-use mathlib.Core.List.{List, [], _∷_, _++_, map}
-use Prim.Native.Nat.{ℕ, zero, suc, _+_, _*_, _-_, _≤_, _<_, _/_, _%_}
+use mathlib.Core.Path.{_≡_, refl, _∙_}
+use mathlib.Core.Bool.{true}
+use mathlib.Core.List.{List, [], _∷_, map}
+use Prim.Native.Nat.{ℕ, suc, _+_, _*_, _≤_, _<_, _/_, _%_}
 use native.Mathlib.Omega.{arith}
 use native.Mathlib.Decide.{ℕ-discrete}
-use lib.ListN.{length, take, drop, getD}
-use Rattle.carts.specs.Bytes.{zeros, part, over, byte, u16, u32, u16Bytes, allZero}
+use lib.ListN.{length, drop, getD}
+use Rattle.carts.specs.Bytes.{zeros, part, over, u16, u32, u16Bytes, allZero}
 use Rattle.carts.specs.Cart.{hasTitle, noTitle, hasAudio, noAudio}
 use Rattle.carts.specs.Operation.{operationFields}
 use Rattle.replication.specs.Memory.{recordAt, withRecord}

@@ -1,21 +1,19 @@
 -- TABLE on bytes. Document 01's table of twelve holds of the calls on bytes, from the plain machine's table, with no byte computed.
 use mathlib.Core.Path.{_≡_, refl, sym, ap, _∙_}
-use mathlib.Core.List.{List, [], _∷_, _++_}
+use mathlib.Core.List.{List, [], _∷_}
 use Prim.Native.Nat.{ℕ}
 use lib.ListN.{take, drop}
 use Rattle.carts.specs.Bytes.{zeros, u32}
 use Rattle.carts.specs.Cart.{cartAt}
-use Rattle.carts.proofs.Samples.{topHourA, longTitle}
-use Rattle.replication.specs.Answer.{Answer, refused, done, waits, answered}
-use Rattle.replication.specs.Memory.{Memory}
+use Rattle.replication.specs.Answer.{refused, done, waits, answered}
 use Rattle.replication.specs.Log.{firstRecord}
-use Rattle.replication.specs.Call.{Call, commit, send, refresh, read, collect}
-use Rattle.replication.specs.Calls.{After, setup}
-use Rattle.machine.specs.Machine.{Machine, L, call, run, fresh}
-use Rattle.machine.specs.OneCopy.{Event, history}
+use Rattle.replication.specs.Call.{Call, read}
+use Rattle.replication.specs.Calls.{After}
+use Rattle.machine.specs.Machine.{Machine, L, call, run}
+use Rattle.machine.specs.OneCopy.{history}
 use Rattle.machine.proofs.Events.{events}
 use Rattle.machine.proofs.Table as Plain
-use Rattle.machine.proofs.Table.{start, A, askNumber, askTitle, buffer, holding, morning, long, longTitles, oneTitle, Seen, seen, last, table}
+use Rattle.machine.proofs.Table.{start, A, askNumber, buffer, holding, morning, long, longTitles, oneTitle, Seen, seen, last, table}
 use Rattle.refinement.specs.Represents.{transactionsFrom, Represents}
 use Rattle.refinement.specs.Lists.{afterCalls, machineAfter, seenIn}
 use Rattle.refinement.proofs.Simulation.{same-history, represents-after}

@@ -1,22 +1,22 @@
 -- Commit: it keeps the layout, and does what the plain machine's commit does.
 use mathlib.Core.Path.{_≡_, refl, sym, ap, _∙_}
 use mathlib.Core.Logic.{_≢_}
-use mathlib.Core.Bool.{Bool, true, false, cond}
+use mathlib.Core.Bool.{true, false, cond}
 use mathlib.Core.List.{List, [], _∷_, _++_}
-use Prim.Native.Nat.{ℕ, zero, suc, _+_, _*_, _-_, _≤_, _<_, _/_, _%_}
+use Prim.Native.Nat.{ℕ, _+_, _*_, _-_, _≤_, _<_, _/_, _%_}
 use native.Mathlib.Omega.{arith}
 use native.Mathlib.Numerals.{add-one}
 use native.Mathlib.Decide.{ℕ-discrete}
-use borrow.Author.Tests.{leb-true, le-leb, ne-eqb}
-use lib.Dec.{leb, eqb}
+use borrow.Author.Tests.{ne-eqb}
+use lib.Dec.{eqb}
 use lib.ListN.{length, drop, getD, set, length-append, length-set}
 use lib.Seq.{drop-drop, getD-append-seam}
-use Rattle.carts.specs.Bytes.{part, within, all, every, allZero, parts}
+use Rattle.carts.specs.Bytes.{part, within, all, every, allZero}
 use Rattle.carts.specs.Operation.{operationFields, operationForm, operationsOf, actAll}
-use Rattle.replication.specs.Memory.{Memory, copyAt, withCopy, sessionAt, withSession, sequenceOf, withSequence, nth, studioOf}
+use Rattle.replication.specs.Memory.{Memory, copyAt, withCopy, sessionAt, withSession, withSequence, nth, studioOf}
 use Rattle.replication.specs.Log.{firstRecord, chainForm, appended}
 use Rattle.replication.specs.Request.{requestOf}
-use Rattle.replication.specs.Layout.{waitingForm, sessionForm, countsForm, replicaForm}
+use Rattle.replication.specs.Layout.{replicaForm}
 use Rattle.replication.specs.Rows.{Row, stopped, sizeForm, commitRows}
 use Rattle.replication.specs.Calls as Bytes
 use Rattle.replication.specs.Calls.{After, committed}
@@ -24,19 +24,19 @@ use Rattle.replication.specs.declared.control.Control.{Control}
 use Rattle.machine.specs.Machine as Plain
 use Rattle.machine.specs.Machine.{Transaction, Session, session, L, recordsUsed}
 use Rattle.refinement.specs.Represents.{OfLayout, transactionsFrom, Represents, Simulates}
-use Rattle.refinement.proofs.Tests.{all-at, all-set, every-at, within-low, within-high}
+use Rattle.refinement.proofs.Tests.{all-at, every-at, within-low, within-high}
 use Rattle.refinement.proofs.Parts.{length-part, length-parts, parts-at}
 use Rattle.refinement.proofs.Zeros.{zero-drop}
 use Rattle.refinement.proofs.Effect.{Operations, Copy, actAll-copy}
 use Rattle.refinement.proofs.Memories.{length-copyAt, length-withCopy, copy-same, copy-other}
 use Rattle.refinement.proofs.Chains.{records-used}
-use Rattle.refinement.proofs.Append.{Given, Givens}
+use Rattle.refinement.proofs.Append.{Givens}
 use Rattle.refinement.proofs.Grow.{Grown, grown}
 use Rattle.refinement.proofs.Transactions.{L-step, L-append}
 use Rattle.refinement.proofs.Represented.{machineOf, log-length}
 use Rattle.refinement.proofs.Formed.{Formed, formed, of-layout, applied-known, counts-more, studio-copy, copy-in-use}
 use Rattle.refinement.proofs.Rows as Rows
-use Rattle.refinement.proofs.Rows.{memory-passes, unless-by, unless-both, Committable, commit-passed}
+use Rattle.refinement.proofs.Rows.{memory-passes, unless-by, unless-both, commit-passed}
 use Rattle.refinement.proofs.Sessions.{SessionBytes, session-more, own-bytes, length-sessions, sessions-form, sessions-shown, session-of}
 
 -- the operations in the bytes of a commit that rows 5 and 6 let pass

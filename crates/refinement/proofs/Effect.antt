@@ -1,17 +1,16 @@
 -- An operation of form keeps a copy's length and form.
-use mathlib.Core.Path.{_≡_, refl, sym, ap, _∙_}
-use mathlib.Core.Logic.{_≢_}
-use mathlib.Core.Bool.{Bool, true, false, cond, not, _&&_, _||_, false≢true}
+use mathlib.Core.Path.{_≡_, refl, sym, _∙_}
+use mathlib.Core.Bool.{Bool, true, false, cond, _||_, false≢true}
 use mathlib.Core.List.{List, [], _∷_, _++_}
-use Prim.Native.Nat.{ℕ, zero, suc, _+_, _*_, _-_, _≤_, _<_}
+use Prim.Native.Nat.{ℕ, suc, _+_, _-_, _≤_, _<_}
 use native.Mathlib.Omega.{arith}
 use native.Mathlib.Decide.{ℕ-discrete}
 use borrow.Author.Tests.{eq-eqb, not-true}
-use lib.Dec.{leb, eqb}
+use lib.Dec.{eqb}
 use lib.ListN.{length, take, drop, getD, set, length-set}
 use lib.Seq.{take-at, length-take-le}
-use Rattle.carts.specs.Bytes.{zeros, part, over, byte, u16, u32, within, all, allZero, eachPart}
-use Rattle.carts.specs.Cart.{copySize, cartAt, titleForm, hasTitle, noTitle, hasAudio, noAudio, held, heldForm, cartForm, copyForm}
+use Rattle.carts.specs.Bytes.{zeros, part, over, byte, u16, u32, within, allZero}
+use Rattle.carts.specs.Cart.{cartAt, hasTitle, noTitle, hasAudio, noAudio, held, heldForm, cartForm, copyForm}
 use Rattle.carts.specs.Operation.{isNew, isRetitle, isRecut, isWithdraw, operationFields, made, retitled, recut, withdrawn, meetsCart, effect, actedOn, act, actAll}
 use Rattle.refinement.proofs.Tests.{by-cond, all-at, all-set, all-cons, all-nil, within-low, within-high}
 use Rattle.refinement.proofs.Parts.{length-part, length-over, each-at, at-each}

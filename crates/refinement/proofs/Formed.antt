@@ -1,10 +1,10 @@
 -- The layout taken apart: each of its tests read part by part, and put together again.
-use mathlib.Core.Path.{_≡_, refl, sym, ap, _∙_}
-use mathlib.Core.Bool.{Bool, true, false, cond}
+use mathlib.Core.Path.{_≡_, refl}
+use mathlib.Core.Bool.{Bool, true, false}
 use mathlib.Core.List.{List, [], _∷_}
-use Prim.Native.Nat.{ℕ, zero, suc, _+_, _*_, _-_, _≤_, _<_}
+use Prim.Native.Nat.{ℕ, zero, suc, _+_, _*_, _-_, _≤_}
 use native.Mathlib.Omega.{arith}
-use borrow.Author.Tests.{leb-true, le-leb, leb-false, eqb-true, eq-eqb}
+use borrow.Author.Tests.{leb-true, le-leb, eqb-true, eq-eqb}
 use lib.Dec.{leb, eqb}
 use lib.ListN.{length, drop, getD}
 use Rattle.carts.specs.Bytes.{part, within, all, every, allZero, eachPart}
@@ -16,7 +16,7 @@ use Rattle.replication.specs.Layout.{replicaForm, recordForm, sessionForm, coun
 use Rattle.replication.specs.Calls.{committed}
 use Rattle.replication.specs.declared.control.Control.{Control}
 use Rattle.refinement.specs.Represents.{OfLayout}
-use Rattle.refinement.proofs.Tests.{all-at, all-set, all-cons, all-nil, every-at, at-every, within-low, within-high}
+use Rattle.refinement.proofs.Tests.{all-at, all-set, all-cons, all-nil, every-at, within-high}
 use Rattle.refinement.proofs.Parts.{each-at, at-each}
 
 -- control: the lengths of its arrays, S, and the sessions' studios

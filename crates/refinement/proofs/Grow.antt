@@ -1,7 +1,7 @@
 -- The log with a transaction more: its chains, and the transactions that are read off it.
 use mathlib.Core.Path.{_≡_, refl, sym, ap, _∙_}
 use mathlib.Core.Logic.{_≢_}
-use mathlib.Core.Bool.{Bool, true, false, cond}
+use mathlib.Core.Bool.{true, false, cond}
 use mathlib.Core.List.{List, [], _∷_, _++_, map}
 use Prim.Native.Nat.{ℕ, zero, suc, _+_, _*_, _-_, _≤_, _<_}
 use native.Mathlib.Omega.{arith}
@@ -9,7 +9,7 @@ use native.Mathlib.Decide.{ℕ-discrete, decLe}
 use borrow.Author.Tests.{eqb-true, eq-eqb, ne-eqb}
 use lib.Dec.{eqb}
 use lib.ListN.{length, drop}
-use Rattle.carts.specs.Bytes.{u16, all}
+use Rattle.carts.specs.Bytes.{u16}
 use Rattle.carts.specs.Operation.{operationFields}
 use Rattle.replication.specs.Memory.{recordAt, withRecord}
 use Rattle.replication.specs.Log.{nextOperation, nextTransaction, recordsOf, transactionAt, walk, firstRecord, upFrom, chainForm, freeRecords, front, writeAll, linked, appended}

@@ -1,19 +1,15 @@
 -- Read and collect: they keep the layout, and do what the plain machine's do.
 use mathlib.Core.Path.{_≡_, refl, sym, ap, _∙_}
-use mathlib.Core.Logic.{_≢_}
-use mathlib.Core.Bool.{Bool, true, false, cond}
-use mathlib.Core.List.{List, [], _∷_, _++_}
-use Prim.Native.Nat.{ℕ, zero, suc, _+_, _-_, _≤_, _<_}
+use mathlib.Core.List.{List}
+use Prim.Native.Nat.{ℕ, _-_, _≤_}
 use native.Mathlib.Omega.{arith}
 use lib.Dec.{leb}
-use lib.ListN.{length, getD, set, length-set}
+use lib.ListN.{length, set, length-set}
 use lib.Seq.{set-getD}
 use Rattle.carts.specs.Bytes.{zeros, over}
-use Rattle.replication.specs.Answer.{Answer, answered}
+use Rattle.replication.specs.Answer.{answered}
 use Rattle.replication.specs.Memory.{Memory, copyAt, sessionAt, withSession, sequenceOf, withSequence, nth, studioOf}
-use Rattle.replication.specs.Log.{firstRecord}
 use Rattle.replication.specs.Request.{Request, nothing, requestOf, needed, foundIn, shownFrom}
-use Rattle.replication.specs.Layout.{sessionForm}
 use Rattle.replication.specs.Rows.{Row, stopped, readRows, collectRows}
 use Rattle.replication.specs.Calls as Bytes
 use Rattle.replication.specs.Calls.{After, withSessions, numberAfter}
@@ -25,7 +21,7 @@ use Rattle.refinement.proofs.Tests.{by-cond, cond-both}
 use Rattle.refinement.proofs.Represented.{machineOf}
 use Rattle.refinement.proofs.Formed.{Formed, formed, of-layout, few, studio-known}
 use Rattle.refinement.proofs.Rows as Rows
-use Rattle.refinement.proofs.Rows.{memory-passes, unless-by, unless-both, Readable, read-passed, collect-passed}
+use Rattle.refinement.proofs.Rows.{memory-passes, unless-by, unless-both, read-passed, collect-passed}
 use Rattle.refinement.proofs.Sessions.{SessionBytes, request-bytes, empty-bytes, empty-request, own-bytes, own-sequence, length-sessions, sessions-form, sessions-shown, session-of}
 
 -- memory with other bytes of session s

@@ -1,12 +1,12 @@
 -- Refresh: it keeps the layout, and does what the plain machine's refresh does.
 use mathlib.Core.Path.{_≡_, refl, sym, ap, _∙_}
 use mathlib.Core.Logic.{_≢_}
-use mathlib.Core.Bool.{Bool, true, false, cond}
-use mathlib.Core.List.{List, [], _∷_, _++_, map}
-use Prim.Native.Nat.{ℕ, zero, suc, _+_, _-_, _≤_, _<_}
+use mathlib.Core.Bool.{true}
+use mathlib.Core.List.{List, [], map}
+use Prim.Native.Nat.{ℕ, _+_, _-_, _≤_, _<_}
 use native.Mathlib.Omega.{arith}
 use native.Mathlib.Decide.{ℕ-discrete}
-use lib.ListN.{length, getD, set, length-set}
+use lib.ListN.{length, getD, length-set}
 use lib.Seq.{getD-set-same, getD-set-other}
 use Rattle.carts.specs.Operation.{actAll}
 use Rattle.replication.specs.Memory.{Memory, copyAt, withCopy, nth, studioOf}
@@ -23,7 +23,7 @@ use Rattle.refinement.proofs.Effect.{Operations, sizes, Copy, actAll-co
 use Rattle.refinement.proofs.Memories.{length-copyAt, length-withCopy, copy-same, copy-other}
 use Rattle.refinement.proofs.Chains.{placed, placed-operations}
 use Rattle.refinement.proofs.Transactions.{length-transactions, transactions-at, handed-actAll, L-step}
-use Rattle.refinement.proofs.Represented.{machineOf, log-length}
+use Rattle.refinement.proofs.Represented.{machineOf}
 use Rattle.refinement.proofs.Formed.{Formed, formed, of-layout, Counts, counts-of, of-counts, few, studio-copy, copy-in-use}
 use Rattle.refinement.proofs.Rows.{memory-passes, unless-by, unless-both, Refreshable, refresh-passed}
 

@@ -1,14 +1,12 @@
 -- The machine that bytes stand for, with the fields that control gives it.
-use mathlib.Core.Path.{_≡_, refl, sym, ap, _∙_, subst}
-use mathlib.Core.List.{List, [], _∷_}
-use Prim.Native.Nat.{ℕ, zero, suc, _+_, _*_, _-_, _≤_, _<_}
-use native.Mathlib.Omega.{arith}
+use mathlib.Core.Path.{_≡_, ap, _∙_, subst}
+use mathlib.Core.List.{List}
 use lib.ListN.{length}
-use Rattle.replication.specs.Memory.{Memory, studioOf}
+use Rattle.replication.specs.Memory.{Memory}
 use Rattle.replication.specs.Log.{firstRecord}
 use Rattle.replication.specs.declared.control.Control.{Control}
 use Rattle.machine.specs.Machine.{Transaction, Session, Machine}
-use Rattle.refinement.specs.Represents.{OfLayout, transactionsFrom, Represents}
+use Rattle.refinement.specs.Represents.{Represents}
 use Rattle.refinement.proofs.Transactions.{length-transactions}
 
 abbrev pub machineOf : Control → List Transaction → List Session → Machine

@@ -1,22 +1,22 @@
 -- What the rows of each call say when none of them stops it.
-use mathlib.Core.Path.{_≡_, refl, sym, ap, _∙_}
+use mathlib.Core.Path.{_≡_, refl, sym}
 use mathlib.Core.Logic.{_≢_}
-use mathlib.Core.Bool.{Bool, true, false, cond, not, _&&_, _||_, false≢true}
-use mathlib.Core.List.{List, [], _∷_, _++_}
+use mathlib.Core.Bool.{Bool, true, false, not, _||_, false≢true}
+use mathlib.Core.List.{List, _∷_, _++_}
 use Prim.Native.Nat.{ℕ, zero, suc, _+_, _-_, _≤_}
 use native.Mathlib.Omega.{arith}
-use borrow.Author.Tests.{leb-true, eqb-true, eqb-false, not-false, ltb-false}
-use lib.Dec.{leb, ltb, eqb}
+use borrow.Author.Tests.{eqb-false, not-false, ltb-false}
+use lib.Dec.{ltb, eqb}
 use lib.ListN.{length}
 use Rattle.carts.specs.Bytes.{within, every}
-use Rattle.carts.specs.Operation.{operationForm, operationsOf, meetsAll}
+use Rattle.carts.specs.Operation.{operationForm, operationsOf}
 use Rattle.replication.specs.Memory.{Memory}
 use Rattle.replication.specs.Log.{noRoom}
-use Rattle.replication.specs.Request.{Request, nothing, byNumbers, byTitle, requestOf, requestForm, isWaiting, needed}
+use Rattle.replication.specs.Request.{Request, nothing, byNumbers, byTitle, requestForm, isWaiting}
 use Rattle.replication.specs.Rows.{Row, row, stopped, unless, lengthsRow, memoryRows, sessionRow, studioRow, sizeForm, commitRows, sendRows, refreshRows, readRows, collectRows}
 use Rattle.replication.specs.declared.control.Control.{Control}
 use Rattle.refinement.specs.Represents.{OfLayout}
-use Rattle.refinement.proofs.Tests.{and-left, and-right, within-low, within-high}
+use Rattle.refinement.proofs.Tests.{within-low, within-high}
 
 -- rows 1 and 2 let a call pass
 pub memory-passes : (c : Control) (m : Memory) (rs : List Row) → OfLayout c m → stopped (memoryRows c m ++ rs) ≡ stopped rs

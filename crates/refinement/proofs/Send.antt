@@ -1,12 +1,11 @@
 -- Send: it keeps the layout, and does what the plain machine's send does.
-use mathlib.Core.Path.{_≡_, refl, sym, ap, _∙_}
-use mathlib.Core.Logic.{_≢_}
-use mathlib.Core.Bool.{Bool, true, false, cond}
-use mathlib.Core.List.{List, [], _∷_, _++_}
-use Prim.Native.Nat.{ℕ, zero, suc, _+_, _-_, _≤_, _<_}
+use mathlib.Core.Path.{_≡_, refl, _∙_}
+use mathlib.Core.Bool.{true}
+use mathlib.Core.List.{List}
+use Prim.Native.Nat.{ℕ, _+_, _-_, _≤_}
 use native.Mathlib.Omega.{arith}
 use native.Mathlib.Decide.{ℕ-discrete}
-use lib.ListN.{length, getD, set, length-set}
+use lib.ListN.{getD, set, length-set}
 use lib.Seq.{getD-set-same, getD-set-other}
 use Rattle.replication.specs.Memory.{Memory, nth, studioOf}
 use Rattle.replication.specs.Log.{firstRecord}
@@ -17,9 +16,9 @@ use Rattle.replication.specs.Calls.{After, withSent}
 use Rattle.replication.specs.declared.control.Control.{Control}
 use Rattle.machine.specs.Machine as Plain
 use Rattle.machine.specs.Machine.{Transaction, Session}
-use Rattle.refinement.specs.Represents.{OfLayout, transactionsFrom, Represents, Simulates}
+use Rattle.refinement.specs.Represents.{OfLayout, Represents, Simulates}
 use Rattle.refinement.proofs.Represented.{machineOf, log-length}
-use Rattle.refinement.proofs.Formed.{Formed, formed, of-layout, Counts, counts-of, of-counts, few}
+use Rattle.refinement.proofs.Formed.{Formed, formed, of-layout, counts-of, of-counts, few}
 use Rattle.refinement.proofs.Rows.{memory-passes, unless-by, unless-both, Sendable, send-passed}
 
 module _ (c : Control) (m : Memory) (i : ℕ) where

@@ -1,28 +1,27 @@
 -- Sessions: their bytes with another sequence number, and one of them replaced in memory and in the plain machine.
-use mathlib.Core.Path.{_≡_, refl, sym, ap, _∙_}
+use mathlib.Core.Path.{_≡_, refl, _∙_}
 use mathlib.Core.Logic.{_≢_}
 use mathlib.Core.Bool.{Bool, true, false, cond, false≢true}
-use mathlib.Core.List.{List, [], _∷_, _++_}
-use Prim.Native.Nat.{ℕ, zero, suc, _+_, _*_, _-_, _≤_, _<_, _/_, _%_}
+use mathlib.Core.List.{List, [], _∷_}
+use Prim.Native.Nat.{ℕ, zero, suc, _+_, _*_, _-_, _≤_, _/_, _%_}
 use native.Mathlib.Omega.{arith}
 use native.Mathlib.Decide.{ℕ-discrete, decLe}
-use borrow.Author.Tests.{leb-true, le-leb, eqb-true, eq-eqb, ne-eqb}
+use borrow.Author.Tests.{leb-true, le-leb, eqb-true, ne-eqb}
 use lib.Dec.{leb, eqb}
-use lib.ListN.{length, take, drop, getD, set, List·getD-eq-default, drop-of-length-le}
+use lib.ListN.{length, getD, set, List·getD-eq-default, drop-of-length-le}
 use lib.Seq.{getD-set-same, getD-set-other}
-use Rattle.carts.specs.Bytes.{zeros, part, over, byte, u16, u16Bytes, u16s, within, all, every, allZero}
-use Rattle.carts.specs.Cart.{titleForm}
-use Rattle.replication.specs.Memory.{Memory, sessionAt, withSession, sequenceOf, withSequence, nth, studioOf}
-use Rattle.replication.specs.Request.{Request, nothing, numbersIn, requestOf, numbersForm, requestFields, requestForm}
+use Rattle.carts.specs.Bytes.{zeros, part, byte, u16, u16Bytes, all, every, allZero}
+use Rattle.replication.specs.Memory.{Memory, sessionAt, withSession, sequenceOf, withSequence, studioOf}
+use Rattle.replication.specs.Request.{nothing, numbersIn, requestOf, numbersForm, requestFields, requestForm}
 use Rattle.replication.specs.Layout.{waitingForm, sessionForm}
 use Rattle.replication.specs.Calls.{committed}
 use Rattle.replication.specs.declared.control.Control.{Control}
 use Rattle.machine.specs.Machine.{Session, session, Machine, sessionOf}
-use Rattle.refinement.specs.Represents.{OfLayout, Represents}
+use Rattle.refinement.specs.Represents.{Represents}
 use Rattle.refinement.proofs.Tests.{all-at, all-set, all-cons, all-nil}
 use Rattle.refinement.proofs.Parts.{length-over}
-use Rattle.refinement.proofs.Zeros.{zero-part, length-zeros}
-use Rattle.refinement.proofs.Fields.{Head, bytes, by-fields}
+use Rattle.refinement.proofs.Zeros.{zero-part}
+use Rattle.refinement.proofs.Fields.{bytes, by-fields}
 use Rattle.refinement.proofs.Memories.{length-cell, length-cells, cell-same, cell-other}
 use Rattle.refinement.proofs.Formed.{SessionsFormed, formed}
 

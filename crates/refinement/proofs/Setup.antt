@@ -1,31 +1,31 @@
 -- An accepted setup leaves bytes that stand for the plain machine's fresh state. That fresh memory is zeros is used here only.
 use mathlib.Core.Path.{_≡_, refl, sym, ap, _∙_}
-use mathlib.Core.Bool.{Bool, true, false, cond, not}
-use mathlib.Core.List.{List, [], _∷_, _++_, map}
-use Prim.Native.Nat.{ℕ, zero, suc, _+_, _*_, _-_, _≤_, _<_}
+use mathlib.Core.Bool.{Bool, true, false, cond}
+use mathlib.Core.List.{List, [], _∷_}
+use Prim.Native.Nat.{ℕ, zero, _+_, _*_, _-_, _≤_}
 use native.Mathlib.Omega.{arith}
 use borrow.Author.Tests.{le-leb, eqb-true, eq-eqb, not-false}
 use lib.Dec.{leb, eqb}
-use lib.ListN.{length, drop, getD, length-map, List·getD-map}
-use Rattle.carts.specs.Bytes.{zeros, part, u16, within, all, every, allZero}
-use Rattle.carts.specs.Cart.{cartAt, cartForm, copyForm}
-use Rattle.replication.specs.Answer.{Answer, refused, done}
-use Rattle.replication.specs.Memory.{Memory, lengthsForm, copyAt, sessionAt, sequenceOf, nth, studioOf}
+use lib.ListN.{length, length-map, List·getD-map}
+use Rattle.carts.specs.Bytes.{zeros, u16, within, all, every}
+use Rattle.carts.specs.Cart.{cartAt}
+use Rattle.replication.specs.Answer.{done}
+use Rattle.replication.specs.Memory.{Memory, lengthsForm, copyAt, sessionAt, sequenceOf, studioOf}
 use Rattle.replication.specs.Log.{firstRecord, chainForm, freshLog}
 use Rattle.replication.specs.Request.{nothing, requestOf}
-use Rattle.replication.specs.Layout.{replicaForm, waitingForm, sessionForm, countsForm}
-use Rattle.replication.specs.Rows.{Row, stopped, unless, lengthsRow, setupRows}
+use Rattle.replication.specs.Layout.{replicaForm, sessionForm, countsForm}
+use Rattle.replication.specs.Rows.{stopped, unless, lengthsRow, setupRows}
 use Rattle.replication.specs.Calls.{After, controlOf, freshMemory, setup}
 use Rattle.replication.specs.declared.control.Control.{Control}
-use Rattle.machine.specs.Machine.{session, Machine, L, fresh}
-use Rattle.refinement.specs.Represents.{OfLayout, transactionsFrom, Represents}
+use Rattle.machine.specs.Machine.{session, fresh}
+use Rattle.refinement.specs.Represents.{transactionsFrom, Represents}
 use Rattle.refinement.proofs.Tests.{all-at, all-cons, all-nil, within-low, within-high}
 use Rattle.refinement.proofs.Zeros.{length-zeros, zeros-zero, part-zeros, nth-zeros, zero-drop}
 use Rattle.refinement.proofs.Effect.{Copy, copy-of, zeros-cart}
 use Rattle.refinement.proofs.Transactions.{L-nil}
 use Rattle.refinement.proofs.Formed.{Formed, of-layout}
 use Rattle.refinement.proofs.Rows.{unless-by, passed}
-use Rattle.refinement.proofs.Sessions.{SessionBytes, empty-bytes, empty-request}
+use Rattle.refinement.proofs.Sessions.{empty-bytes, empty-request}
 
 -- copies, carts and sessions of zeros
 zeros-copyAt : (i : ℕ) → i ≤ 4 → copyAt (zeros 51200) i ≡ zeros 10240

@@ -1,5 +1,5 @@
 -- Every call keeps the layout and does what the plain machine's call does, and so does every list of calls.
-use mathlib.Core.Path.{_≡_, refl, sym, ap, _∙_}
+use mathlib.Core.Path.{_≡_, refl, ap}
 use mathlib.Core.List.{List, [], _∷_}
 use Rattle.replication.specs.Memory.{Memory}
 use Rattle.replication.specs.Call.{Call, commit, send, refresh, read, collect}
@@ -7,12 +7,12 @@ use Rattle.replication.specs.Calls as Bytes
 use Rattle.replication.specs.Calls.{After}
 use Rattle.replication.specs.declared.control.Control.{Control}
 use Rattle.machine.specs.Machine as Plain
-use Rattle.machine.specs.Machine.{Transaction, Session, Machine}
+use Rattle.machine.specs.Machine.{Machine}
 use Rattle.machine.specs.OneCopy.{Event, event, history}
 use Rattle.machine.proofs.Events.{events}
 use Rattle.refinement.specs.Represents.{OfLayout, Represents, Simulates}
 use Rattle.refinement.specs.Lists.{afterCalls, machineAfter}
-use Rattle.refinement.proofs.Represented.{machineOf, by-machine}
+use Rattle.refinement.proofs.Represented.{by-machine}
 use Rattle.refinement.proofs.Send.{send-keeps, send-simulates}
 use Rattle.refinement.proofs.Refresh.{refresh-keeps, refresh-simulates}
 use Rattle.refinement.proofs.Read.{read-keeps, read-simulates, collect-keeps, collect-simulates}

@@ -1,18 +1,17 @@
 -- The transactions read off the log along its chains, and the library that a list of transactions makes.
-use mathlib.Core.Path.{_≡_, refl, sym, ap, _∙_}
+use mathlib.Core.Path.{_≡_, refl, ap, _∙_}
 use mathlib.Core.List.{List, [], _∷_, _++_, map}
-use Prim.Native.Nat.{ℕ, zero, suc, _+_, _-_, _≤_, _<_}
+use Prim.Native.Nat.{ℕ, zero, suc, _+_, _≤_, _<_}
 use native.Mathlib.Omega.{arith}
 use native.Mathlib.Numerals.{add-one}
 use lib.ListN.{length, take, getD}
 use lib.Seq.{take-suc, take-append-le, take-nil}
 use Rattle.carts.specs.Bytes.{zeros, u16}
-use Rattle.carts.specs.Operation.{made, retitled, recut, withdrawn, meetsCart, effect, actedOn, act, actAll}
-use Rattle.replication.specs.Memory.{recordAt}
+use Rattle.carts.specs.Operation.{made, retitled, recut, meetsCart, effect, actedOn, act, actAll}
 use Rattle.replication.specs.Log.{nextTransaction, transactionAt, walk}
 use Rattle.machine.specs.Machine.{Transaction, replay, L}
 use Rattle.refinement.specs.Represents.{handedIn, transactionsFrom}
-use Rattle.refinement.proofs.Fields.{Head, bytes, by-fields}
+use Rattle.refinement.proofs.Fields.{by-fields}
 
 pub length-transactions : (n : ℕ) (log : List ℕ) (r : ℕ) → length (transactionsFrom n log r) ≡ n
 unfolding transactionsFrom
