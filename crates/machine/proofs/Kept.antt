@@ -1,0 +1,75 @@
+-- Every call, whatever its arguments, keeps the machine sound.
+use Prim.Native.Nat.{ℕ, _-_, _≤_, max}
+use native.Mathlib.Omega.{arith}
+use mathlib.Core.List.{List}
+use lib.ListN.{length}
+use Rattle.carts.specs.Operation.{operationsOf}
+use Rattle.replication.specs.Memory.{nth}
+use Rattle.replication.specs.Request.{Request, requestOf}
+use Rattle.replication.specs.Call as Call
+use Rattle.replication.specs.Calls.{numberAfter}
+use Rattle.machine.specs.Machine.{Machine, Step, sessionOf, L, recordsUsed, refusedCommit, commit, send, refresh, answerFrom, block, wait, read, collect, call}
+use Rattle.machine.proofs.Sort.{length-snoc}
+use Rattle.machine.proofs.Cases.{unless-case, block-case}
+use Rattle.machine.proofs.Lengths.{Askable, operations-formed, request-askable}
+use Rattle.machine.proofs.Accepted.{commit-accepted, send-accepted, refresh-accepted, read-accepted}
+use Rattle.machine.proofs.Sound.{Sound, applied-commits, with-session, with-transaction, with-sent, with-applied}
+
+-- an answered read leaves no number above both the old one and the state that it showed
+number-after : (n k : ℕ) → numberAfter n k ≤ max n k
+unfolding numberAfter
+number-after n k = omega arith
+
+module _ (m : Machine) (f : Sound m) where
+  abbrev Keeps : Step → Type 0
+  Keeps r = Sound (r .next)
+
+  keeps-commit : (s : ℕ) (bytes : List ℕ) → Keeps (commit m s bytes)
+  unfolding commit refusedCommit
+  keeps-commit s bytes = unless-case Keeps _ _ _ (λ k e. f) (λ e.
+      let a = commit-accepted s (sessionOf m s .studio) (sessionOf m s .waiting) (recordsUsed (m .log)) (L (m .log) (length (m .log))) bytes e in
+      with-session _ (with-transaction m f (operationsOf bytes) (operations-formed bytes (a .form))) s _
+      (rw (length-snoc (m .log) (operationsOf bytes)) (omega (arith, f .number-le (s - 1))))
+      (f .askable (s - 1)))
+
+  keeps-send : (i : ℕ) → Keeps (send m i)
+  unfolding send
+  keeps-send i = unless-case Keeps _ _ _ (λ k e. f) (λ e.
+      let a = send-accepted (m .studios) i (nth (m .sent) i) (nth (m .applied) i) (length (m .log)) e in
+      with-sent m f (i - 1) _ (omega (arith, f .applied-le (i - 1))) (omega (arith, f .sent-le (i - 1), a .unsent)))
+
+  keeps-refresh : (i : ℕ) → Keeps (refresh m i)
+  unfolding refresh
+  keeps-refresh i = unless-case Keeps _ _ _ (λ k e. f) (λ e.
+      let a = refresh-accepted (m .studios) i (nth (m .sent) i) (nth (m .applied) i) e in
+      with-applied m f (i - 1) _ (omega (arith, f .applied-le (i - 1), a .behind)))
+
+  -- a read answered with a state not above commits, one that waits, and the choice between them
+  keeps-answer : (state : ℕ) (q : Request) (s : ℕ) (out : List ℕ) → state ≤ length (m .log) → Keeps (answerFrom state q m s out)
+  unfolding answerFrom
+  keeps-answer state q s out u = with-session m f s _ (omega (arith, number-after (sessionOf m s .number) state, f .number-le (s - 1))) tt
+
+  keeps-wait : (q : Request) (s : ℕ) (out : List ℕ) → Askable q → Keeps (wait m s q out)
+  unfolding wait
+  keeps-wait q s out a = with-session m f s _ (f .number-le (s - 1)) a
+
+  keeps-block : (s : ℕ) (q : Request) (behind : Step) (out : List ℕ) → Keeps behind → Keeps (block m s q behind out)
+  keeps-block s q behind out h = block-case Keeps m s q behind out (λ u. keeps-answer _ q s out (applied-commits m f _)) (λ u. h)
+
+  keeps-read : (s : ℕ) (request out : List ℕ) → Keeps (read m s request out)
+  unfolding read
+  keeps-read s request out = unless-case Keeps _ _ _ (λ k e. f) (λ e.
+      let a = read-accepted s (sessionOf m s .studio) (sessionOf m s .waiting) request (length out) e in
+      keeps-block s _ _ out (keeps-wait (requestOf request) s out (request-askable request (a .form))))
+
+  keeps-collect : (s : ℕ) (out : List ℕ) → Keeps (collect m s out)
+  unfolding collect
+  keeps-collect s out = unless-case Keeps _ _ _ (λ k e. f) (λ e. keeps-block s _ _ out (keeps-wait _ s out (f .askable _)))
+
+  pub keeps : (x : Call.Call) → Sound (call m x .next)
+  unfolding call
+  keeps (Call.commit s bytes) = keeps-commit s bytes
+  keeps (Call.send i) = keeps-send i
+  keeps (Call.refresh i) = keeps-refresh i
+  keeps (Call.read s request out) = keeps-read s request out
+  keeps (Call.collect s out) = keeps-collect s out

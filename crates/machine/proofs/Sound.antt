@@ -1,0 +1,98 @@
+-- What is true of the machine after every list of calls, and the changes that keep it so.
+use Prim.Native.Nat.{ℕ, zero, suc, _-_, _≤_}
+use native.Mathlib.Omega.{arith}
+use mathlib.Core.Path.{_≡_, refl, _∙_}
+use mathlib.Core.List.{List, [], _∷_, _++_, map}
+use lib.ListN.{length, getD, set, length-set, length-map, List·getD-map}
+use Rattle.carts.specs.Bytes.{zeros}
+use Rattle.replication.specs.Memory.{sessionCount, studioCount}
+use Rattle.replication.specs.Request.{nothing}
+use Rattle.machine.specs.Machine.{Machine, Session, session, Transaction, withSession, fresh}
+use Rattle.machine.proofs.Sort.{All, all-snoc, length-snoc}
+use Rattle.machine.proofs.Updates.{set-either}
+use Rattle.machine.proofs.Lengths.{Formed, Askable}
+
+-- a session by its place in the list, counted from 0
+abbrev pub sessionAt : List Session → ℕ → Session
+sessionAt l k = getD l k (session 0 0 nothing)
+
+pub record Sound (m : Machine) : Type 0 where
+  pub sixteen : length (m .sessions) ≡ sessionCount
+  -- applied ≤ sent ≤ commits, and no session's number is above commits
+  pub applied-le : (k : ℕ) → getD (m .applied) k 0 ≤ getD (m .sent) k 0
+  pub sent-le : (k : ℕ) → getD (m .sent) k 0 ≤ length (m .log)
+  pub number-le : (k : ℕ) → sessionAt (m .sessions) k .number ≤ length (m .log)
+  -- the log and the waiting reads are of form
+  pub formed : All (All Formed) (m .log)
+  pub askable : (k : ℕ) → Askable (sessionAt (m .sessions) k .waiting)
+
+pub applied-commits : (m : Machine) → Sound m → (k : ℕ) → getD (m .applied) k 0 ≤ length (m .log)
+applied-commits m f k = omega (arith, f .applied-le k, f .sent-le k)
+
+module _ (m : Machine) (f : Sound m) where
+  -- a session changed
+  pub with-session : (s : ℕ) (x : Session) → x .number ≤ length (m .log) → Askable (x .waiting) → Sound (withSession m s x)
+  with-session s x u a = record {
+    sixteen = length-set (m .sessions) (s - 1) x ∙ f .sixteen;
+    applied-le = f .applied-le;
+    sent-le = f .sent-le;
+    number-le = λ k. set-either (λ (y : Session). y .number ≤ length (m .log)) (m .sessions) (s - 1) x _ k (λ e. u) (f .number-le k);
+    formed = f .formed;
+    askable = λ k. set-either (λ (y : Session). Askable (y .waiting)) (m .sessions) (s - 1) x _ k (λ e. a) (f .askable k);
+  }
+
+  -- a transaction appended
+  pub with-transaction : (t : Transaction) → All Formed t
+      → Sound (record { studios = m .studios; log = m .log ++ (t ∷ []); sent = m .sent; applied = m .applied; sessions = m .sessions })
+  with-transaction t h = record {
+    sixteen = f .sixteen;
+    applied-le = f .applied-le;
+    sent-le = λ k. rw (length-snoc (m .log) t) (omega (arith, f .sent-le k));
+    number-le = λ k. rw (length-snoc (m .log) t) (omega (arith, f .number-le k));
+    formed = all-snoc (All Formed) (m .log) t (f .formed) h;
+    askable = f .askable;
+  }
+
+  -- a studio's sent and its applied changed
+  pub with-sent : (p n : ℕ) → getD (m .applied) p 0 ≤ n → n ≤ length (m .log)
+      → Sound (record { studios = m .studios; log = m .log; sent = set (m .sent) p n; applied = m .applied; sessions = m .sessions })
+  with-sent p n u v = record {
+    sixteen = f .sixteen;
+    applied-le = λ k. set-either (λ x. getD (m .applied) k 0 ≤ x) (m .sent) p n 0 k (λ e. rw e u) (f .applied-le k);
+    sent-le = λ k. set-either (λ x. x ≤ length (m .log)) (m .sent) p n 0 k (λ e. v) (f .sent-le k);
+    number-le = f .number-le;
+    formed = f .formed;
+    askable = f .askable;
+  }
+
+  pub with-applied : (p n : ℕ) → n ≤ getD (m .sent) p 0
+      → Sound (record { studios = m .studios; log = m .log; sent = m .sent; applied = set (m .applied) p n; sessions = m .sessions })
+  with-applied p n u = record {
+    sixteen = f .sixteen;
+    applied-le = λ k. set-either (λ x. x ≤ getD (m .sent) k 0) (m .applied) p n 0 k (λ e. rw e u) (f .applied-le k);
+    sent-le = f .sent-le;
+    number-le = f .number-le;
+    formed = f .formed;
+    askable = f .askable;
+  }
+
+zeros-at : (n k : ℕ) → getD (zeros n) k 0 ≡ 0
+unfolding zeros
+zeros-at zero k = refl
+zeros-at (suc n) zero = refl
+zeros-at (suc n) (suc k) = zeros-at n k
+
+-- each session of a fresh system has number 0 and no waiting read
+pub fresh-session : (bytes : List ℕ) (k : ℕ) → sessionAt (map (λ i. session i 0 nothing) bytes) k ≡ session (getD bytes k 0) 0 nothing
+fresh-session bytes k = List·getD-map (λ (i : ℕ). session i 0 nothing) bytes k 0
+
+pub fresh-sound : (studios : ℕ) (bytes : List ℕ) → length bytes ≡ sessionCount → Sound (fresh studios bytes)
+unfolding fresh
+fresh-sound studios bytes e = record {
+  sixteen = length-map bytes (λ i. session i 0 nothing) ∙ e;
+  applied-le = λ k. omega arith;
+  sent-le = λ k. omega (arith, zeros-at studioCount k);
+  number-le = λ k. rw (fresh-session bytes k) (omega arith);
+  formed = tt;
+  askable = λ k. rw (fresh-session bytes k) tt;
+}

@@ -1,0 +1,196 @@
+-- Commit: it keeps the layout, and does what the plain machine's commit does.
+use mathlib.Core.Path.{_≡_, refl, sym, ap, _∙_}
+use mathlib.Core.Logic.{_≢_}
+use mathlib.Core.Bool.{true, false, cond}
+use mathlib.Core.List.{List, [], _∷_, _++_}
+use Prim.Native.Nat.{ℕ, _+_, _*_, _-_, _≤_, _<_, _/_, _%_}
+use native.Mathlib.Omega.{arith}
+use native.Mathlib.Numerals.{add-one}
+use native.Mathlib.Decide.{ℕ-discrete}
+use borrow.Author.Tests.{ne-eqb}
+use lib.Dec.{eqb}
+use lib.ListN.{length, drop, getD, set, length-append, length-set}
+use lib.Seq.{drop-drop, getD-append-seam}
+use Rattle.carts.specs.Bytes.{part, within, all, every, allZero}
+use Rattle.carts.specs.Operation.{operationFields, operationForm, operationsOf, actAll}
+use Rattle.replication.specs.Memory.{Memory, copyAt, withCopy, sessionAt, withSession, withSequence, nth, studioOf}
+use Rattle.replication.specs.Log.{firstRecord, chainForm, appended}
+use Rattle.replication.specs.Request.{requestOf}
+use Rattle.replication.specs.Layout.{replicaForm}
+use Rattle.replication.specs.Rows.{Row, stopped, sizeForm, commitRows}
+use Rattle.replication.specs.Calls as Bytes
+use Rattle.replication.specs.Calls.{After, committed}
+use Rattle.replication.specs.declared.control.Control.{Control}
+use Rattle.machine.specs.Machine as Plain
+use Rattle.machine.specs.Machine.{Transaction, Session, session, L, recordsUsed}
+use Rattle.refinement.specs.Represents.{OfLayout, transactionsFrom, Represents, Simulates}
+use Rattle.refinement.proofs.Tests.{all-at, every-at, within-low, within-high}
+use Rattle.refinement.proofs.Parts.{length-part, length-parts, parts-at}
+use Rattle.refinement.proofs.Zeros.{zero-drop}
+use Rattle.refinement.proofs.Effect.{Operations, Copy, actAll-copy}
+use Rattle.refinement.proofs.Memories.{length-copyAt, length-withCopy, copy-same, copy-other}
+use Rattle.refinement.proofs.Chains.{records-used}
+use Rattle.refinement.proofs.Append.{Givens}
+use Rattle.refinement.proofs.Grow.{Grown, grown}
+use Rattle.refinement.proofs.Transactions.{L-step, L-append}
+use Rattle.refinement.proofs.Represented.{machineOf, log-length}
+use Rattle.refinement.proofs.Formed.{Formed, formed, of-layout, applied-known, counts-more, studio-copy, copy-in-use}
+use Rattle.refinement.proofs.Rows as Rows
+use Rattle.refinement.proofs.Rows.{memory-passes, unless-by, unless-both, commit-passed}
+use Rattle.refinement.proofs.Sessions.{SessionBytes, session-more, own-bytes, length-sessions, sessions-form, sessions-shown, session-of}
+
+-- the operations in the bytes of a commit that rows 5 and 6 let pass
+operations-count : (bytes : List ℕ) → length (operationsOf bytes) ≡ length bytes / 80
+unfolding operationsOf
+operations-count bytes = length-parts 80 (length bytes / 80) bytes
+
+size-count : (bytes : List ℕ) → sizeForm bytes ≡ true → (1 ≤ length (operationsOf bytes)) × (length (operationsOf bytes) ≤ 8)
+unfolding sizeForm
+size-count bytes h =
+    let w = all-at 0 (within 80 640 (length bytes) ∷ eqb (length bytes % 80) 0 ∷ []) h in
+    let low = within-low 80 640 (length bytes) w in
+    let high = within-high 80 640 (length bytes) w in
+    rw (operations-count bytes) (omega arith)
+
+givens : (bytes : List ℕ) → every operationForm (operationsOf bytes) ≡ true → Givens (operationsOf bytes)
+unfolding Givens operationsOf operationForm
+givens bytes h i l =
+    let tests = operationFields (getD (operationsOf bytes) i []) ∷ allZero (part (getD (operationsOf bytes) i []) 12 4) ∷ [] in
+    let f : all tests ≡ true = every-at operationForm (operationsOf bytes) [] i h l in
+    let k : i < length bytes / 80 = rw (length-parts 80 (length bytes / 80) bytes) at l in
+    record {
+      size = ap length (parts-at 80 (length bytes / 80) bytes i k) ∙ length-part bytes (80 * i) 80 (omega arith);
+      fields = all-at 0 tests f;
+      plain = all-at 1 tests f;
+    }
+
+given-operations : (ops : List (List ℕ)) → Givens ops → Operations ops
+unfolding Givens Operations
+given-operations ops g i l = let o = g i l in record { size = o .size; fields = o .fields }
+
+-- memory after a commit
+abbrev left : Control → Memory → ℕ → List (List ℕ) → Memory
+left c m s ops = record {
+  library = withCopy (m .library) 0 (actAll (copyAt (m .library) 0) ops);
+  log = appended c (m .log) ops;
+  sessions = withSession (m .sessions) s (withSequence (c .commits + 1) (sessionAt (m .sessions) s));
+}
+
+-- a commit that no row stops
+module _ (c : Control) (m : Memory) (s : ℕ) (ops : List (List ℕ)) (f : Formed c m) (w : Rows.Session s (studioOf c s)) (g : Givens ops)
+    (k1 : 1 ≤ length ops) (k8 : length ops ≤ 8) (room : c .used + length ops ≤ 512) where
+  log-grown : Grown (c .commits) (c .used) (firstRecord c) (m .log) (appended c (m .log) ops) ops
+  log-grown = grown c (m .log) ops (f .log .size) g k1 k8 room (f .log .records) (f .log .chain)
+
+  primary : Copy (actAll (copyAt (m .library) 0) ops)
+  primary =
+      actAll-copy _ ops
+      (record { size = length-copyAt (m .library) (f .library .size) 0 (omega arith); form = copy-in-use (c .studios) 0 _ (omega arith) (f .library .copies 0 (omega arith)) })
+      (given-operations ops g)
+
+  same-copy : copyAt (left c m s ops .library) 0 ≡ actAll (copyAt (m .library) 0) ops
+  same-copy = copy-same (m .library) (f .library .size) 0 (omega arith) _ (primary .size)
+
+  other-copy : (j : ℕ) → j ≢ 0 → copyAt (left c m s ops .library) j ≡ copyAt (m .library) j
+  other-copy = copy-other (m .library) (f .library .size) 0 (omega arith) _ (primary .size)
+
+  own : SessionBytes (sessionAt (m .sessions) s)
+  own = own-bytes c (m .sessions) (f .sessions) s (w .low) (w .high) (w .used)
+
+  commit-formed : Formed (committed c (length ops)) (left c m s ops)
+  unfolding committed firstRecord studioOf
+  commit-formed = record {
+    control = f .control;
+    library = record {
+      size = length-withCopy (m .library) (f .library .size) 0 (omega arith) _ (primary .size);
+      copies = λ j l. copies j l (ℕ-discrete j 0);
+    };
+    log = record { size = log-grown .size; used = room; records = log-grown .records; free = free; chain = chain };
+    sessions = record {
+      size = length-sessions c (m .sessions) (f .sessions .size) s (w .low) (w .high) _ _ own;
+      forms = sessions-form (committed c (length ops)) (m .sessions) (f .sessions .size) s (w .low) (w .high) _ _ own (w .used) (omega arith)
+          (λ q a b. session-more c (length ops) q _ (f .sessions .forms q a b));
+    };
+    counts = λ i a b. counts-more c i (length ops) (f .counts i a b);
+  }
+    where
+      copies : (j : ℕ) → j ≤ 4 → Dec (j ≡ 0) → replicaForm (c .studios) j (copyAt (left c m s ops .library) j) ≡ true
+      copies j l (yes e) = rw (e, same-copy) (studio-copy (c .studios) 0 _ (omega arith) (primary .form))
+      copies j l (no ne) = rw (other-copy j ne) (f .library .copies j l)
+
+      free : allZero (drop (80 * (c .used + length ops)) (appended c (m .log) ops)) ≡ true
+      free =
+          let d : 80 * c .used + 80 * length ops ≡ 80 * (c .used + length ops) = omega arith in
+          ap allZero (log-grown .past ∙ sym (drop-drop (80 * length ops) (80 * c .used) (m .log) ∙ ap (λ (z : ℕ). drop z (m .log)) d))
+          ∙ zero-drop (80 * length ops) (drop (80 * c .used) (m .log)) (f .log .free)
+
+      chain : chainForm (c .commits + 1) (appended c (m .log) ops) (cond (eqb (c .commits + 1) 0) 0 1) 1 (c .used + length ops + 1) ≡ true
+      chain =
+          let nz : eqb (c .commits + 1) 0 ≡ false = ne-eqb (c .commits + 1) 0 (omega arith) in
+          let u : c .used + length ops + 1 ≡ c .used + 1 + length ops = omega arith in
+          rw (nz, u, add-one (c .commits)) (log-grown .form)
+
+  -- the head end's copy has reached one transaction more, and the replicas stand for what they stood for
+  commit-represents : (log : List Transaction) (sessions : List Session) → Represents c m (machineOf c log sessions)
+      → Represents (committed c (length ops)) (left c m s ops)
+      (machineOf c (log ++ (ops ∷ [])) (set sessions (s - 1) (session (studioOf c s) (c .commits + 1) (requestOf (sessionAt (m .sessions) s)))))
+  unfolding committed firstRecord studioOf
+  commit-represents log sessions h = record {
+    form = of-layout _ _ commit-formed;
+    studios = refl;
+    log = grown-log;
+    sent = refl;
+    applied = refl;
+    count = length-set sessions (s - 1) _ ∙ h .count;
+    sessions = sessions-shown (committed c (length ops)) (m .sessions) (f .sessions .size) s (w .low) (w .high) _ _ own sessions _ (h .count) (h .sessions);
+    primary = same-copy ∙ ap (λ (z : List ℕ). actAll z ops) (h .primary) ∙ level;
+    replicas = λ j a b. other-copy j (omega arith) ∙ h .replicas j a b
+        ∙ sym (L-append log (ops ∷ []) (nth (c .applied) j) (rw (log-length c m _ h) (applied-known c j (f .counts j a b))));
+  }
+    where
+      n : length log ≡ c .commits
+      n = log-length c m _ h
+
+      grown-log : log ++ (ops ∷ []) ≡ transactionsFrom (c .commits + 1) (appended c (m .log) ops) (cond (eqb (c .commits + 1) 0) 0 1)
+      grown-log =
+          let nz : eqb (c .commits + 1) 0 ≡ false = ne-eqb (c .commits + 1) 0 (omega arith) in
+          rw (nz, add-one (c .commits)) (ap (λ (z : List Transaction). z ++ (ops ∷ [])) (h .log) ∙ sym (log-grown .shown))
+
+      level : actAll (L log (c .commits)) ops ≡ L (log ++ (ops ∷ [])) (c .commits + 1)
+      level =
+          let k : c .commits < length (log ++ (ops ∷ [])) = rw (length-append log (ops ∷ [])) (omega (arith, n)) in
+          let e : getD (log ++ (ops ∷ [])) (c .commits) [] ≡ ops = ap (λ (z : ℕ). getD (log ++ (ops ∷ [])) z []) (sym n) ∙ getD-append-seam log ops [] [] in
+          sym (L-step (log ++ (ops ∷ [])) (c .commits) k
+          ∙ ap (actAll (L (log ++ (ops ∷ [])) (c .commits))) e
+          ∙ ap (λ (z : List ℕ). actAll z ops) (L-append log (ops ∷ []) (c .commits) (omega (arith, n))))
+
+module _ (c : Control) (m : Memory) (s : ℕ) (bytes : List ℕ) where
+  rows : List Row
+  rows = commitRows s (studioOf c s) (requestOf (sessionAt (m .sessions) s)) (c .used) (copyAt (m .library) 0) bytes
+
+  pub commit-keeps : OfLayout c m → OfLayout (Bytes.commit c m s bytes .control) (Bytes.commit c m s bytes .memory)
+  unfolding Bytes.commit Bytes.refusedCommit rows
+  commit-keeps h =
+      rw (memory-passes c m rows h)
+      (unless-by (λ (r : After). OfLayout (r .control) (r .memory)) (stopped rows) _ _ (λ _. h)
+      (λ e. let p = commit-passed _ _ _ _ _ _ e in
+      let k = size-count bytes (p .size) in
+      of-layout _ _ (commit-formed c m s (operationsOf bytes) (formed c m h) (p .who) (givens bytes (p .forms)) (k .0) (k .1) (p .room))))
+
+  pub commit-simulates : (log : List Transaction) (sessions : List Session) → Represents c m (machineOf c log sessions)
+      → Simulates (Bytes.commit c m s bytes) (Plain.commit (machineOf c log sessions) s bytes)
+  unfolding Bytes.commit Bytes.refusedCommit Plain.commit Plain.refusedCommit rows
+  commit-simulates log sessions h =
+      rw (memory-passes c m rows (h .form), session-of c m _ h s, log-length c m _ h, ← h .primary, used)
+      (unless-both Simulates (stopped rows) _ _ _ _
+      (λ _. record { answer = refl; output = refl; next = h })
+      (λ e. let p = commit-passed _ _ _ _ _ _ e in
+      let k = size-count bytes (p .size) in
+      record {
+        answer = refl;
+        output = refl;
+        next = commit-represents c m s (operationsOf bytes) (formed c m (h .form)) (p .who) (givens bytes (p .forms)) (k .0) (k .1) (p .room) log sessions h;
+      }))
+    where
+      used : recordsUsed log ≡ c .used
+      used = let e = records-used (c .commits) (m .log) (firstRecord c) 1 (c .used + 1) (formed c m (h .form) .log .chain) in ap recordsUsed (h .log) ∙ omega arith

@@ -1,0 +1,145 @@
+-- Read and collect: they keep the layout, and do what the plain machine's do.
+use mathlib.Core.Path.{_≡_, refl, sym, ap, _∙_}
+use mathlib.Core.List.{List}
+use Prim.Native.Nat.{ℕ, _-_, _≤_}
+use native.Mathlib.Omega.{arith}
+use lib.Dec.{leb}
+use lib.ListN.{length, set, length-set}
+use lib.Seq.{set-getD}
+use Rattle.carts.specs.Bytes.{zeros, over}
+use Rattle.replication.specs.Answer.{answered}
+use Rattle.replication.specs.Memory.{Memory, copyAt, sessionAt, withSession, sequenceOf, withSequence, nth, studioOf}
+use Rattle.replication.specs.Request.{Request, nothing, requestOf, needed, foundIn, shownFrom}
+use Rattle.replication.specs.Rows.{Row, stopped, readRows, collectRows}
+use Rattle.replication.specs.Calls as Bytes
+use Rattle.replication.specs.Calls.{After, withSessions, numberAfter}
+use Rattle.replication.specs.declared.control.Control.{Control}
+use Rattle.machine.specs.Machine as Plain
+use Rattle.machine.specs.Machine.{Transaction, Session, session, L, Step}
+use Rattle.refinement.specs.Represents.{OfLayout, Represents, Simulates}
+use Rattle.refinement.proofs.Tests.{by-cond, cond-both}
+use Rattle.refinement.proofs.Represented.{machineOf}
+use Rattle.refinement.proofs.Formed.{Formed, formed, of-layout, few, studio-known}
+use Rattle.refinement.proofs.Rows as Rows
+use Rattle.refinement.proofs.Rows.{memory-passes, unless-by, unless-both, read-passed, collect-passed}
+use Rattle.refinement.proofs.Sessions.{SessionBytes, request-bytes, empty-bytes, empty-request, own-bytes, own-sequence, length-sessions, sessions-form, sessions-shown, session-of}
+
+-- memory with other bytes of session s
+abbrev with : Memory → ℕ → ℕ → List ℕ → Memory
+with m s n x = withSessions m (withSession (m .sessions) s (withSequence n x))
+
+module _ (c : Control) (m : Memory) (s : ℕ) (w : Rows.Session s (studioOf c s)) (f : Formed c m) where
+  module _ (n : ℕ) (x : List ℕ) (b : SessionBytes x) (l : n ≤ c .commits) where
+    session-formed : Formed c (with m s n x)
+    session-formed = record {
+      control = f .control;
+      library = f .library;
+      log = f .log;
+      sessions = record {
+        size = length-sessions c (m .sessions) (f .sessions .size) s (w .low) (w .high) n x b;
+        forms = sessions-form c (m .sessions) (f .sessions .size) s (w .low) (w .high) n x b (w .used) l (f .sessions .forms);
+      };
+      counts = f .counts;
+    }
+
+    session-represents : (log : List Transaction) (sessions : List Session) → Represents c m (machineOf c log sessions)
+        → Represents c (with m s n x) (machineOf c log (set sessions (s - 1) (session (studioOf c s) n (requestOf x))))
+    session-represents log sessions h = record {
+      form = of-layout _ _ session-formed;
+      studios = refl;
+      log = h .log;
+      sent = refl;
+      applied = refl;
+      count = length-set sessions (s - 1) _ ∙ h .count;
+      sessions = sessions-shown c (m .sessions) (f .sessions .size) s (w .low) (w .high) n x b sessions _ (h .count) (h .sessions);
+      primary = h .primary;
+      replicas = h .replicas;
+    }
+
+  -- a read or collect that no row stops: answered now, or `behind`
+  module _ (q : Request) (x : List ℕ) (b : SessionBytes x) (out : List ℕ) where
+    block-keeps : (behind : After) → OfLayout (behind .control) (behind .memory)
+        → OfLayout (Bytes.block c m s q x behind out .control) (Bytes.block c m s q x behind out .memory)
+    unfolding Bytes.block Bytes.answerFrom numberAfter
+    block-keeps behind h =
+        by-cond (λ (r : After). OfLayout (r .control) (r .memory)) (leb (sequenceOf (sessionAt (m .sessions) s)) (nth (c .applied) (studioOf c s))) _ _
+        (λ _. of-layout _ _ (session-formed _ x b (own-sequence c (m .sessions) (f .sessions) s (w .low) (w .high) (w .used)))) (λ _. h)
+
+    block-simulates : requestOf x ≡ nothing → (log : List Transaction) (sessions : List Session) → Represents c m (machineOf c log sessions)
+        → (behind : After) (waits : Step) → Simulates behind waits
+        → Simulates (Bytes.block c m s q x behind out) (Plain.block (machineOf c log sessions) s q waits out)
+    unfolding Bytes.block Bytes.answerFrom Plain.block Plain.answerFrom numberAfter
+    block-simulates e log sessions h behind waits k =
+        rw (session-of c m _ h s)
+        (cond-both Simulates (leb (sequenceOf (sessionAt (m .sessions) s)) (nth (c .applied) (studioOf c s))) _ _ _ _
+        (record {
+          answer = ap (λ (z : List ℕ). answered (nth (c .applied) (studioOf c s)) (foundIn z q)) copy;
+          output = ap (λ (z : List ℕ). over out 0 (needed q) (shownFrom z q)) copy;
+          next = rw (← e) (session-represents _ x b (own-sequence c (m .sessions) (f .sessions) s (w .low) (w .high) (w .used)) log sessions h);
+        }) k)
+      where
+        copy : copyAt (m .library) (studioOf c s) ≡ L log (nth (c .applied) (studioOf c s))
+        copy =
+            let n = w .used in
+            let a = few c m f in
+            let d = studio-known c m f s (w .high) in
+            h .replicas (studioOf c s) (omega arith) (omega arith)
+
+module _ (c : Control) (m : Memory) (s : ℕ) (request out : List ℕ) where
+  readRowsOf : List Row
+  readRowsOf = readRows s (studioOf c s) (requestOf (sessionAt (m .sessions) s)) request (length out)
+
+  pub read-keeps : OfLayout c m → OfLayout (Bytes.read c m s request out .control) (Bytes.read c m s request out .memory)
+  unfolding Bytes.read readRowsOf
+  read-keeps h =
+      rw (memory-passes c m readRowsOf h)
+      (unless-by (λ (r : After). OfLayout (r .control) (r .memory)) (stopped readRowsOf) _ _ (λ _. h)
+      (λ e. let p = read-passed _ _ _ _ _ e in
+      block-keeps c m s (p .who) f (requestOf request) _ (own-bytes c (m .sessions) (f .sessions) s (p .who .low) (p .who .high) (p .who .used)) out _
+      (of-layout _ _ (session-formed c m s (p .who) f _ request (request-bytes request (p .form)) (own-sequence c (m .sessions) (f .sessions) s (p .who .low) (p .who .high) (p .who .used))))))
+    where
+      f : Formed c m
+      f = formed c m h
+
+  pub read-simulates : (log : List Transaction) (sessions : List Session) → Represents c m (machineOf c log sessions)
+      → Simulates (Bytes.read c m s request out) (Plain.read (machineOf c log sessions) s request out)
+  unfolding Bytes.read Plain.read Plain.wait readRowsOf
+  read-simulates log sessions h =
+      rw (memory-passes c m readRowsOf (h .form), session-of c m _ h s)
+      (unless-both Simulates (stopped readRowsOf) _ _ _ _
+      (λ _. record { answer = refl; output = refl; next = h })
+      (λ e. let p = read-passed _ _ _ _ _ e in
+      block-simulates c m s (p .who) f (requestOf request) _ (own-bytes c (m .sessions) (f .sessions) s (p .who .low) (p .who .high) (p .who .used)) out (p .idle) log sessions h _ _
+      (record {
+        answer = refl;
+        output = refl;
+        next = session-represents c m s (p .who) f _ request (request-bytes request (p .form)) (own-sequence c (m .sessions) (f .sessions) s (p .who .low) (p .who .high) (p .who .used)) log sessions h;
+      })))
+    where
+      f : Formed c m
+      f = formed c m (h .form)
+
+module _ (c : Control) (m : Memory) (s : ℕ) (out : List ℕ) where
+  collectRowsOf : List Row
+  collectRowsOf = collectRows s (studioOf c s) (requestOf (sessionAt (m .sessions) s)) (length out)
+
+  pub collect-keeps : OfLayout c m → OfLayout (Bytes.collect c m s out .control) (Bytes.collect c m s out .memory)
+  unfolding Bytes.collect collectRowsOf
+  collect-keeps h =
+      rw (memory-passes c m collectRowsOf h)
+      (unless-by (λ (r : After). OfLayout (r .control) (r .memory)) (stopped collectRowsOf) _ _ (λ _. h)
+      (λ e. block-keeps c m s (collect-passed _ _ _ _ e) (formed c m h) _ (zeros 80) empty-bytes out _ h))
+
+  pub collect-simulates : (log : List Transaction) (sessions : List Session) → Represents c m (machineOf c log sessions)
+      → Simulates (Bytes.collect c m s out) (Plain.collect (machineOf c log sessions) s out)
+  unfolding Bytes.collect Plain.collect Plain.wait collectRowsOf
+  collect-simulates log sessions h =
+      rw (memory-passes c m collectRowsOf (h .form), session-of c m _ h s)
+      (unless-both Simulates (stopped collectRowsOf) _ _ _ _
+      (λ _. record { answer = refl; output = refl; next = h })
+      (λ e. block-simulates c m s (collect-passed _ _ _ _ e) (formed c m (h .form)) _ (zeros 80) empty-bytes out empty-request log sessions h _ _
+      (record { answer = refl; output = refl; next = rw same h })))
+    where
+      -- a collect that waits again stores what is stored
+      same : set sessions (s - 1) (session (studioOf c s) (sequenceOf (sessionAt (m .sessions) s)) (requestOf (sessionAt (m .sessions) s))) ≡ sessions
+      same = ap (set sessions (s - 1)) (sym (session-of c m _ h s)) ∙ set-getD sessions (s - 1) _

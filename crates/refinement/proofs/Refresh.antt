@@ -1,0 +1,149 @@
+-- Refresh: it keeps the layout, and does what the plain machine's refresh does.
+use mathlib.Core.Path.{_≡_, refl, sym, ap, _∙_}
+use mathlib.Core.Logic.{_≢_}
+use mathlib.Core.Bool.{true}
+use mathlib.Core.List.{List, [], map}
+use Prim.Native.Nat.{ℕ, _+_, _-_, _≤_, _<_}
+use native.Mathlib.Omega.{arith}
+use native.Mathlib.Decide.{ℕ-discrete}
+use lib.ListN.{length, getD, length-set}
+use lib.Seq.{getD-set-same, getD-set-other}
+use Rattle.carts.specs.Operation.{actAll}
+use Rattle.replication.specs.Memory.{Memory, copyAt, withCopy, nth, studioOf}
+use Rattle.replication.specs.Log.{firstRecord, transactionAt, walk}
+use Rattle.replication.specs.Layout.{replicaForm, sessionForm, countsForm}
+use Rattle.replication.specs.Rows.{Row, stopped, refreshRows}
+use Rattle.replication.specs.Calls as Bytes
+use Rattle.replication.specs.Calls.{After, withApplied, withLibrary, transactionAfter}
+use Rattle.replication.specs.declared.control.Control.{Control}
+use Rattle.machine.specs.Machine as Plain
+use Rattle.machine.specs.Machine.{Transaction, Session, L}
+use Rattle.refinement.specs.Represents.{OfLayout, handedIn, transactionsFrom, Represents, Simulates}
+use Rattle.refinement.proofs.Effect.{Operations, sizes, Copy, actAll-copy}
+use Rattle.refinement.proofs.Memories.{length-copyAt, length-withCopy, copy-same, copy-other}
+use Rattle.refinement.proofs.Chains.{placed, placed-operations}
+use Rattle.refinement.proofs.Transactions.{length-transactions, transactions-at, handed-actAll, L-step}
+use Rattle.refinement.proofs.Represented.{machineOf}
+use Rattle.refinement.proofs.Formed.{Formed, formed, of-layout, Counts, counts-of, of-counts, few, studio-copy, copy-in-use}
+use Rattle.refinement.proofs.Rows.{memory-passes, unless-by, unless-both, Refreshable, refresh-passed}
+
+-- the copy of studio i, and the library with it, after transaction applied + 1
+abbrev refreshedCopy : Control → Memory → ℕ → List ℕ
+refreshedCopy c m i = actAll (copyAt (m .library) i) (transactionAfter c (m .log) (nth (c .applied) i))
+
+abbrev refreshed : Control → Memory → ℕ → Memory
+refreshed c m i = withLibrary m (withCopy (m .library) i (refreshedCopy c m i))
+
+module _ (c : Control) (m : Memory) (i : ℕ) where
+  rows : List Row
+  rows = refreshRows (c .studios) i (nth (c .sent) i) (nth (c .applied) i)
+
+  -- a refresh that no row stops
+  module _ (f : Formed c m) (p : Refreshable (c .studios) i (nth (c .sent) i) (nth (c .applied) i)) where
+    four : i ≤ 4
+    four = let n = few c m f in let w = p .who in omega arith
+
+    counted : Counts c i
+    counted = counts-of c i (p .who .high) (f .counts i (p .who .low) four)
+
+    ready : nth (c .applied) i < c .commits
+    ready = let k = counted in let n = p .behind in omega arith
+
+    operations : Operations (transactionAfter c (m .log) (nth (c .applied) i))
+    unfolding transactionAfter
+    operations = placed-operations (m .log) (c .used) _ (f .log .size) (f .log .used) (f .log .records) (placed (c .commits) (m .log) (firstRecord c) 1 (c .used + 1) (f .log .chain) _ ready)
+
+    copy : Copy (refreshedCopy c m i)
+    copy = actAll-copy _ _ (record { size = length-copyAt (m .library) (f .library .size) i four; form = copy-in-use (c .studios) i _ (p .who .high) (f .library .copies i four) }) operations
+
+    same-copy : copyAt (refreshed c m i .library) i ≡ refreshedCopy c m i
+    same-copy = copy-same (m .library) (f .library .size) i four _ (copy .size)
+
+    other-copy : (j : ℕ) → j ≢ i → copyAt (refreshed c m i .library) j ≡ copyAt (m .library) j
+    other-copy = copy-other (m .library) (f .library .size) i four _ (copy .size)
+
+    same-applied : nth (withApplied c i (nth (c .applied) i + 1) .applied) i ≡ nth (c .applied) i + 1
+    unfolding withApplied
+    same-applied = let n = f .control .applied in let k = four in let w = p .who in getD-set-same (c .applied) (i - 1) _ 0 (omega arith)
+
+    other-applied : (j : ℕ) → 1 ≤ j → j ≢ i → nth (withApplied c i (nth (c .applied) i + 1) .applied) j ≡ nth (c .applied) j
+    unfolding withApplied
+    other-applied j l ne = let w = p .who in getD-set-other (c .applied) (i - 1) (j - 1) _ 0 (omega arith)
+
+    refreshed-formed : Formed (withApplied c i (nth (c .applied) i + 1)) (refreshed c m i)
+    unfolding withApplied firstRecord sessionForm studioOf countsForm
+    refreshed-formed = record {
+      control = record {
+        sessionStudios = f .control .sessionStudios;
+        sent = f .control .sent;
+        applied = length-set (c .applied) (i - 1) _ ∙ f .control .applied;
+        studios = f .control .studios;
+        places = f .control .places;
+      };
+      library = record { size = length-withCopy (m .library) (f .library .size) i four _ (copy .size); copies = λ j g. copies j g (ℕ-discrete j i) };
+      log = f .log;
+      sessions = f .sessions;
+      counts = λ j l g. count j l g (ℕ-discrete j i);
+    }
+      where
+        copies : (j : ℕ) → j ≤ 4 → Dec (j ≡ i) → replicaForm (c .studios) j (copyAt (refreshed c m i .library) j) ≡ true
+        copies j g (yes e) = rw (e, same-copy) (studio-copy (c .studios) i _ (p .who .high) (copy .form))
+        copies j g (no ne) = rw (other-copy j ne) (f .library .copies j g)
+
+        count : (j : ℕ) → 1 ≤ j → j ≤ 4 → Dec (j ≡ i) → countsForm (withApplied c i (nth (c .applied) i + 1)) j ≡ true
+        count j l g (yes e) =
+            let k = counted in
+            let n = p .behind in
+            let a : nth (c .applied) i + 1 ≤ nth (c .sent) i = omega arith in
+            let b : nth (c .sent) i - (nth (c .applied) i + 1) ≤ 32 = omega arith in
+            rw e (of-counts (withApplied c i (nth (c .applied) i + 1)) i (p .who .high) (record { order = rw same-applied a; known = k .known; near = rw same-applied b }))
+        count j l g (no ne) = rw (other-applied j l ne) (f .counts j l g)
+
+    -- the copy stands for one transaction more
+    level : (log : List Transaction) → log ≡ transactionsFrom (c .commits) (m .log) (firstRecord c)
+        → copyAt (m .library) i ≡ L log (nth (c .applied) i) → refreshedCopy c m i ≡ L log (nth (c .applied) i + 1)
+    unfolding transactionAfter
+    level log e h =
+        let k = nth (c .applied) i in
+        let n : k < length log = rw (ap length e ∙ length-transactions (c .commits) (m .log) (firstRecord c)) ready in
+        let t : getD log k [] ≡ map handedIn (transactionAt (m .log) (walk k (m .log) (firstRecord c)))
+        = ap (λ (z : List Transaction). getD z k []) e ∙ transactions-at (c .commits) (m .log) (firstRecord c) k ready in
+        ap (λ (z : List ℕ). actAll z (transactionAfter c (m .log) k)) h
+        ∙ sym (L-step log k n ∙ ap (actAll (L log k)) t ∙ handed-actAll (L log k) (transactionAfter c (m .log) k) (sizes _ operations))
+
+  pub refresh-keeps : OfLayout c m → OfLayout (Bytes.refresh c m i .control) (Bytes.refresh c m i .memory)
+  unfolding Bytes.refresh rows
+  refresh-keeps h =
+      rw (memory-passes c m rows h)
+      (unless-by (λ (r : After). OfLayout (r .control) (r .memory)) (stopped rows) _ _ (λ _. h)
+      (λ e. of-layout _ _ (refreshed-formed (formed c m h) (refresh-passed _ _ _ _ e))))
+
+  pub refresh-simulates : (log : List Transaction) (sessions : List Session) → Represents c m (machineOf c log sessions)
+      → Simulates (Bytes.refresh c m i) (Plain.refresh (machineOf c log sessions) i)
+  unfolding Bytes.refresh Plain.refresh rows withApplied firstRecord studioOf
+  refresh-simulates log sessions h =
+      rw (memory-passes c m rows (h .form))
+      (unless-both Simulates (stopped rows) _ _ _ _
+      (λ _. record { answer = refl; output = refl; next = h })
+      (λ e. record { answer = refl; output = refl; next = next (formed c m (h .form)) (refresh-passed _ _ _ _ e) }))
+    where
+      n : ℕ
+      n = nth (c .applied) i + 1
+
+      next : Formed c m → Refreshable (c .studios) i (nth (c .sent) i) (nth (c .applied) i)
+          → Represents (withApplied c i n) (refreshed c m i) (machineOf (withApplied c i n) log sessions)
+      next f p = record {
+        form = of-layout _ _ (refreshed-formed f p);
+        studios = refl;
+        log = h .log;
+        sent = refl;
+        applied = refl;
+        count = h .count;
+        sessions = h .sessions;
+        primary = other-copy f p 0 (let w = p .who in omega arith) ∙ h .primary;
+        replicas = λ j l g. replica j l g (ℕ-discrete j i);
+      }
+        where
+          replica : (j : ℕ) → 1 ≤ j → j ≤ 4 → Dec (j ≡ i) → copyAt (refreshed c m i .library) j ≡ L log (nth (withApplied c i n .applied) j)
+          replica j l g (yes e) = rw (e, same-applied f p) (same-copy f p ∙ level f p log (h .log) (h .replicas i (p .who .low) (four f p)))
+          replica j l g (no ne) = rw (other-applied f p j l ne) (other-copy f p j ne ∙ h .replicas j l g)

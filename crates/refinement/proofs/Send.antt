@@ -1,0 +1,92 @@
+-- Send: it keeps the layout, and does what the plain machine's send does.
+use mathlib.Core.Path.{_≡_, refl, _∙_}
+use mathlib.Core.Bool.{true}
+use mathlib.Core.List.{List}
+use Prim.Native.Nat.{ℕ, _+_, _-_, _≤_}
+use native.Mathlib.Omega.{arith}
+use native.Mathlib.Decide.{ℕ-discrete}
+use lib.ListN.{getD, set, length-set}
+use lib.Seq.{getD-set-same, getD-set-other}
+use Rattle.replication.specs.Memory.{Memory, nth, studioOf}
+use Rattle.replication.specs.Log.{firstRecord}
+use Rattle.replication.specs.Layout.{sessionForm, countsForm}
+use Rattle.replication.specs.Rows.{Row, stopped, sendRows}
+use Rattle.replication.specs.Calls as Bytes
+use Rattle.replication.specs.Calls.{After, withSent}
+use Rattle.replication.specs.declared.control.Control.{Control}
+use Rattle.machine.specs.Machine as Plain
+use Rattle.machine.specs.Machine.{Transaction, Session}
+use Rattle.refinement.specs.Represents.{OfLayout, Represents, Simulates}
+use Rattle.refinement.proofs.Represented.{machineOf, log-length}
+use Rattle.refinement.proofs.Formed.{Formed, formed, of-layout, counts-of, of-counts, few}
+use Rattle.refinement.proofs.Rows.{memory-passes, unless-by, unless-both, Sendable, send-passed}
+
+module _ (c : Control) (m : Memory) (i : ℕ) where
+  rows : List Row
+  rows = sendRows (c .studios) i (nth (c .sent) i) (nth (c .applied) i) (c .commits)
+
+  -- control after a send that no row stops
+  sent-formed : Formed c m → Sendable (c .studios) i (nth (c .sent) i) (nth (c .applied) i) (c .commits)
+      → Formed (withSent c i (nth (c .sent) i + 1)) m
+  unfolding withSent firstRecord sessionForm studioOf countsForm
+  sent-formed f p = record {
+    control = record {
+      sessionStudios = f .control .sessionStudios;
+      sent = length-set (c .sent) (i - 1) (nth (c .sent) i + 1) ∙ f .control .sent;
+      applied = f .control .applied;
+      studios = f .control .studios;
+      places = f .control .places;
+    };
+    library = f .library;
+    log = f .log;
+    sessions = f .sessions;
+    counts = λ j l g. count j l g (ℕ-discrete j i);
+  }
+    where
+      n : ℕ
+      n = nth (c .sent) i + 1
+
+      count : (j : ℕ) → 1 ≤ j → j ≤ 4 → Dec (j ≡ i) → countsForm (withSent c i n) j ≡ true
+      count j l g (yes e) =
+          let w = p .who in
+          let q = few c m f in
+          let k = counts-of c i (w .high) (f .counts i (w .low) (omega arith)) in
+          let same : getD (set (c .sent) (i - 1) n) (i - 1) 0 ≡ n = getD-set-same (c .sent) (i - 1) n 0 (let k = f .control .sent in omega arith) in
+          let a : nth (c .applied) i ≤ n = omega arith in
+          let b : n ≤ c .commits = let x = p .more in omega arith in
+          let d : n - nth (c .applied) i ≤ 32 = let x = p .near in omega arith in
+          rw e (of-counts (withSent c i n) i (w .high) (record { order = rw same a; known = rw same b; near = rw same d }))
+      count j l g (no ne) =
+          let w = p .who in
+          let other : getD (set (c .sent) (i - 1) n) (j - 1) 0 ≡ getD (c .sent) (j - 1) 0 = getD-set-other (c .sent) (i - 1) (j - 1) n 0 (omega arith) in
+          rw other (f .counts j l g)
+
+  pub send-keeps : OfLayout c m → OfLayout (Bytes.send c m i .control) (Bytes.send c m i .memory)
+  unfolding Bytes.send rows
+  send-keeps h =
+      rw (memory-passes c m rows h)
+      (unless-by (λ (r : After). OfLayout (r .control) (r .memory)) (stopped rows) _ _ (λ _. h)
+      (λ e. of-layout _ _ (sent-formed (formed c m h) (send-passed _ _ _ _ _ e))))
+
+  pub send-simulates : (log : List Transaction) (sessions : List Session) → Represents c m (machineOf c log sessions)
+      → Simulates (Bytes.send c m i) (Plain.send (machineOf c log sessions) i)
+  unfolding Bytes.send Plain.send rows withSent firstRecord studioOf
+  send-simulates log sessions h =
+      rw (memory-passes c m rows (h .form), log-length c m _ h)
+      (unless-both Simulates (stopped rows) _ _ _ _
+      (λ _. record { answer = refl; output = refl; next = h })
+      (λ e. record {
+        answer = refl;
+        output = refl;
+        next = record {
+          form = of-layout _ _ (sent-formed (formed c m (h .form)) (send-passed _ _ _ _ _ e));
+          studios = refl;
+          log = h .log;
+          sent = refl;
+          applied = refl;
+          count = h .count;
+          sessions = h .sessions;
+          primary = h .primary;
+          replicas = h .replicas;
+        };
+      }))

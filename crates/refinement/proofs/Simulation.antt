@@ -1,0 +1,55 @@
+-- Every call keeps the layout and does what the plain machine's call does, and so does every list of calls.
+use mathlib.Core.Path.{_≡_, refl, ap}
+use mathlib.Core.List.{List, [], _∷_}
+use Rattle.replication.specs.Memory.{Memory}
+use Rattle.replication.specs.Call.{Call, commit, send, refresh, read, collect}
+use Rattle.replication.specs.Calls as Bytes
+use Rattle.replication.specs.Calls.{After}
+use Rattle.replication.specs.declared.control.Control.{Control}
+use Rattle.machine.specs.Machine as Plain
+use Rattle.machine.specs.Machine.{Machine}
+use Rattle.machine.specs.OneCopy.{Event, event, history}
+use Rattle.machine.proofs.Events.{events}
+use Rattle.refinement.specs.Represents.{OfLayout, Represents, Simulates}
+use Rattle.refinement.specs.Lists.{afterCalls, machineAfter}
+use Rattle.refinement.proofs.Represented.{by-machine}
+use Rattle.refinement.proofs.Send.{send-keeps, send-simulates}
+use Rattle.refinement.proofs.Refresh.{refresh-keeps, refresh-simulates}
+use Rattle.refinement.proofs.Read.{read-keeps, read-simulates, collect-keeps, collect-simulates}
+use Rattle.refinement.proofs.Commit.{commit-keeps, commit-simulates}
+
+-- from any control and memory of the layout, also where a copy is no L(n)
+pub keeps-layout : (c : Control) (m : Memory) → OfLayout c m → (x : Call) → OfLayout (Bytes.call c m x .control) (Bytes.call c m x .memory)
+unfolding Bytes.call
+keeps-layout c m h (commit s bytes) = commit-keeps c m s bytes h
+keeps-layout c m h (send i) = send-keeps c m i h
+keeps-layout c m h (refresh i) = refresh-keeps c m i h
+keeps-layout c m h (read s request out) = read-keeps c m s request out h
+keeps-layout c m h (collect s out) = collect-keeps c m s out h
+
+pub simulates : (c : Control) (m : Memory) (M : Machine) → Represents c m M → (x : Call) → Simulates (Bytes.call c m x) (Plain.call M x)
+unfolding Bytes.call Plain.call
+simulates c m M h (commit s bytes) = by-machine c m (λ M. Simulates (Bytes.commit c m s bytes) (Plain.commit M s bytes)) (commit-simulates c m s bytes) M h
+simulates c m M h (send i) = by-machine c m (λ M. Simulates (Bytes.send c m i) (Plain.send M i)) (send-simulates c m i) M h
+simulates c m M h (refresh i) = by-machine c m (λ M. Simulates (Bytes.refresh c m i) (Plain.refresh M i)) (refresh-simulates c m i) M h
+simulates c m M h (read s request out) = by-machine c m (λ M. Simulates (Bytes.read c m s request out) (Plain.read M s request out)) (read-simulates c m s request out) M h
+simulates c m M h (collect s out) = by-machine c m (λ M. Simulates (Bytes.collect c m s out) (Plain.collect M s out)) (collect-simulates c m s out) M h
+
+-- a list of calls: what it leaves, and its answers and outputs
+pub layout-after : (H : List Call) (r : After) → OfLayout (r .control) (r .memory) → OfLayout (afterCalls r H .control) (afterCalls r H .memory)
+unfolding afterCalls
+layout-after [] r h = h
+layout-after (x ∷ H) r h = layout-after H (Bytes.call (r .control) (r .memory) x) (keeps-layout (r .control) (r .memory) h x)
+
+pub represents-after : (H : List Call) (r : After) (M : Machine) → Represents (r .control) (r .memory) M
+    → Represents (afterCalls r H .control) (afterCalls r H .memory) (machineAfter M H)
+unfolding afterCalls machineAfter
+represents-after [] r M h = h
+represents-after (x ∷ H) r M h = represents-after H _ _ (simulates (r .control) (r .memory) M h x .next)
+
+pub same-history : (H : List Call) (c : Control) (m : Memory) (M : Machine) → Represents c m M → history c m H ≡ events M H
+unfolding history events
+same-history [] c m M h = refl
+same-history (x ∷ H) c m M h =
+    let s = simulates c m M h x in
+    rw (s .answer, s .output) (ap (λ (l : List Event). event x (Plain.call M x .answer) (Plain.call M x .output) ∷ l) (same-history H _ _ _ (s .next)))

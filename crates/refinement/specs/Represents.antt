@@ -1,0 +1,54 @@
+-- What control and memory stand for: a state of document 01's plain machine.
+use mathlib.Core.Path.{_≡_}
+use mathlib.Core.Bool.{true}
+use mathlib.Core.List.{List, [], _∷_, map}
+use Prim.Native.Nat.{ℕ, zero, suc, _≤_}
+use lib.ListN.{length}
+use Rattle.carts.specs.Bytes.{zeros, over}
+use Rattle.replication.specs.Memory.{Memory, sessionCount, studioCount, lengthsForm, copyAt, sessionAt, sequenceOf, nth, studioOf}
+use Rattle.replication.specs.Log.{nextTransaction, transactionAt, firstRecord}
+use Rattle.replication.specs.Request.{requestOf}
+use Rattle.replication.specs.Layout.{ofLayout}
+use Rattle.replication.specs.Calls.{After}
+use Rattle.replication.specs.declared.control.Control.{Control}
+use Rattle.machine.specs.Machine.{Transaction, session, Machine, L, sessionOf, Step}
+
+-- rows 1 and 2 do not stop a call: the memories have their lengths and are, with control, of the layout. Control's arrays have the lengths
+-- that their types in the code give them.
+pub record OfLayout (c : Control) (m : Memory) : Type 0 where
+  pub sessionStudios : length (c .«session_studios») ≡ sessionCount
+  pub sent : length (c .sent) ≡ studioCount
+  pub applied : length (c .applied) ≡ studioCount
+  pub lengths : lengthsForm m ≡ true
+  pub layout : ofLayout c m ≡ true
+
+-- a record's operation as it was handed in: its links, bytes 12–15, are zero again
+unfoldable pub handedIn : List ℕ → List ℕ
+handedIn x = over x 12 4 (zeros 4)
+
+-- n transactions of the log along its chains, from the one whose first record is r
+unfoldable pub transactionsFrom : ℕ → List ℕ → ℕ → List Transaction
+transactionsFrom zero log r = []
+transactionsFrom (suc n) log r = map handedIn (transactionAt log r) ∷ transactionsFrom n log (nextTransaction log r)
+
+-- the bytes of control c and memory m stand for the plain machine's state M
+pub record Represents (c : Control) (m : Memory) (M : Machine) : Type 0 where
+  pub form : OfLayout c m
+  pub studios : M .studios ≡ c .studios
+  -- the committed transactions are those in the log (request S-9 puts retired ones in front: old ++ ..)
+  pub log : M .log ≡ transactionsFrom (c .commits) (m .log) (firstRecord c)
+  pub sent : M .sent ≡ c .sent
+  pub applied : M .applied ≡ c .applied
+  -- each session has its studio from control, its sequence number and waiting read from its 80 bytes
+  pub count : length (M .sessions) ≡ sessionCount
+  pub sessions : (s : ℕ) → 1 ≤ s → s ≤ sessionCount
+      → sessionOf M s ≡ session (studioOf c s) (sequenceOf (sessionAt (m .sessions) s)) (requestOf (sessionAt (m .sessions) s))
+  -- "The head end's copy stands for L(commits), studio i's for L(applied of i)."
+  pub primary : copyAt (m .library) 0 ≡ L (M .log) (c .commits)
+  pub replicas : (i : ℕ) → 1 ≤ i → i ≤ studioCount → copyAt (m .library) i ≡ L (M .log) (nth (c .applied) i)
+
+-- what a call on bytes leaves, and what the same call leaves of the plain machine: one answer, one output, and the bytes stand for the machine
+pub record Simulates (r : After) (p : Step) : Type 0 where
+  pub answer : r .answer ≡ p .answer
+  pub output : r .output ≡ p .output
+  pub next : Represents (r .control) (r .memory) (p .next)

@@ -1,0 +1,1 @@
+// Theory without code: the calls on bytes do what the plain machine does.
