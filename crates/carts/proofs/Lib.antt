@@ -1,5 +1,6 @@
 -- Sample data, worked examples, and laws on the definitions of specs/ for the proofs of this crate and of its callers.
 pub mod CartLaws
+pub mod EachLaws
 pub mod Examples
 pub mod OperationLaws
 pub mod OverLaws
@@ -7,5 +8,6 @@ pub mod PartLaws
 pub mod RecordLaws
 pub mod Samples
 pub mod ScanLaws
+pub mod TestLaws
 pub mod TitleKept
 pub mod TitleLaws

@@ -14,7 +14,7 @@ use Rattle.replication.specs.Memory.{Memory, recordAt, studioOf}
 use Rattle.replication.specs.Log.{firstRecord, chainForm}
 use Rattle.replication.specs.Layout.{replicaForm, recordForm, sessionForm, countsForm, layoutTests, ofLayout}
 use Rattle.replication.specs.Values.{sessionFormOf}
-use Rattle.replication.proofs.TestLaws.{all-fails}
+use Rattle.carts.proofs.TestLaws.{all-fails}
 use Rattle.replication.proofs.SpanLaws.{Whole}
 use Rattle.replication.specs.declared.control.Control.{Control}
 

@@ -12,7 +12,7 @@ use Rattle.replication.specs.Memory.{Memory, lengthsForm}
 use Rattle.replication.specs.Layout.{ofLayout}
 use Rattle.replication.specs.Rows.{Row, row, stopped, unless, lengthsRow, memoryRows, sessionRow, studioRow}
 use Rattle.replication.specs.declared.control.Control.{Control}
-use Rattle.replication.proofs.TestLaws.{all-at, and-first, and-second}
+use Rattle.carts.proofs.TestLaws.{all-at, and-left, and-right}
 
 -- a row that stops, and one that does not
 pub row-stops : (n : ℕ) (b : Bool) (rs : List Row) → b ≡ true → n ≡ stopped (row n b ∷ rs)
@@ -40,10 +40,10 @@ stops-first (x ∷ xs) ys v e n = go (x .stops) e (stops-first xs ys v)
 pub passes-on : (xs ys : List Row) (v : ℕ) → numbered xs ≡ true → v ≡ stopped xs → v ≡ 0 → stopped (xs ++ ys) ≡ stopped ys
 unfolding stopped numbered every
 passes-on [] ys v k e z = refl
-passes-on (x ∷ xs) ys v k e z = go (x .stops) e (passes-on xs ys v (and-second (leb 1 (x .number)) (numbered xs) k))
+passes-on (x ∷ xs) ys v k e z = go (x .stops) e (passes-on xs ys v (and-right (leb 1 (x .number)) (numbered xs) k))
   where
     go : (b : Bool) → v ≡ cond b (x .number) (stopped xs) → (v ≡ stopped xs → v ≡ 0 → stopped (xs ++ ys) ≡ stopped ys) → cond b (x .number) (stopped (xs ++ ys)) ≡ stopped ys
-    go true f ih = let l : 1 ≤ x .number = leb-true 1 (x .number) (and-first (leb 1 (x .number)) (numbered xs) k) in absurd (omega arith)
+    go true f ih = let l : 1 ≤ x .number = leb-true 1 (x .number) (and-left (leb 1 (x .number)) (numbered xs) k) in absurd (omega arith)
     go false f ih = ih f z
 
 -- a call that a row stops, and one that is accepted

@@ -11,7 +11,7 @@ use borrow.Author.Tests.{eq-eqb, ne-eqb, lt-ltb, le-ltb, le-leb, lt-leb, eqb-tru
 use Rattle.carts.specs.Bytes.{within, all, every, pairwise}
 use Rattle.replication.specs.Log.{nextOperation, nextTransaction, chain, recordsOf, upFrom, chainForm}
 use Rattle.replication.specs.Values.{ownForm, spanOf}
-use Rattle.replication.proofs.TestLaws.{all-at}
+use Rattle.carts.proofs.TestLaws.{all-at}
 
 -- d records more, where there are any
 unfoldable pub raise : ℕ → ℕ → ℕ

@@ -1,0 +1,63 @@
+-- Laws of parts of one size: one of them replaced, and tests of each of them.
+use mathlib.Core.Path.{_≡_, refl, sym, ap, _∙_}
+use mathlib.Core.Logic.{_≢_}
+use mathlib.Core.Bool.{Bool, true}
+use mathlib.Core.List.{List, []}
+use Prim.Native.Nat.{ℕ, zero, suc, _+_, _*_, _≤_, _<_}
+use native.Mathlib.Omega.{arith}
+use native.Mathlib.Nat.{add-zero, mul-zero, mul-suc, mul-le-mul-left}
+use native.Mathlib.Decide.{decLe}
+use lib.ListN.{length, take, drop, getD}
+use lib.Seq.{drop-drop}
+use Rattle.carts.specs.Bytes.{part, over, parts, eachPart}
+use Rattle.carts.proofs.OverLaws.{part-over-before, drop-over-after}
+use Rattle.carts.proofs.TestLaws.{and-left, and-right}
+
+-- parts of one size: part k of them replaced leaves the others
+module _ (size : ℕ) (s : List ℕ) (k : ℕ) (x : List ℕ) (e : length x ≡ size) (h : size * k + size ≤ length s) where
+  pub part-other : (j : ℕ) → j ≢ k → part (over s (size * k) size x) (size * j) size ≡ part s (size * j) size
+  part-other j ne = go (decLe j k)
+    where
+      go : Dec (j ≤ k) → part (over s (size * k) size x) (size * j) size ≡ part s (size * j) size
+      go (yes le) =
+          let l : suc j ≤ k = omega arith in
+          part-over-before s (size * k) size x (size * j) size (omega arith) (omega (arith, mul-le-mul-left size l))
+      go (no gt) =
+          let l : suc k ≤ j = omega arith in
+          ap (take size) (drop-over-after s (size * k) size x (size * j) (omega arith) e (omega (arith, mul-le-mul-left size l)))
+
+-- the parts of one size, and what stands at each
+next-part : (size i : ℕ) (s : List ℕ) → part (drop size s) (size * i) size ≡ part s (size * suc i) size
+next-part size i s =
+    let k : size + size * i ≡ size * suc i = rw mul-suc (omega arith) in
+    ap (take size) (drop-drop (size * i) size s ∙ ap (λ k. drop k s) k)
+
+pub length-parts : (size n : ℕ) (s : List ℕ) → length (parts size n s) ≡ n
+unfolding parts
+length-parts size zero s = refl
+length-parts size (suc n) s = ap suc (length-parts size n (drop size s))
+
+pub parts-at : (size n : ℕ) (s : List ℕ) (i : ℕ) → i < n → getD (parts size n s) i [] ≡ part s (size * i) size
+unfolding parts
+parts-at size zero s i h = let z : ⊥ = omega arith in absurd z
+parts-at size (suc n) s zero h = rw mul-zero
+parts-at size (suc n) s (suc i) h = parts-at size n (drop size s) i (omega arith) ∙ next-part size i s
+
+-- a test of each part, read at one of them, and from all of them
+module _ (test : ℕ → List ℕ → Bool) (size : ℕ) where
+  pub each-at : (n i : ℕ) (s : List ℕ) → eachPart test size n i s ≡ true → (j : ℕ) → j < n → test (i + j) (part s (size * j) size) ≡ true
+  unfolding eachPart
+  each-at zero i s h j l = let z : ⊥ = omega arith in absurd z
+  each-at (suc n) i s h zero l = rw (add-zero i, mul-zero) (and-left (test i (take size s)) (eachPart test size n (i + 1) (drop size s)) h)
+  each-at (suc n) i s h (suc j) l =
+      let k : i + 1 + j ≡ i + suc j = omega arith in
+      rw (← k, ← next-part size j s) (each-at n (i + 1) (drop size s) (and-right (test i (take size s)) (eachPart test size n (i + 1) (drop size s)) h) j (omega arith))
+
+  pub at-each : (n i : ℕ) (s : List ℕ) → ((j : ℕ) → j < n → test (i + j) (part s (size * j) size) ≡ true) → eachPart test size n i s ≡ true
+  unfolding eachPart
+  at-each zero i s f = refl
+  at-each (suc n) i s f =
+      let a : test i (take size s) ≡ true = rw (add-zero i, mul-zero) at (f 0 (omega arith)) in
+      let r : eachPart test size n (i + 1) (drop size s) ≡ true = at-each n (i + 1) (drop size s) (λ j l.
+      let k : i + 1 + j ≡ i + suc j = omega arith in rw (k, next-part size j s) (f (suc j) (omega arith))) in
+      rw (a, r)

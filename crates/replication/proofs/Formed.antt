@@ -1,0 +1,186 @@
+-- The layout taken apart: each of its tests read part by part, and put together again.
+use mathlib.Core.Path.{_≡_, refl}
+use mathlib.Core.Bool.{Bool, true, false}
+use mathlib.Core.List.{List, [], _∷_}
+use Prim.Native.Nat.{ℕ, zero, suc, _+_, _*_, _-_, _≤_}
+use native.Mathlib.Omega.{arith}
+use borrow.Author.Tests.{leb-true, le-leb, eqb-true, eq-eqb}
+use lib.Dec.{leb, eqb}
+use lib.ListN.{length, drop, getD}
+use Rattle.carts.specs.Bytes.{part, within, all, every, allZero, eachPart}
+use Rattle.carts.specs.Cart.{copyForm}
+use Rattle.carts.specs.Operation.{operationFields}
+use Rattle.replication.specs.Memory.{Memory, lengthsForm, copyAt, recordAt, sessionAt, nth, studioOf}
+use Rattle.replication.specs.Log.{firstRecord, chainForm}
+use Rattle.replication.specs.Layout.{replicaForm, recordForm, sessionForm, countsForm, layoutTests, ofLayout}
+use Rattle.replication.specs.Calls.{committed}
+use Rattle.replication.specs.declared.control.Control.{Control}
+use Rattle.carts.proofs.TestLaws.{all-at, all-set, all-cons, all-nil, every-at, within-high}
+use Rattle.carts.proofs.EachLaws.{each-at, at-each}
+
+-- control: S, and the sessions' studios
+abbrev pub ControlFormed : Control → Type 0
+ControlFormed c = record {
+  studios : within 1 4 (c .studios) ≡ true;
+  places : every (λ i. leb i (c .studios)) (c .«session_studios») ≡ true;
+}
+
+abbrev pub LibraryFormed : Control → List ℕ → Type 0
+LibraryFormed c library = record {
+  size : length library ≡ 51200;
+  copies : (i : ℕ) → i ≤ 4 → replicaForm (c .studios) i (copyAt library i) ≡ true;
+}
+
+abbrev pub LogFormed : Control → List ℕ → Type 0
+LogFormed c log = record {
+  size : length log ≡ 40960;
+  used : c .used ≤ 512;
+  records : (r : ℕ) → 1 ≤ r → r ≤ c .used → operationFields (recordAt log r) ≡ true;
+  free : allZero (drop (80 * c .used) log) ≡ true;
+  chain : chainForm (c .commits) log (firstRecord c) 1 (c .used + 1) ≡ true;
+}
+
+abbrev pub SessionsFormed : Control → List ℕ → Type 0
+SessionsFormed c sessions = record {
+  size : length sessions ≡ 1280;
+  forms : (s : ℕ) → 1 ≤ s → s ≤ 16 → sessionForm c s (sessionAt sessions s) ≡ true;
+}
+
+abbrev pub CountsFormed : Control → Type 0
+CountsFormed c = (i : ℕ) → 1 ≤ i → i ≤ 4 → countsForm c i ≡ true
+
+pub record Formed (c : Control) (m : Memory) : Type 0 where
+  pub control : ControlFormed c
+  pub library : LibraryFormed c (m .library)
+  pub log : LogFormed c (m .log)
+  pub sessions : SessionsFormed c (m .sessions)
+  pub counts : CountsFormed c
+
+-- parts counted from 1
+from-one : (test : ℕ → List ℕ → Bool) (size n : ℕ) (s : List ℕ) → eachPart test size n 1 s ≡ true
+    → (i : ℕ) → 1 ≤ i → i ≤ n → test i (part s (size * (i - 1)) size) ≡ true
+from-one test size n s h i l g =
+    let e : 1 + (i - 1) ≡ i = omega arith in
+    rw e at (each-at test size n 1 s h (i - 1) (omega arith))
+
+to-one : (test : ℕ → List ℕ → Bool) (size n : ℕ) (s : List ℕ)
+    → ((i : ℕ) → 1 ≤ i → i ≤ n → test i (part s (size * (i - 1)) size) ≡ true) → eachPart test size n 1 s ≡ true
+to-one test size n s f = at-each test size n 1 s (λ j l. let e : 1 + j - 1 ≡ j = omega arith in rw e at (f (1 + j) (omega arith) (omega arith)))
+
+-- the four studios
+studio-at : (p : ℕ → Bool) → every p (1 ∷ 2 ∷ 3 ∷ 4 ∷ []) ≡ true → (i : ℕ) → 1 ≤ i → i ≤ 4 → p i ≡ true
+studio-at p h i l g = rw (is i l g) at (every-at p (1 ∷ 2 ∷ 3 ∷ 4 ∷ []) 0 (i - 1) h (omega arith))
+  where
+    is : (i : ℕ) → 1 ≤ i → i ≤ 4 → getD (1 ∷ 2 ∷ 3 ∷ 4 ∷ []) (i - 1) 0 ≡ i
+    is zero l g = let z : ⊥ = omega arith in absurd z
+    is (suc zero) l g = refl
+    is (suc (suc zero)) l g = refl
+    is (suc (suc (suc zero))) l g = refl
+    is (suc (suc (suc (suc zero)))) l g = refl
+    is (suc (suc (suc (suc (suc i))))) l g = let z : ⊥ = omega arith in absurd z
+
+four-studios : (p : ℕ → Bool) → ((i : ℕ) → 1 ≤ i → i ≤ 4 → p i ≡ true) → every p (1 ∷ 2 ∷ 3 ∷ 4 ∷ []) ≡ true
+unfolding every
+four-studios p f = rw (f 1 (omega arith) (omega arith), f 2 (omega arith) (omega arith), f 3 (omega arith) (omega arith), f 4 (omega arith) (omega arith))
+
+pub formed : (c : Control) (m : Memory) → lengthsForm m ≡ true → ofLayout c m ≡ true → Formed c m
+unfolding lengthsForm ofLayout layoutTests recordForm copyAt recordAt sessionAt
+formed c m lengths layout = record {
+  control = record { studios = test 0; places = test 1 };
+  library = record {
+    size = eqb-true _ _ (all-at 0 sizes lengths);
+    copies = λ i l. let e : 0 + i ≡ i = omega arith in rw e at (each-at (replicaForm (c .studios)) 10240 5 0 (m .library) (test 2) i (omega arith));
+  };
+  log = record {
+    size = eqb-true _ _ (all-at 1 sizes lengths);
+    used = leb-true _ _ (test 3);
+    records = from-one recordForm 80 (c .used) (m .log) (test 4);
+    free = test 5;
+    chain = test 6;
+  };
+  sessions = record { size = eqb-true _ _ (all-at 2 sizes lengths); forms = from-one (sessionForm c) 80 16 (m .sessions) (test 7) };
+  counts = studio-at (countsForm c) (test 8);
+}
+  where
+    test : (n : ℕ) → getD (layoutTests c m) n true ≡ true
+    test n = all-at n (layoutTests c m) layout
+
+    sizes : List Bool
+    sizes = eqb (length (m .library)) 51200 ∷ eqb (length (m .log)) 40960 ∷ eqb (length (m .sessions)) 1280 ∷ []
+
+pub of-layout : (c : Control) (m : Memory) → Formed c m → (lengthsForm m ≡ true) × (ofLayout c m ≡ true)
+unfolding lengthsForm ofLayout layoutTests recordForm copyAt recordAt sessionAt
+of-layout c m f = (
+  all-cons _ _ (eq-eqb _ _ (f .library .size)) (all-cons _ _ (eq-eqb _ _ (f .log .size)) (all-cons _ _ (eq-eqb _ _ (f .sessions .size)) all-nil)),
+      all-cons _ _ (f .control .studios)
+      (all-cons _ _ (f .control .places)
+      (all-cons _ _ (at-each (replicaForm (c .studios)) 10240 5 0 (m .library) (λ i l. let e : 0 + i ≡ i = omega arith in rw e (f .library .copies i (omega arith))))
+      (all-cons _ _ (le-leb _ _ (f .log .used))
+      (all-cons _ _ (to-one recordForm 80 (c .used) (m .log) (f .log .records))
+      (all-cons _ _ (f .log .free)
+      (all-cons _ _ (f .log .chain)
+      (all-cons _ _ (to-one (sessionForm c) 80 16 (m .sessions) (f .sessions .forms))
+      (all-cons _ _ (four-studios (countsForm c) (f .counts)) all-nil)))))))),
+)
+
+-- what a studio's counts say, where it is in use
+pub record Counts (c : Control) (i : ℕ) : Type 0 where
+  pub order : nth (c .applied) i ≤ nth (c .sent) i
+  pub known : nth (c .sent) i ≤ c .commits
+  pub near : nth (c .sent) i - nth (c .applied) i ≤ 32
+
+module _ (c : Control) (i : ℕ) where
+  countTests : List Bool
+  countTests = leb (nth (c .applied) i) (nth (c .sent) i) ∷ leb (nth (c .sent) i) (c .commits) ∷ leb (nth (c .sent) i - nth (c .applied) i) 32 ∷ []
+
+  pub counts-of : i ≤ c .studios → countsForm c i ≡ true → Counts c i
+  unfolding countsForm countTests
+  counts-of l f =
+      let g : all countTests ≡ true = rw (le-leb i (c .studios) l) at f in
+      record { order = leb-true _ _ (all-at 0 countTests g); known = leb-true _ _ (all-at 1 countTests g); near = leb-true _ _ (all-at 2 countTests g) }
+
+  pub of-counts : i ≤ c .studios → Counts c i → countsForm c i ≡ true
+  unfolding countsForm
+  of-counts l f = rw (le-leb i (c .studios) l) (all-cons _ _ (le-leb _ _ (f .order)) (all-cons _ _ (le-leb _ _ (f .known)) (all-cons _ _ (le-leb _ _ (f .near)) all-nil)))
+
+  -- one commit more
+  pub counts-more : (k : ℕ) → countsForm c i ≡ true → countsForm (committed c k) i ≡ true
+  unfolding countsForm committed countTests
+  counts-more k f = go (leb i (c .studios)) refl
+    where
+      go : (b : Bool) → leb i (c .studios) ≡ b → countsForm (committed c k) i ≡ true
+      go true e =
+          let h : all countTests ≡ true = rw e at f in
+          let l : nth (c .sent) i ≤ c .commits = leb-true _ _ (all-at 1 countTests h) in
+          rw e (all-set 1 countTests (leb (nth (c .sent) i) (c .commits + 1)) h (le-leb (nth (c .sent) i) (c .commits + 1) (omega arith)))
+      go false e = rw e (rw e at f)
+
+  -- in use or not
+  pub applied-known : countsForm c i ≡ true → nth (c .applied) i ≤ c .commits
+  unfolding countsForm
+  applied-known f = go (leb i (c .studios)) refl
+    where
+      go : (b : Bool) → leb i (c .studios) ≡ b → nth (c .applied) i ≤ c .commits
+      go true e = let n = counts-of (leb-true _ _ e) f in omega arith
+      go false e =
+          let g : all (eqb (nth (c .sent) i) 0 ∷ eqb (nth (c .applied) i) 0 ∷ []) ≡ true = rw e at f in
+          let z : nth (c .applied) i ≡ 0 = eqb-true _ _ (all-at 1 (eqb (nth (c .sent) i) 0 ∷ eqb (nth (c .applied) i) 0 ∷ []) g) in
+          omega arith
+
+-- at most four studios; a session's studio is one of them, or 0
+module _ (c : Control) (m : Memory) (f : Formed c m) where
+  pub few : c .studios ≤ 4
+  few = within-high 1 4 (c .studios) (f .control .studios)
+
+  pub studio-known : (s : ℕ) → length (c .«session_studios») ≡ 16 → s ≤ 16 → studioOf c s ≤ c .studios
+  unfolding studioOf
+  studio-known s n l = leb-true _ _ (every-at (λ i. leb i (c .studios)) (c .«session_studios») 0 (s - 1) (f .control .places) (omega arith))
+
+-- a copy in use
+pub studio-copy : (studios i : ℕ) (copy : List ℕ) → i ≤ studios → copyForm copy ≡ true → replicaForm studios i copy ≡ true
+unfolding replicaForm
+studio-copy studios i copy l f = rw (le-leb i studios l) f
+
+pub copy-in-use : (studios i : ℕ) (copy : List ℕ) → i ≤ studios → replicaForm studios i copy ≡ true → copyForm copy ≡ true
+unfolding replicaForm
+copy-in-use studios i copy l f = rw (le-leb i studios l) at f
