@@ -112,7 +112,7 @@ pub of-layout : (c : Control) (m : Memory) → Formed c m → (lengthsForm m ≡
 unfolding lengthsForm ofLayout layoutTests recordForm copyAt recordAt sessionAt
 of-layout c m f = (
   all-cons _ _ (eq-eqb _ _ (f .library .size)) (all-cons _ _ (eq-eqb _ _ (f .log .size)) (all-cons _ _ (eq-eqb _ _ (f .sessions .size)) all-nil)),
-      all-cons _ _ (f .control .studios)
+  all-cons _ _ (f .control .studios)
       (all-cons _ _ (f .control .places)
       (all-cons _ _ (at-each (replicaForm (c .studios)) 10240 5 0 (m .library) (λ i l. let e : 0 + i ≡ i = omega arith in rw e (f .library .copies i (omega arith))))
       (all-cons _ _ (le-leb _ _ (f .log .used))

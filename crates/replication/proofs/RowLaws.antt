@@ -46,6 +46,10 @@ passes-on (x ∷ xs) ys v k e z = go (x .stops) e (passes-on xs ys v (and-right 
     go true f ih = let l : 1 ≤ x .number = leb-true 1 (x .number) (and-left (leb 1 (x .number)) (numbered xs) k) in absurd (omega arith)
     go false f ih = ih f z
 
+-- the others decide, where the first pass
+pub decides : (xs ys : List Row) (v w : ℕ) → numbered xs ≡ true → v ≡ stopped xs → v ≡ 0 → w ≡ stopped ys → w ≡ stopped (xs ++ ys)
+decides xs ys v w k e z f = f ∙ sym (passes-on xs ys v k e z)
+
 -- a call that a row stops, and one that is accepted
 pub unless-stopped : {A : Type 0} (n : ℕ) (f : ℕ → A) (a : A) → (n ≡ 0 → ⊥) → f n ≡ unless n f a
 unfolding unless

@@ -1,4 +1,5 @@
 // What the calls answer. specs/Answer.antt gives document 01's number and values for each case.
+use crate::control::Control;
 
 // Setup: accepted, or refused with document 01's number.
 pub enum SetupAnswer {
@@ -17,4 +18,20 @@ pub enum ReadAnswer {
     Answered { state: u32, found: u32 },
     Waits(u32),
     Refused(u32),
+}
+
+// An answer, with control as it is handed back.
+pub struct SetupResult {
+    pub answer: SetupAnswer,
+    pub control: Control,
+}
+
+pub struct CountResult {
+    pub answer: CountAnswer,
+    pub control: Control,
+}
+
+pub struct ReadResult {
+    pub answer: ReadAnswer,
+    pub control: Control,
 }

@@ -89,6 +89,39 @@ impl Control {
         }
         (sent <= self.commits) & (sent - applied <= Control::WINDOW)
     }
+
+    // Control with another number sent to studio i.
+    pub fn with_sent(self, i: u32, n: u32) -> Control
+        requires { ⌜ (1 ≤ i) × (i ≤ 4) ⌝ }
+        ensures { λ r. ⌜ r ≡ withSent self i n ⌝ }
+    {
+        let j = i as usize - 1;
+        let mut next = self;
+        next.sent[j] = n;
+        next
+    }
+
+    // Control with another number applied by studio i.
+    pub fn with_applied(self, i: u32, n: u32) -> Control
+        requires { ⌜ (1 ≤ i) × (i ≤ 4) ⌝ }
+        ensures { λ r. ⌜ r ≡ withApplied self i n ⌝ }
+    {
+        let j = i as usize - 1;
+        let mut next = self;
+        next.applied[j] = n;
+        next
+    }
+
+    // Control after a commit of n operations.
+    pub fn committed(self, n: u32) -> Control
+        requires { ⌜ (self .used + n ≤ 512) × (self .commits ≤ 512) ⌝ }
+        ensures { λ r. ⌜ r ≡ committed self n ⌝ }
+    {
+        let mut next = self;
+        next.used = self.used + n;
+        next.commits = self.commits + 1;
+        next
+    }
 }
 
 // Each number is at most the given one.

@@ -5,4 +5,5 @@ pub mod control;
 pub mod layout;
 pub mod record;
 pub mod rows;
+pub mod send;
 pub mod session;
