@@ -90,7 +90,8 @@ unfoldable pub Written : List ℕ → ℕ → List (List ℕ) → Type 0
 Written log e [] = Unit {0}
 Written log e (op ∷ ops) = (recordAt log e ≡ linkedTo (front (upFrom (e + 1) (length ops))) op) × Written log (e + 1) ops
 
-pub written-kept : (log log′ : List ℕ) (e : ℕ) (ops : List (List ℕ)) → ((q : ℕ) → e ≤ q → recordAt log′ q ≡ recordAt log q) → Written log e ops → Written log′ e ops
+pub written-kept : (log log′ : List ℕ) (e : ℕ) (ops : List (List ℕ)) → ((q : ℕ) → e ≤ q → recordAt log′ q ≡ recordAt log q)
+    → Written log e ops → Written log′ e ops
 unfolding Written
 written-kept log log′ e [] f w = tt
 written-kept log log′ e (op ∷ ops) f w = (f e (omega arith) ∙ w .0, written-kept log log′ (e + 1) ops (λ q l. f q (omega arith)) (w .1))
@@ -149,7 +150,8 @@ written-linked log e [] g w = tt
 written-linked log e (op ∷ ops) g w =
     (rw (w .0) (linked-next _ op (g 0 (omega arith) .size)), written-linked log (e + 1) ops (λ i l. g (suc i) (omega arith)) (w .1))
 
-pub written-handed : (log : List ℕ) (e : ℕ) (ops : List (List ℕ)) → Givens ops → Written log e ops → map handedIn (map (recordAt log) (upFrom e (length ops))) ≡ ops
+pub written-handed : (log : List ℕ) (e : ℕ) (ops : List (List ℕ)) → Givens ops → Written log e ops
+    → map handedIn (map (recordAt log) (upFrom e (length ops))) ≡ ops
 unfolding Givens Written upFrom
 written-handed log e [] g w = refl
 written-handed log e (op ∷ ops) g w =

@@ -150,9 +150,15 @@ module _ (op : List ℕ) (o : Operation op) where
       })
       (λ old. let h : heldForm (u16 op 2) cart ≡ true = is-held _ cart (x .form) (rw old at meets) in
       by-cond (Cart (u16 op 2)) (isRetitle (byte op 0)) _ _
-      (λ k. record { size = length-retitled cart op (x .size) (o .size); form = held-cart _ _ (retitled-form cart op (x .size) (o .size) _ h (with-title (rw (old, k)))) })
+      (λ k. record {
+        size = length-retitled cart op (x .size) (o .size);
+        form = held-cart _ _ (retitled-form cart op (x .size) (o .size) _ h (with-title (rw (old, k))));
+      })
       (λ _. by-cond (Cart (u16 op 2)) (isRecut (byte op 0)) _ _
-      (λ k. record { size = length-recut cart op (x .size) (o .size); form = held-cart _ _ (recut-form cart op (x .size) (o .size) _ h (with-audio (rw (old, k)))) })
+      (λ k. record {
+        size = length-recut cart op (x .size) (o .size);
+        form = held-cart _ _ (recut-form cart op (x .size) (o .size) _ h (with-audio (rw (old, k))));
+      })
       (λ _. by-cond (Cart (u16 op 2)) (isWithdraw (byte op 0)) _ _ (λ _. zeros-cart (u16 op 2)) (λ _. x)))))
       (λ _. x)
 
@@ -169,7 +175,10 @@ cart-of copy h c l g =
 
 pub copy-of : (copy : List ℕ) → length copy ≡ 10240 → ((c : ℕ) → 1 ≤ c → c ≤ 128 → cartForm c (cartAt copy c) ≡ true) → Copy copy
 unfolding cartAt copyForm
-copy-of copy n f = record { size = n; form = at-each cartForm 80 128 1 copy (λ j l. let e : 1 + j - 1 ≡ j = omega arith in rw e at (f (1 + j) (omega arith) (omega arith))) }
+copy-of copy n f = record {
+  size = n;
+  form = at-each cartForm 80 128 1 copy (λ j l. let e : 1 + j - 1 ≡ j = omega arith in rw e at (f (1 + j) (omega arith) (omega arith)));
+}
 
 -- an operation keeps a copy
 pub act-copy : (copy op : List ℕ) → Copy copy → Operation op → Copy (act copy op)

@@ -122,7 +122,8 @@ of-layout c m f = record {
   layout =
       all-cons _ _ (f .control .studios)
       (all-cons _ _ (f .control .places)
-      (all-cons _ _ (at-each (replicaForm (c .studios)) 10240 5 0 (m .library) (λ i l. let e : 0 + i ≡ i = omega arith in rw e (f .library .copies i (omega arith))))
+      (all-cons _ _ (at-each (replicaForm (c .studios)) 10240 5 0 (m .library)
+      (λ i l. let e : 0 + i ≡ i = omega arith in rw e (f .library .copies i (omega arith))))
       (all-cons _ _ (le-leb _ _ (f .log .used))
       (all-cons _ _ (to-one recordForm 80 (c .used) (m .log) (f .log .records))
       (all-cons _ _ (f .log .free)
@@ -149,7 +150,9 @@ module _ (c : Control) (i : ℕ) where
 
   pub of-counts : i ≤ c .studios → Counts c i → countsForm c i ≡ true
   unfolding countsForm
-  of-counts l f = rw (le-leb i (c .studios) l) (all-cons _ _ (le-leb _ _ (f .order)) (all-cons _ _ (le-leb _ _ (f .known)) (all-cons _ _ (le-leb _ _ (f .near)) all-nil)))
+  of-counts l f =
+      rw (le-leb i (c .studios) l)
+      (all-cons _ _ (le-leb _ _ (f .order)) (all-cons _ _ (le-leb _ _ (f .known)) (all-cons _ _ (le-leb _ _ (f .near)) all-nil)))
 
   -- one commit more
   pub counts-more : (k : ℕ) → countsForm c i ≡ true → countsForm (committed c k) i ≡ true
@@ -182,7 +185,9 @@ module _ (c : Control) (m : Memory) (f : Formed c m) where
 
   pub studio-known : (s : ℕ) → s ≤ 16 → studioOf c s ≤ c .studios
   unfolding studioOf
-  studio-known s l = leb-true _ _ (every-at (λ i. leb i (c .studios)) (c .«session_studios») 0 (s - 1) (f .control .places) (let n = f .control .sessionStudios in omega arith))
+  studio-known s l =
+      let n = f .control .sessionStudios in
+      leb-true _ _ (every-at (λ i. leb i (c .studios)) (c .«session_studios») 0 (s - 1) (f .control .places) (omega arith))
 
 -- a copy in use
 pub studio-copy : (studios i : ℕ) (copy : List ℕ) → i ≤ studios → copyForm copy ≡ true → replicaForm studios i copy ≡ true

@@ -222,7 +222,9 @@ module _ (used : ℕ) (log : List ℕ) (ops : List (List ℕ)) (size : length lo
       where
         go : Dec (q ≤ used) → Dec (q ≡ last) → operationFields (recordAt joined q) ≡ true
         go (yes l) (yes e) =
-            rw (e, same) (followed-fields (used + 1) (recordAt full last) length-last ∙ ap operationFields (before last low (let h = high in omega arith)) ∙ records last low high)
+            rw (e, same)
+            (followed-fields (used + 1) (recordAt full last) length-last
+            ∙ ap operationFields (before last low (let h = high in omega arith)) ∙ records last low high)
         go (yes l) (no ne) = rw (other q a ne, before q a (omega arith)) (records q a l)
         go (no l) d = holds-fields joined q (holds joined (used + 1) ops g new q (omega arith) (omega arith))
 

@@ -85,7 +85,8 @@ module _ (test : ℕ → List ℕ → Bool) (size : ℕ) where
   each-at (suc n) i s h zero l = rw (add-zero i, mul-zero) (and-left (test i (take size s)) (eachPart test size n (i + 1) (drop size s)) h)
   each-at (suc n) i s h (suc j) l =
       let k : i + 1 + j ≡ i + suc j = omega arith in
-      rw (← k, ← next-part size j s) (each-at n (i + 1) (drop size s) (and-right (test i (take size s)) (eachPart test size n (i + 1) (drop size s)) h) j (omega arith))
+      rw (← k, ← next-part size j s)
+      (each-at n (i + 1) (drop size s) (and-right (test i (take size s)) (eachPart test size n (i + 1) (drop size s)) h) j (omega arith))
 
   pub at-each : (n i : ℕ) (s : List ℕ) → ((j : ℕ) → j < n → test (i + j) (part s (size * j) size) ≡ true) → eachPart test size n i s ≡ true
   unfolding eachPart
