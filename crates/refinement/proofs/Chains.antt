@@ -1,6 +1,6 @@
 -- The log's chains: a transaction's records stand one after the other, and each transaction where the walk comes to it.
 use mathlib.Core.Path.{_≡_, refl, sym, ap, _∙_}
-use mathlib.Core.Bool.{Bool, true, false, _&&_}
+use mathlib.Core.Bool.{Bool, true, false}
 use mathlib.Core.List.{List, [], _∷_, map}
 use Prim.Native.Nat.{ℕ, zero, suc, _+_, _-_, _≤_, _<_}
 use native.Mathlib.Omega.{arith}
@@ -16,7 +16,7 @@ use Rattle.replication.specs.Log.{nextOperation, nextTransaction, chain, record
 use Rattle.machine.specs.Machine.{recordsUsed}
 use Rattle.refinement.specs.Represents.{handedIn, transactionsFrom}
 use Rattle.refinement.proofs.Tests.{and-left, and-right, all-at, all-cons, all-nil, within-low, within-high, within-of, pairwise-eq, pairwise-refl}
-use Rattle.refinement.proofs.Memories.{length-cell}
+use Rattle.refinement.proofs.Cells.{length-cell}
 use Rattle.refinement.proofs.Effect.{Operation, Operations}
 
 -- records that follow one another
@@ -100,6 +100,15 @@ pub linked-kept : (log log′ : List ℕ) (r k : ℕ) → ((q : ℕ) → r ≤ q
 unfolding Linked
 linked-kept log log′ r zero f g = tt
 linked-kept log log′ r (suc k) f g = (f r (omega arith) (omega arith) ∙ g .0, linked-kept log log′ (r + 1) k (λ q a b. f q (omega arith) (omega arith)) (g .1))
+
+-- no transaction more
+pub chain-end : (log : List ℕ) (first r end : ℕ) → chainForm 0 log first r end ≡ true → r ≡ end
+unfolding chainForm
+chain-end log first r end h = eqb-true r end (all-at 1 (eqb first 0 ∷ eqb r end ∷ []) h)
+
+pub end-chain : (log : List ℕ) (first r : ℕ) → first ≡ 0 → chainForm 0 log first r r ≡ true
+unfolding chainForm
+end-chain log first r e = all-cons _ _ (eq-eqb first 0 e) (all-cons _ _ (eq-eqb r r refl) all-nil)
 
 -- the tests of a transaction of k records `own`, the first at r
 abbrev chainTests : List ℕ → ℕ → ℕ → ℕ → List ℕ → List Bool
@@ -205,7 +214,7 @@ placed-operations log used r n u f p = rw (p .own) go
 -- the records of the transactions are those in use
 pub records-used : (n : ℕ) (log : List ℕ) (first r end : ℕ) → chainForm n log first r end ≡ true → r + recordsUsed (transactionsFrom n log first) ≡ end
 unfolding chainForm transactionsFrom recordsUsed transactionAt
-records-used zero log first r end h = let e : r ≡ end = eqb-true r end (all-at 1 (eqb first 0 ∷ eqb r end ∷ []) h) in omega arith
+records-used zero log first r end h = let e = chain-end log first r end h in omega arith
 records-used (suc n) log first r end h =
     let x = chained n log first r end h in
     let rec = records-used n log (nextTransaction log r) (r + x .size) end (x .rest) in

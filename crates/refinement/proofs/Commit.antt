@@ -28,10 +28,10 @@ use Rattle.refinement.proofs.Tests.{all-at, every-at, within-low, withi
 use Rattle.refinement.proofs.Parts.{length-part, length-parts, parts-at}
 use Rattle.refinement.proofs.Zeros.{zero-drop}
 use Rattle.refinement.proofs.Effect.{Operations, Copy, actAll-copy}
-use Rattle.refinement.proofs.Memories.{length-copyAt, length-withCopy, copy-same, copy-other}
+use Rattle.refinement.proofs.Copies.{length-copyAt, length-withCopy, copy-same, copy-other}
 use Rattle.refinement.proofs.Chains.{records-used}
 use Rattle.refinement.proofs.Append.{Givens}
-use Rattle.refinement.proofs.Grow.{Grown, grown}
+use Rattle.refinement.proofs.Grown.{Grown, grown}
 use Rattle.refinement.proofs.Transactions.{L-step, L-append}
 use Rattle.refinement.proofs.Represented.{machineOf, log-length}
 use Rattle.refinement.proofs.Formed.{Formed, formed, of-layout, applied-known, counts-more, studio-copy, copy-in-use}

@@ -21,7 +21,7 @@ use Rattle.refinement.proofs.Tests.{by-cond, cond-both}
 use Rattle.refinement.proofs.Represented.{machineOf}
 use Rattle.refinement.proofs.Formed.{Formed, formed, of-layout, few, studio-known}
 use Rattle.refinement.proofs.Rows.{memory-passes, unless-by, unless-both, UsedSession, read-passed, collect-passed}
-use Rattle.refinement.proofs.Sessions.{SessionBytes, request-bytes, empty-bytes, empty-request, own-bytes, own-sequence, length-sessions, sessions-form, sessions-shown, session-of}
+use Rattle.refinement.proofs.Sessions.{SessionBytes, request-bytes, empty-bytes, empty-request, own-bytes, own-sequence, length-sessions, sessions-form, shown, sessions-shown, session-of}
 
 -- memory with other bytes of session s
 abbrev with : Memory → ℕ → ℕ → List ℕ → Memory
@@ -142,5 +142,5 @@ module _ (c : Control) (m : Memory) (s : ℕ) (out : List ℕ) where
       (record { answer = refl; output = refl; next = rw same h })))
     where
       -- a collect that waits again stores what is stored
-      same : set sessions (s - 1) (session (studioOf c s) (sequenceOf (sessionAt (m .sessions) s)) (requestOf (sessionAt (m .sessions) s))) ≡ sessions
+      same : set sessions (s - 1) (shown c (m .sessions) s) ≡ sessions
       same = ap (set sessions (s - 1)) (sym (session-of c m _ h s)) ∙ set-getD sessions (s - 1) _

@@ -20,7 +20,7 @@ use Rattle.machine.specs.Machine as Plain
 use Rattle.machine.specs.Machine.{Transaction, Session, L}
 use Rattle.refinement.specs.Represents.{OfLayout, handedIn, transactionsFrom, Represents, Simulates}
 use Rattle.refinement.proofs.Effect.{Operations, sizes, Copy, actAll-copy}
-use Rattle.refinement.proofs.Memories.{length-copyAt, length-withCopy, copy-same, copy-other}
+use Rattle.refinement.proofs.Copies.{length-copyAt, length-withCopy, copy-same, copy-other}
 use Rattle.refinement.proofs.Chains.{placed, placed-operations}
 use Rattle.refinement.proofs.Transactions.{length-transactions, transactions-at, handed-actAll, L-step}
 use Rattle.refinement.proofs.Represented.{machineOf}

@@ -22,7 +22,7 @@ use Rattle.refinement.proofs.Tests.{all-at, all-set, all-cons, all-nil}
 use Rattle.refinement.proofs.Parts.{length-over}
 use Rattle.refinement.proofs.Zeros.{zero-part}
 use Rattle.refinement.proofs.Fields.{bytes, by-fields}
-use Rattle.refinement.proofs.Memories.{length-cell, length-cells, cell-same, cell-other}
+use Rattle.refinement.proofs.Cells.{length-cell, length-cells, cell-same, cell-other}
 use Rattle.refinement.proofs.Rows.{UsedSession}
 use Rattle.refinement.proofs.Formed.{SessionsFormed, formed}
 
@@ -176,8 +176,7 @@ unfolding studioOf sessionAt sequenceOf requestOf u16
 session-of c m M h zero = h .sessions 1 (omega arith) (omega arith)
 session-of c m M h (suc s) = go (decLe (suc s) 16)
   where
-    go : Dec (suc s ≤ 16)
-        → sessionOf M (suc s) ≡ session (studioOf c (suc s)) (sequenceOf (sessionAt (m .sessions) (suc s))) (requestOf (sessionAt (m .sessions) (suc s)))
+    go : Dec (suc s ≤ 16) → sessionOf M (suc s) ≡ shown c (m .sessions) (suc s)
     go (yes l) = h .sessions (suc s) (omega arith) l
     go (no g) =
         let f = formed c m (h .form) in
