@@ -2,20 +2,17 @@
 use mathlib.Core.Path.{_≡_, refl, _∙_}
 use mathlib.Core.Bool.{true}
 use mathlib.Core.List.{List, [], _∷_, map}
-use Prim.Native.Nat.{ℕ, suc, _+_, _*_, _≤_, _<_, _/_, _%_}
+use Prim.Native.Nat.{ℕ, suc, _+_, _*_, _≤_, _<_}
 use native.Mathlib.Omega.{arith}
 use native.Mathlib.Decide.{ℕ-discrete}
 use lib.ListN.{length, drop, getD}
-use Rattle.carts.specs.Bytes.{zeros, part, over, u16, u32, u16Bytes, allZero}
-use Rattle.carts.specs.Cart.{hasTitle, noTitle, hasAudio, noAudio}
+use Rattle.carts.specs.Bytes.{part, allZero}
 use Rattle.carts.specs.Operation.{operationFields}
 use Rattle.replication.specs.Memory.{recordAt, withRecord}
 use Rattle.replication.specs.Log.{nextOperation, nextTransaction, upFrom, front, writeAll}
 use Rattle.refinement.specs.Represents.{handedIn}
-use Rattle.refinement.proofs.Parts.{length-over}
-use Rattle.refinement.proofs.Zeros.{zero-first}
-use Rattle.refinement.proofs.Fields.{Head, bytes, by-fields}
-use Rattle.refinement.proofs.Memories.{length-cells, cell-same, cell-other, cells-past}
+use Rattle.refinement.proofs.Cells.{length-cells, cell-same, cell-other, cells-past}
+use Rattle.refinement.proofs.Links.{linkedTo, length-linked, linked-next, linked-fields, linked-last, linked-handed}
 use Rattle.refinement.proofs.Chains.{Linked}
 
 -- an operation as handed in
@@ -27,70 +24,13 @@ pub record Given (op : List ℕ) : Type 0 where
 unfoldable pub Givens : List (List ℕ) → Type 0
 Givens ops = (i : ℕ) → i < length ops → Given (getD ops i [])
 
--- a link in bytes 12–13 or 14–15 of a record: where it is read, and what it leaves
-abbrev pub linkedTo : ℕ → List ℕ → List ℕ
-linkedTo n x = over x 12 2 (u16Bytes n)
-
-abbrev pub followedBy : ℕ → List ℕ → List ℕ
-followedBy n x = over x 14 2 (u16Bytes n)
-
-no-links : (h : Head) (t : List ℕ) → allZero (part (bytes h t) 12 4) ≡ true → (h .b12 ≡ 0) × (h .b13 ≡ 0) × (h .b14 ≡ 0) × (h .b15 ≡ 0)
-no-links h t z =
-    let z12 = zero-first (h .b12) _ z in
-    let z13 = zero-first (h .b13) _ (z12 .1) in
-    let z14 = zero-first (h .b14) _ (z13 .1) in
-    let z15 = zero-first (h .b15) _ (z14 .1) in
-    (z12 .0, z13 .0, z14 .0, z15 .0)
-
-module _ (n : ℕ) (x : List ℕ) (l : length x ≡ 80) where
-  pub length-linked : length (linkedTo n x) ≡ 80
-  unfolding u16Bytes
-  length-linked = length-over x 12 2 (n % 256 ∷ n / 256 ∷ []) refl (omega arith) ∙ l
-
-  pub linked-next : u16 (linkedTo n x) 12 ≡ n
-  unfolding u16 u16Bytes
-  linked-next = by-fields (λ x. u16 (linkedTo n x) 12 ≡ n) 0 (λ h t _. omega arith) x (omega arith)
-
-  pub linked-fields : operationFields (linkedTo n x) ≡ operationFields x
-  unfolding operationFields hasTitle noTitle hasAudio noAudio u16 u32 u16Bytes
-  linked-fields = by-fields (λ x. operationFields (linkedTo n x) ≡ operationFields x) 0 (λ h t _. refl) x (omega arith)
-
-  pub linked-last : allZero (part x 12 4) ≡ true → u16 (linkedTo n x) 14 ≡ 0
-  unfolding u16 u16Bytes
-  linked-last = by-fields (λ x. allZero (part x 12 4) ≡ true → u16 (linkedTo n x) 14 ≡ 0) 0
-      (λ h t _ z. let k = no-links h t z in rw (k .2, k .3)) x (omega arith)
-
-  pub linked-handed : allZero (part x 12 4) ≡ true → handedIn (linkedTo n x) ≡ x
-  unfolding handedIn u16Bytes zeros
-  linked-handed = by-fields (λ x. allZero (part x 12 4) ≡ true → handedIn (linkedTo n x) ≡ x) 0
-      (λ h t _ z. let k = no-links h t z in rw (k .0, k .1, k .2, k .3)) x (omega arith)
-
-  pub length-followed : length (followedBy n x) ≡ 80
-  unfolding u16Bytes
-  length-followed = length-over x 14 2 (n % 256 ∷ n / 256 ∷ []) refl (omega arith) ∙ l
-
-  pub followed-next : u16 (followedBy n x) 12 ≡ u16 x 12
-  unfolding u16 u16Bytes
-  followed-next = by-fields (λ x. u16 (followedBy n x) 12 ≡ u16 x 12) 0 (λ h t _. refl) x (omega arith)
-
-  pub followed-last : u16 (followedBy n x) 14 ≡ n
-  unfolding u16 u16Bytes
-  followed-last = by-fields (λ x. u16 (followedBy n x) 14 ≡ n) 0 (λ h t _. omega arith) x (omega arith)
-
-  pub followed-fields : operationFields (followedBy n x) ≡ operationFields x
-  unfolding operationFields hasTitle noTitle hasAudio noAudio u16 u32 u16Bytes
-  followed-fields = by-fields (λ x. operationFields (followedBy n x) ≡ operationFields x) 0 (λ h t _. refl) x (omega arith)
-
-  pub followed-handed : handedIn (followedBy n x) ≡ handedIn x
-  unfolding handedIn u16Bytes zeros
-  followed-handed = by-fields (λ x. handedIn (followedBy n x) ≡ handedIn x) 0 (λ h t _. refl) x (omega arith)
-
 -- the log has the operations from record e on
 unfoldable pub Written : List ℕ → ℕ → List (List ℕ) → Type 0
 Written log e [] = Unit {0}
 Written log e (op ∷ ops) = (recordAt log e ≡ linkedTo (front (upFrom (e + 1) (length ops))) op) × Written log (e + 1) ops
 
-pub written-kept : (log log′ : List ℕ) (e : ℕ) (ops : List (List ℕ)) → ((q : ℕ) → e ≤ q → recordAt log′ q ≡ recordAt log q) → Written log e ops → Written log′ e ops
+pub written-kept : (log log′ : List ℕ) (e : ℕ) (ops : List (List ℕ)) → ((q : ℕ) → e ≤ q → recordAt log′ q ≡ recordAt log q)
+    → Written log e ops → Written log′ e ops
 unfolding Written
 written-kept log log′ e [] f w = tt
 written-kept log log′ e (op ∷ ops) f w = (f e (omega arith) ∙ w .0, written-kept log log′ (e + 1) ops (λ q l. f q (omega arith)) (w .1))
@@ -149,7 +89,8 @@ written-linked log e [] g w = tt
 written-linked log e (op ∷ ops) g w =
     (rw (w .0) (linked-next _ op (g 0 (omega arith) .size)), written-linked log (e + 1) ops (λ i l. g (suc i) (omega arith)) (w .1))
 
-pub written-handed : (log : List ℕ) (e : ℕ) (ops : List (List ℕ)) → Givens ops → Written log e ops → map handedIn (map (recordAt log) (upFrom e (length ops))) ≡ ops
+pub written-handed : (log : List ℕ) (e : ℕ) (ops : List (List ℕ)) → Givens ops → Written log e ops
+    → map handedIn (map (recordAt log) (upFrom e (length ops))) ≡ ops
 unfolding Givens Written upFrom
 written-handed log e [] g w = refl
 written-handed log e (op ∷ ops) g w =

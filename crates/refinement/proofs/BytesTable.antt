@@ -48,7 +48,8 @@ pub record BytesTable (r : After) : Type 0 where
       let c = afterCalls r morning .control in
       cartAt (L (transactionsFrom (c .commits) (afterCalls r morning .memory .log) (firstRecord c)) 2) 8 ≡ zeros 80
   -- "Title length 65: 6; titles of 64 bytes that differ in the last byte (the digits 1 and 2): a title read finds 1 for each."
-  pub case11 : calls r longTitles 0 6 ≡ (refused 6, []) ∷ (done 1, []) ∷ (done 1, []) ∷ (done 1, []) ∷ (answered 1 1, holding (long 1 49)) ∷ (answered 1 1, holding (long 2 50)) ∷ []
+  pub case11 : calls r longTitles 0 6
+      ≡ (refused 6, []) ∷ (done 1, []) ∷ (done 1, []) ∷ (done 1, []) ∷ (answered 1 1, holding (long 1 49)) ∷ (answered 1 1, holding (long 2 50)) ∷ []
   -- "Two carts with one title: found 2, zeros."
   pub case12 : calls r oneTitle 0 4 ≡ (done 1, []) ∷ (done 1, []) ∷ (done 1, []) ∷ (answered 1 2, holding (zeros 80)) ∷ []
 

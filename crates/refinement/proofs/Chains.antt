@@ -1,6 +1,6 @@
 -- The log's chains: a transaction's records stand one after the other, and each transaction where the walk comes to it.
 use mathlib.Core.Path.{_≡_, refl, sym, ap, _∙_}
-use mathlib.Core.Bool.{Bool, true, false, _&&_}
+use mathlib.Core.Bool.{Bool, true, false}
 use mathlib.Core.List.{List, [], _∷_, map}
 use Prim.Native.Nat.{ℕ, zero, suc, _+_, _-_, _≤_, _<_}
 use native.Mathlib.Omega.{arith}
@@ -16,7 +16,7 @@ use Rattle.replication.specs.Log.{nextOperation, nextTransaction, chain, record
 use Rattle.machine.specs.Machine.{recordsUsed}
 use Rattle.refinement.specs.Represents.{handedIn, transactionsFrom}
 use Rattle.refinement.proofs.Tests.{and-left, and-right, all-at, all-cons, all-nil, within-low, within-high, within-of, pairwise-eq, pairwise-refl}
-use Rattle.refinement.proofs.Memories.{length-cell}
+use Rattle.refinement.proofs.Cells.{length-cell}
 use Rattle.refinement.proofs.Effect.{Operation, Operations}
 
 -- records that follow one another
@@ -83,7 +83,8 @@ unfolding Linked upFrom front
 linked-chain zero room log r h l g = chain-zero room log
 linked-chain (suc k) zero log r h l g = let z : ⊥ = omega arith in absurd z
 linked-chain (suc k) (suc room) log r h l g =
-    chain-suc room log r h ∙ ap (λ (z : ℕ). r ∷ chain room log z) (g .0) ∙ ap (λ (z : List ℕ). r ∷ z) (linked-chain k room log (r + 1) (omega arith) (omega arith) (g .1))
+    chain-suc room log r h ∙ ap (λ (z : ℕ). r ∷ chain room log z) (g .0)
+    ∙ ap (λ (z : List ℕ). r ∷ z) (linked-chain k room log (r + 1) (omega arith) (omega arith) (g .1))
 
 chain-linked : (k room : ℕ) (log : List ℕ) (r : ℕ) → 1 ≤ r → k < room → chain room log (front (upFrom r k)) ≡ upFrom r k → Linked log r k
 unfolding Linked upFrom front
@@ -99,6 +100,20 @@ pub linked-kept : (log log′ : List ℕ) (r k : ℕ) → ((q : ℕ) → r ≤ q
 unfolding Linked
 linked-kept log log′ r zero f g = tt
 linked-kept log log′ r (suc k) f g = (f r (omega arith) (omega arith) ∙ g .0, linked-kept log log′ (r + 1) k (λ q a b. f q (omega arith) (omega arith)) (g .1))
+
+-- no transaction more
+pub chain-end : (log : List ℕ) (first r end : ℕ) → chainForm 0 log first r end ≡ true → r ≡ end
+unfolding chainForm
+chain-end log first r end h = eqb-true r end (all-at 1 (eqb first 0 ∷ eqb r end ∷ []) h)
+
+pub end-chain : (log : List ℕ) (first r : ℕ) → first ≡ 0 → chainForm 0 log first r r ≡ true
+unfolding chainForm
+end-chain log first r e = all-cons _ _ (eq-eqb first 0 e) (all-cons _ _ (eq-eqb r r refl) all-nil)
+
+-- the tests of a transaction of k records `own`, the first at r
+abbrev chainTests : List ℕ → ℕ → ℕ → ℕ → List ℕ → List Bool
+chainTests log r k end own =
+    within 1 8 k ∷ pairwise eqb own (upFrom r k) ∷ every (λ q. eqb (nextTransaction log q) 0) (drop 1 own) ∷ leb (r + k) end ∷ []
 
 -- what the layout says of the transaction at record r, with n more after it
 pub record Chained (n : ℕ) (log : List ℕ) (first r end : ℕ) : Type 0 where
@@ -119,7 +134,7 @@ chained n log first r end h = record {
   low = within-low 1 8 k small;
   high = within-high 1 8 k small;
   own = ap (chain 9 log) (sym same) ∙ own;
-  later = λ q a b. eqb-true _ 0 (every-upFrom (λ q. eqb (nextTransaction log q) 0) (r + 1) (k - 1) (rw (own, rest-upFrom r k) at later) q (omega arith) (omega (arith, within-low 1 8 k small)));
+  later = λ q a b. eqb-true _ 0 (every-upFrom _ (r + 1) (k - 1) (rw (own, rest-upFrom r k) at later) q (omega arith) (omega (arith, within-low 1 8 k small)));
   fits = leb-true _ _ (all-at 3 tests pass);
   rest = ap (λ (z : ℕ). chainForm n log (nextTransaction log z) (r + k) end) (sym same) ∙ and-right (all tests) _ h;
 }
@@ -128,7 +143,7 @@ chained n log first r end h = record {
     k = length (chain 9 log first)
 
     tests : List Bool
-    tests = within 1 8 k ∷ pairwise eqb (chain 9 log first) (upFrom r k) ∷ every (λ q. eqb (nextTransaction log q) 0) (drop 1 (chain 9 log first)) ∷ leb (r + k) end ∷ []
+    tests = chainTests log r k end (chain 9 log first)
 
     pass : all tests ≡ true
     pass = and-left (all tests) (chainForm n log (nextTransaction log first) (r + k) end) h
@@ -147,18 +162,17 @@ chained n log first r end h = record {
 
 pub of-chained : (n : ℕ) (log : List ℕ) (first r end : ℕ) → Chained n log first r end → chainForm (suc n) log first r end ≡ true
 unfolding chainForm
-of-chained n log first r end x = rw (x .same, x .own, length-upFrom r (x .size), rest-upFrom r (x .size)) both
+of-chained n log first r end x = rw (x .same, x .own, length-upFrom r (x .size)) (rw (pass, x .rest))
   where
     k : ℕ
     k = x .size
 
-    pass : all (within 1 8 k ∷ pairwise eqb (upFrom r k) (upFrom r k) ∷ every (λ q. eqb (nextTransaction log q) 0) (upFrom (r + 1) (k - 1)) ∷ leb (r + k) end ∷ []) ≡ true
-    pass = all-cons _ _ (within-of 1 8 k (x .low) (x .high)) (all-cons _ _ (pairwise-refl (upFrom r k))
-        (all-cons _ _ (upFrom-every _ (r + 1) (k - 1) (λ q a b. eq-eqb _ 0 (x .later q (omega arith) (omega arith)))) (all-cons _ _ (le-leb _ _ (x .fits)) all-nil)))
-
-    both : (all (within 1 8 k ∷ pairwise eqb (upFrom r k) (upFrom r k) ∷ every (λ q. eqb (nextTransaction log q) 0) (upFrom (r + 1) (k - 1)) ∷ leb (r + k) end ∷ [])
-        && chainForm n log (nextTransaction log r) (r + k) end) ≡ true
-    both = rw (pass, x .rest)
+    pass : all (chainTests log r (x .size) end (upFrom r (x .size))) ≡ true
+    pass =
+        all-cons _ _ (within-of 1 8 k (x .low) (x .high))
+        (all-cons _ _ (pairwise-refl (upFrom r k))
+        (all-cons _ _ (rw (rest-upFrom r k) (upFrom-every _ (r + 1) (k - 1) (λ q a b. eq-eqb _ 0 (x .later q (omega arith) (omega arith)))))
+        (all-cons _ _ (le-leb _ _ (x .fits)) all-nil)))
 
 pub chained-links : (n : ℕ) (log : List ℕ) (first r end : ℕ) → 1 ≤ r → (x : Chained n log first r end) → Linked log r (x .size)
 unfolding recordsOf
@@ -200,8 +214,9 @@ placed-operations log used r n u f p = rw (p .own) go
 -- the records of the transactions are those in use
 pub records-used : (n : ℕ) (log : List ℕ) (first r end : ℕ) → chainForm n log first r end ≡ true → r + recordsUsed (transactionsFrom n log first) ≡ end
 unfolding chainForm transactionsFrom recordsUsed transactionAt
-records-used zero log first r end h = let e : r ≡ end = eqb-true r end (all-at 1 (eqb first 0 ∷ eqb r end ∷ []) h) in omega arith
+records-used zero log first r end h = let e = chain-end log first r end h in omega arith
 records-used (suc n) log first r end h =
     let x = chained n log first r end h in
     let rec = records-used n log (nextTransaction log r) (r + x .size) end (x .rest) in
-    rw (x .same, length-map (map (recordAt log) (recordsOf log r)) handedIn, length-map (recordsOf log r) (recordAt log), x .own, length-upFrom r (x .size)) (omega arith)
+    rw (x .same, length-map (map (recordAt log) (recordsOf log r)) handedIn, length-map (recordsOf log r) (recordAt log), x .own, length-upFrom r (x .size))
+    (omega arith)

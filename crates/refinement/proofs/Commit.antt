@@ -28,15 +28,14 @@ use Rattle.refinement.proofs.Tests.{all-at, every-at, within-low, withi
 use Rattle.refinement.proofs.Parts.{length-part, length-parts, parts-at}
 use Rattle.refinement.proofs.Zeros.{zero-drop}
 use Rattle.refinement.proofs.Effect.{Operations, Copy, actAll-copy}
-use Rattle.refinement.proofs.Memories.{length-copyAt, length-withCopy, copy-same, copy-other}
+use Rattle.refinement.proofs.Copies.{length-copyAt, length-withCopy, copy-same, copy-other}
 use Rattle.refinement.proofs.Chains.{records-used}
 use Rattle.refinement.proofs.Append.{Givens}
-use Rattle.refinement.proofs.Grow.{Grown, grown}
+use Rattle.refinement.proofs.Grown.{Grown, grown}
 use Rattle.refinement.proofs.Transactions.{L-step, L-append}
 use Rattle.refinement.proofs.Represented.{machineOf, log-length}
 use Rattle.refinement.proofs.Formed.{Formed, formed, of-layout, applied-known, counts-more, studio-copy, copy-in-use}
-use Rattle.refinement.proofs.Rows as Rows
-use Rattle.refinement.proofs.Rows.{memory-passes, unless-by, unless-both, commit-passed}
+use Rattle.refinement.proofs.Rows.{memory-passes, unless-by, unless-both, UsedSession, commit-passed}
 use Rattle.refinement.proofs.Sessions.{SessionBytes, session-more, own-bytes, length-sessions, sessions-form, sessions-shown, session-of}
 
 -- the operations in the bytes of a commit that rows 5 and 6 let pass
@@ -77,7 +76,7 @@ left c m s ops = record {
 }
 
 -- a commit that no row stops
-module _ (c : Control) (m : Memory) (s : ℕ) (ops : List (List ℕ)) (f : Formed c m) (w : Rows.Session s (studioOf c s)) (g : Givens ops)
+module _ (c : Control) (m : Memory) (s : ℕ) (ops : List (List ℕ)) (f : Formed c m) (w : UsedSession s (studioOf c s)) (g : Givens ops)
     (k1 : 1 ≤ length ops) (k8 : length ops ≤ 8) (room : c .used + length ops ≤ 512) where
   log-grown : Grown (c .commits) (c .used) (firstRecord c) (m .log) (appended c (m .log) ops) ops
   log-grown = grown c (m .log) ops (f .log .size) g k1 k8 room (f .log .records) (f .log .chain)
@@ -85,7 +84,10 @@ module _ (c : Control) (m : Memory) (s : ℕ) (ops : List (List ℕ)) (f : Forme
   primary : Copy (actAll (copyAt (m .library) 0) ops)
   primary =
       actAll-copy _ ops
-      (record { size = length-copyAt (m .library) (f .library .size) 0 (omega arith); form = copy-in-use (c .studios) 0 _ (omega arith) (f .library .copies 0 (omega arith)) })
+      (record {
+        size = length-copyAt (m .library) (f .library .size) 0 (omega arith);
+        form = copy-in-use (c .studios) 0 _ (omega arith) (f .library .copies 0 (omega arith));
+      })
       (given-operations ops g)
 
   same-copy : copyAt (left c m s ops .library) 0 ≡ actAll (copyAt (m .library) 0) ops
@@ -95,7 +97,7 @@ module _ (c : Control) (m : Memory) (s : ℕ) (ops : List (List ℕ)) (f : Forme
   other-copy = copy-other (m .library) (f .library .size) 0 (omega arith) _ (primary .size)
 
   own : SessionBytes (sessionAt (m .sessions) s)
-  own = own-bytes c (m .sessions) (f .sessions) s (w .low) (w .high) (w .used)
+  own = own-bytes c (m .sessions) (f .sessions) s w
 
   commit-formed : Formed (committed c (length ops)) (left c m s ops)
   unfolding committed firstRecord studioOf
@@ -107,8 +109,8 @@ module _ (c : Control) (m : Memory) (s : ℕ) (ops : List (List ℕ)) (f : Forme
     };
     log = record { size = log-grown .size; used = room; records = log-grown .records; free = free; chain = chain };
     sessions = record {
-      size = length-sessions c (m .sessions) (f .sessions .size) s (w .low) (w .high) _ _ own;
-      forms = sessions-form (committed c (length ops)) (m .sessions) (f .sessions .size) s (w .low) (w .high) _ _ own (w .used) (omega arith)
+      size = length-sessions c (m .sessions) (f .sessions .size) s w _ _ own;
+      forms = sessions-form (committed c (length ops)) (m .sessions) (f .sessions .size) s w _ _ own (omega arith)
           (λ q a b. session-more c (length ops) q _ (f .sessions .forms q a b));
     };
     counts = λ i a b. counts-more c i (length ops) (f .counts i a b);
@@ -142,7 +144,7 @@ module _ (c : Control) (m : Memory) (s : ℕ) (ops : List (List ℕ)) (f : Forme
     sent = refl;
     applied = refl;
     count = length-set sessions (s - 1) _ ∙ h .count;
-    sessions = sessions-shown (committed c (length ops)) (m .sessions) (f .sessions .size) s (w .low) (w .high) _ _ own sessions _ (h .count) (h .sessions);
+    sessions = sessions-shown (committed c (length ops)) (m .sessions) (f .sessions .size) s w _ _ own sessions _ (h .count) (h .sessions);
     primary = same-copy ∙ ap (λ (z : List ℕ). actAll z ops) (h .primary) ∙ level;
     replicas = λ j a b. other-copy j (omega arith) ∙ h .replicas j a b
         ∙ sym (L-append log (ops ∷ []) (nth (c .applied) j) (rw (log-length c m _ h) (applied-known c j (f .counts j a b))));
@@ -193,4 +195,6 @@ module _ (c : Control) (m : Memory) (s : ℕ) (bytes : List ℕ) where
       }))
     where
       used : recordsUsed log ≡ c .used
-      used = let e = records-used (c .commits) (m .log) (firstRecord c) 1 (c .used + 1) (formed c m (h .form) .log .chain) in ap recordsUsed (h .log) ∙ omega arith
+      used =
+          let e = records-used (c .commits) (m .log) (firstRecord c) 1 (c .used + 1) (formed c m (h .form) .log .chain) in
+          ap recordsUsed (h .log) ∙ omega arith

@@ -2,7 +2,7 @@
 use mathlib.Core.Path.{_≡_, refl, sym, _∙_}
 use mathlib.Core.Bool.{Bool, true, false, cond, _||_, false≢true}
 use mathlib.Core.List.{List, [], _∷_, _++_}
-use Prim.Native.Nat.{ℕ, suc, _+_, _-_, _≤_, _<_}
+use Prim.Native.Nat.{ℕ, suc, _≤_, _<_}
 use native.Mathlib.Omega.{arith}
 use native.Mathlib.Decide.{ℕ-discrete}
 use borrow.Author.Tests.{eq-eqb, not-true}
@@ -13,8 +13,8 @@ use Rattle.carts.specs.Bytes.{zeros, part, over, byte, u16, u32, within, allZer
 use Rattle.carts.specs.Cart.{cartAt, hasTitle, noTitle, hasAudio, noAudio, held, heldForm, cartForm, copyForm}
 use Rattle.carts.specs.Operation.{isNew, isRetitle, isRecut, isWithdraw, operationFields, made, retitled, recut, withdrawn, meetsCart, effect, actedOn, act, actAll}
 use Rattle.refinement.proofs.Tests.{by-cond, all-at, all-set, all-cons, all-nil, within-low, within-high}
-use Rattle.refinement.proofs.Parts.{length-part, length-over, each-at, at-each}
-use Rattle.refinement.proofs.Memories.{length-cell, length-cells, cell-same, cell-other}
+use Rattle.refinement.proofs.Parts.{length-part, length-over, from-one, to-one}
+use Rattle.refinement.proofs.Cells.{length-cell, length-cells, cell-same, cell-other}
 use Rattle.refinement.proofs.Zeros.{zero-part, length-zeros, zeros-zero, zero-first}
 use Rattle.refinement.proofs.Fields.{Head, bytes, by-fields}
 
@@ -150,9 +150,15 @@ module _ (op : List ℕ) (o : Operation op) where
       })
       (λ old. let h : heldForm (u16 op 2) cart ≡ true = is-held _ cart (x .form) (rw old at meets) in
       by-cond (Cart (u16 op 2)) (isRetitle (byte op 0)) _ _
-      (λ k. record { size = length-retitled cart op (x .size) (o .size); form = held-cart _ _ (retitled-form cart op (x .size) (o .size) _ h (with-title (rw (old, k)))) })
+      (λ k. record {
+        size = length-retitled cart op (x .size) (o .size);
+        form = held-cart _ _ (retitled-form cart op (x .size) (o .size) _ h (with-title (rw (old, k))));
+      })
       (λ _. by-cond (Cart (u16 op 2)) (isRecut (byte op 0)) _ _
-      (λ k. record { size = length-recut cart op (x .size) (o .size); form = held-cart _ _ (recut-form cart op (x .size) (o .size) _ h (with-audio (rw (old, k)))) })
+      (λ k. record {
+        size = length-recut cart op (x .size) (o .size);
+        form = held-cart _ _ (recut-form cart op (x .size) (o .size) _ h (with-audio (rw (old, k))));
+      })
       (λ _. by-cond (Cart (u16 op 2)) (isWithdraw (byte op 0)) _ _ (λ _. zeros-cart (u16 op 2)) (λ _. x)))))
       (λ _. x)
 
@@ -163,13 +169,11 @@ pub record Copy (copy : List ℕ) : Type 0 where
 
 pub cart-of : (copy : List ℕ) → Copy copy → (c : ℕ) → 1 ≤ c → c ≤ 128 → Cart c (cartAt copy c)
 unfolding cartAt copyForm
-cart-of copy h c l g =
-    let e : 1 + (c - 1) ≡ c = omega arith in
-    record { size = length-cell 128 copy (h .size) c l g; form = rw e at (each-at cartForm 80 128 1 copy (h .form) (c - 1) (omega arith)) }
+cart-of copy h c l g = record { size = length-cell 128 copy (h .size) c l g; form = from-one cartForm 80 128 copy (h .form) c l g }
 
 pub copy-of : (copy : List ℕ) → length copy ≡ 10240 → ((c : ℕ) → 1 ≤ c → c ≤ 128 → cartForm c (cartAt copy c) ≡ true) → Copy copy
 unfolding cartAt copyForm
-copy-of copy n f = record { size = n; form = at-each cartForm 80 128 1 copy (λ j l. let e : 1 + j - 1 ≡ j = omega arith in rw e at (f (1 + j) (omega arith) (omega arith))) }
+copy-of copy n f = record { size = n; form = to-one cartForm 80 128 copy f }
 
 -- an operation keeps a copy
 pub act-copy : (copy op : List ℕ) → Copy copy → Operation op → Copy (act copy op)

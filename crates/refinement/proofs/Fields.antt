@@ -52,7 +52,25 @@ headOf l = record {
 }
 
 split : (l : List ℕ) → 16 ≤ length l → bytes (headOf l) (drop 16 l) ≡ l
-split l h = rw (← e 15 (omega arith), ← e 14 (omega arith), ← e 13 (omega arith), ← e 12 (omega arith), ← e 11 (omega arith), ← e 10 (omega arith), ← e 9 (omega arith), ← e 8 (omega arith), ← e 7 (omega arith), ← e 6 (omega arith), ← e 5 (omega arith), ← e 4 (omega arith), ← e 3 (omega arith), ← e 2 (omega arith), ← e 1 (omega arith), ← e 0 (omega arith))
+split l h =
+    rw (
+      ← e 15 (omega arith),
+      ← e 14 (omega arith),
+      ← e 13 (omega arith),
+      ← e 12 (omega arith),
+      ← e 11 (omega arith),
+      ← e 10 (omega arith),
+      ← e 9 (omega arith),
+      ← e 8 (omega arith),
+      ← e 7 (omega arith),
+      ← e 6 (omega arith),
+      ← e 5 (omega arith),
+      ← e 4 (omega arith),
+      ← e 3 (omega arith),
+      ← e 2 (omega arith),
+      ← e 1 (omega arith),
+      ← e 0 (omega arith),
+    )
   where
     e : (j : ℕ) → j < 16 → drop j l ≡ getD l j 0 ∷ drop (suc j) l
     e j g = drop-cons l j 0 (omega arith)

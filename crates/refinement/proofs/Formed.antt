@@ -7,7 +7,7 @@ use native.Mathlib.Omega.{arith}
 use borrow.Author.Tests.{leb-true, le-leb, eqb-true, eq-eqb}
 use lib.Dec.{leb, eqb}
 use lib.ListN.{length, drop, getD}
-use Rattle.carts.specs.Bytes.{part, within, all, every, allZero, eachPart}
+use Rattle.carts.specs.Bytes.{within, all, every, allZero}
 use Rattle.carts.specs.Cart.{copyForm}
 use Rattle.carts.specs.Operation.{operationFields}
 use Rattle.replication.specs.Memory.{Memory, lengthsForm, copyAt, recordAt, sessionAt, nth, studioOf}
@@ -17,7 +17,7 @@ use Rattle.replication.specs.Calls.{committed}
 use Rattle.replication.specs.declared.control.Control.{Control}
 use Rattle.refinement.specs.Represents.{OfLayout}
 use Rattle.refinement.proofs.Tests.{all-at, all-set, all-cons, all-nil, every-at, within-high}
-use Rattle.refinement.proofs.Parts.{each-at, at-each}
+use Rattle.refinement.proofs.Parts.{each-at, at-each, from-one, to-one}
 
 -- control: the lengths of its arrays, S, and the sessions' studios
 abbrev pub ControlFormed : Control → Type 0
@@ -59,17 +59,6 @@ pub record Formed (c : Control) (m : Memory) : Type 0 where
   pub log : LogFormed c (m .log)
   pub sessions : SessionsFormed c (m .sessions)
   pub counts : CountsFormed c
-
--- parts counted from 1
-from-one : (test : ℕ → List ℕ → Bool) (size n : ℕ) (s : List ℕ) → eachPart test size n 1 s ≡ true
-    → (i : ℕ) → 1 ≤ i → i ≤ n → test i (part s (size * (i - 1)) size) ≡ true
-from-one test size n s h i l g =
-    let e : 1 + (i - 1) ≡ i = omega arith in
-    rw e at (each-at test size n 1 s h (i - 1) (omega arith))
-
-to-one : (test : ℕ → List ℕ → Bool) (size n : ℕ) (s : List ℕ)
-    → ((i : ℕ) → 1 ≤ i → i ≤ n → test i (part s (size * (i - 1)) size) ≡ true) → eachPart test size n 1 s ≡ true
-to-one test size n s f = at-each test size n 1 s (λ j l. let e : 1 + j - 1 ≡ j = omega arith in rw e at (f (1 + j) (omega arith) (omega arith)))
 
 -- the four studios
 studio-at : (p : ℕ → Bool) → every p (1 ∷ 2 ∷ 3 ∷ 4 ∷ []) ≡ true → (i : ℕ) → 1 ≤ i → i ≤ 4 → p i ≡ true
@@ -122,7 +111,8 @@ of-layout c m f = record {
   layout =
       all-cons _ _ (f .control .studios)
       (all-cons _ _ (f .control .places)
-      (all-cons _ _ (at-each (replicaForm (c .studios)) 10240 5 0 (m .library) (λ i l. let e : 0 + i ≡ i = omega arith in rw e (f .library .copies i (omega arith))))
+      (all-cons _ _ (at-each (replicaForm (c .studios)) 10240 5 0 (m .library)
+      (λ i l. let e : 0 + i ≡ i = omega arith in rw e (f .library .copies i (omega arith))))
       (all-cons _ _ (le-leb _ _ (f .log .used))
       (all-cons _ _ (to-one recordForm 80 (c .used) (m .log) (f .log .records))
       (all-cons _ _ (f .log .free)
@@ -149,7 +139,9 @@ module _ (c : Control) (i : ℕ) where
 
   pub of-counts : i ≤ c .studios → Counts c i → countsForm c i ≡ true
   unfolding countsForm
-  of-counts l f = rw (le-leb i (c .studios) l) (all-cons _ _ (le-leb _ _ (f .order)) (all-cons _ _ (le-leb _ _ (f .known)) (all-cons _ _ (le-leb _ _ (f .near)) all-nil)))
+  of-counts l f =
+      rw (le-leb i (c .studios) l)
+      (all-cons _ _ (le-leb _ _ (f .order)) (all-cons _ _ (le-leb _ _ (f .known)) (all-cons _ _ (le-leb _ _ (f .near)) all-nil)))
 
   -- one commit more
   pub counts-more : (k : ℕ) → countsForm c i ≡ true → countsForm (committed c k) i ≡ true
@@ -182,7 +174,9 @@ module _ (c : Control) (m : Memory) (f : Formed c m) where
 
   pub studio-known : (s : ℕ) → s ≤ 16 → studioOf c s ≤ c .studios
   unfolding studioOf
-  studio-known s l = leb-true _ _ (every-at (λ i. leb i (c .studios)) (c .«session_studios») 0 (s - 1) (f .control .places) (let n = f .control .sessionStudios in omega arith))
+  studio-known s l =
+      let n = f .control .sessionStudios in
+      leb-true _ _ (every-at (λ i. leb i (c .studios)) (c .«session_studios») 0 (s - 1) (f .control .places) (omega arith))
 
 -- a copy in use
 pub studio-copy : (studios i : ℕ) (copy : List ℕ) → i ≤ studios → copyForm copy ≡ true → replicaForm studios i copy ≡ true

@@ -85,7 +85,8 @@ module _ (test : ℕ → List ℕ → Bool) (size : ℕ) where
   each-at (suc n) i s h zero l = rw (add-zero i, mul-zero) (and-left (test i (take size s)) (eachPart test size n (i + 1) (drop size s)) h)
   each-at (suc n) i s h (suc j) l =
       let k : i + 1 + j ≡ i + suc j = omega arith in
-      rw (← k, ← next-part size j s) (each-at n (i + 1) (drop size s) (and-right (test i (take size s)) (eachPart test size n (i + 1) (drop size s)) h) j (omega arith))
+      rw (← k, ← next-part size j s)
+      (each-at n (i + 1) (drop size s) (and-right (test i (take size s)) (eachPart test size n (i + 1) (drop size s)) h) j (omega arith))
 
   pub at-each : (n i : ℕ) (s : List ℕ) → ((j : ℕ) → j < n → test (i + j) (part s (size * j) size) ≡ true) → eachPart test size n i s ≡ true
   unfolding eachPart
@@ -95,3 +96,14 @@ module _ (test : ℕ → List ℕ → Bool) (size : ℕ) where
       let r : eachPart test size n (i + 1) (drop size s) ≡ true = at-each n (i + 1) (drop size s) (λ j l.
       let k : i + 1 + j ≡ i + suc j = omega arith in rw (k, next-part size j s) (f (suc j) (omega arith))) in
       rw (a, r)
+
+-- parts counted from 1
+pub from-one : (test : ℕ → List ℕ → Bool) (size n : ℕ) (s : List ℕ) → eachPart test size n 1 s ≡ true
+    → (i : ℕ) → 1 ≤ i → i ≤ n → test i (part s (size * (i - 1)) size) ≡ true
+from-one test size n s h i l g =
+    let e : 1 + (i - 1) ≡ i = omega arith in
+    rw e at (each-at test size n 1 s h (i - 1) (omega arith))
+
+pub to-one : (test : ℕ → List ℕ → Bool) (size n : ℕ) (s : List ℕ)
+    → ((i : ℕ) → 1 ≤ i → i ≤ n → test i (part s (size * (i - 1)) size) ≡ true) → eachPart test size n 1 s ≡ true
+to-one test size n s f = at-each test size n 1 s (λ j l. let e : 1 + j - 1 ≡ j = omega arith in rw e at (f (1 + j) (omega arith) (omega arith)))

@@ -20,15 +20,14 @@ use Rattle.refinement.specs.Represents.{OfLayout, Represents, Simulates}
 use Rattle.refinement.proofs.Tests.{by-cond, cond-both}
 use Rattle.refinement.proofs.Represented.{machineOf}
 use Rattle.refinement.proofs.Formed.{Formed, formed, of-layout, few, studio-known}
-use Rattle.refinement.proofs.Rows as Rows
-use Rattle.refinement.proofs.Rows.{memory-passes, unless-by, unless-both, read-passed, collect-passed}
-use Rattle.refinement.proofs.Sessions.{SessionBytes, request-bytes, empty-bytes, empty-request, own-bytes, own-sequence, length-sessions, sessions-form, sessions-shown, session-of}
+use Rattle.refinement.proofs.Rows.{memory-passes, unless-by, unless-both, UsedSession, read-passed, collect-passed}
+use Rattle.refinement.proofs.Sessions.{SessionBytes, request-bytes, empty-bytes, empty-request, own-bytes, own-sequence, length-sessions, sessions-form, shown, sessions-shown, session-of}
 
 -- memory with other bytes of session s
 abbrev with : Memory → ℕ → ℕ → List ℕ → Memory
 with m s n x = withSessions m (withSession (m .sessions) s (withSequence n x))
 
-module _ (c : Control) (m : Memory) (s : ℕ) (w : Rows.Session s (studioOf c s)) (f : Formed c m) where
+module _ (c : Control) (m : Memory) (s : ℕ) (w : UsedSession s (studioOf c s)) (f : Formed c m) where
   module _ (n : ℕ) (x : List ℕ) (b : SessionBytes x) (l : n ≤ c .commits) where
     session-formed : Formed c (with m s n x)
     session-formed = record {
@@ -36,8 +35,8 @@ module _ (c : Control) (m : Memory) (s : ℕ) (w : Rows.Session s (studioOf c s)
       library = f .library;
       log = f .log;
       sessions = record {
-        size = length-sessions c (m .sessions) (f .sessions .size) s (w .low) (w .high) n x b;
-        forms = sessions-form c (m .sessions) (f .sessions .size) s (w .low) (w .high) n x b (w .used) l (f .sessions .forms);
+        size = length-sessions c (m .sessions) (f .sessions .size) s w n x b;
+        forms = sessions-form c (m .sessions) (f .sessions .size) s w n x b l (f .sessions .forms);
       };
       counts = f .counts;
     }
@@ -51,7 +50,7 @@ module _ (c : Control) (m : Memory) (s : ℕ) (w : Rows.Session s (studioOf c s)
       sent = refl;
       applied = refl;
       count = length-set sessions (s - 1) _ ∙ h .count;
-      sessions = sessions-shown c (m .sessions) (f .sessions .size) s (w .low) (w .high) n x b sessions _ (h .count) (h .sessions);
+      sessions = sessions-shown c (m .sessions) (f .sessions .size) s w n x b sessions _ (h .count) (h .sessions);
       primary = h .primary;
       replicas = h .replicas;
     }
@@ -63,7 +62,7 @@ module _ (c : Control) (m : Memory) (s : ℕ) (w : Rows.Session s (studioOf c s)
     unfolding Bytes.block Bytes.answerFrom numberAfter
     block-keeps behind h =
         by-cond (λ (r : After). OfLayout (r .control) (r .memory)) (leb (sequenceOf (sessionAt (m .sessions) s)) (nth (c .applied) (studioOf c s))) _ _
-        (λ _. of-layout _ _ (session-formed _ x b (own-sequence c (m .sessions) (f .sessions) s (w .low) (w .high) (w .used)))) (λ _. h)
+        (λ _. of-layout _ _ (session-formed _ x b (own-sequence c (m .sessions) (f .sessions) s w))) (λ _. h)
 
     block-simulates : requestOf x ≡ nothing → (log : List Transaction) (sessions : List Session) → Represents c m (machineOf c log sessions)
         → (behind : After) (waits : Step) → Simulates behind waits
@@ -75,7 +74,7 @@ module _ (c : Control) (m : Memory) (s : ℕ) (w : Rows.Session s (studioOf c s)
         (record {
           answer = ap (λ (z : List ℕ). answered (nth (c .applied) (studioOf c s)) (foundIn z q)) copy;
           output = ap (λ (z : List ℕ). over out 0 (needed q) (shownFrom z q)) copy;
-          next = rw (← e) (session-represents _ x b (own-sequence c (m .sessions) (f .sessions) s (w .low) (w .high) (w .used)) log sessions h);
+          next = rw (← e) (session-represents _ x b (own-sequence c (m .sessions) (f .sessions) s w) log sessions h);
         }) k)
       where
         copy : copyAt (m .library) (studioOf c s) ≡ L log (nth (c .applied) (studioOf c s))
@@ -95,8 +94,9 @@ module _ (c : Control) (m : Memory) (s : ℕ) (request out : List ℕ) where
       rw (memory-passes c m readRowsOf h)
       (unless-by (λ (r : After). OfLayout (r .control) (r .memory)) (stopped readRowsOf) _ _ (λ _. h)
       (λ e. let p = read-passed _ _ _ _ _ e in
-      block-keeps c m s (p .who) f (requestOf request) _ (own-bytes c (m .sessions) (f .sessions) s (p .who .low) (p .who .high) (p .who .used)) out _
-      (of-layout _ _ (session-formed c m s (p .who) f _ request (request-bytes request (p .form)) (own-sequence c (m .sessions) (f .sessions) s (p .who .low) (p .who .high) (p .who .used))))))
+      block-keeps c m s (p .who) f (requestOf request) _ (own-bytes c (m .sessions) (f .sessions) s (p .who)) out _
+      (of-layout _ _ (session-formed c m s (p .who) f _ request (request-bytes request (p .form))
+      (own-sequence c (m .sessions) (f .sessions) s (p .who))))))
     where
       f : Formed c m
       f = formed c m h
@@ -109,11 +109,12 @@ module _ (c : Control) (m : Memory) (s : ℕ) (request out : List ℕ) where
       (unless-both Simulates (stopped readRowsOf) _ _ _ _
       (λ _. record { answer = refl; output = refl; next = h })
       (λ e. let p = read-passed _ _ _ _ _ e in
-      block-simulates c m s (p .who) f (requestOf request) _ (own-bytes c (m .sessions) (f .sessions) s (p .who .low) (p .who .high) (p .who .used)) out (p .idle) log sessions h _ _
+      block-simulates c m s (p .who) f (requestOf request) _ (own-bytes c (m .sessions) (f .sessions) s (p .who)) out (p .idle) log sessions h _ _
       (record {
         answer = refl;
         output = refl;
-        next = session-represents c m s (p .who) f _ request (request-bytes request (p .form)) (own-sequence c (m .sessions) (f .sessions) s (p .who .low) (p .who .high) (p .who .used)) log sessions h;
+        next = session-represents c m s (p .who) f _ request (request-bytes request (p .form))
+            (own-sequence c (m .sessions) (f .sessions) s (p .who)) log sessions h;
       })))
     where
       f : Formed c m
@@ -141,5 +142,5 @@ module _ (c : Control) (m : Memory) (s : ℕ) (out : List ℕ) where
       (record { answer = refl; output = refl; next = rw same h })))
     where
       -- a collect that waits again stores what is stored
-      same : set sessions (s - 1) (session (studioOf c s) (sequenceOf (sessionAt (m .sessions) s)) (requestOf (sessionAt (m .sessions) s))) ≡ sessions
+      same : set sessions (s - 1) (shown c (m .sessions) s) ≡ sessions
       same = ap (set sessions (s - 1)) (sym (session-of c m _ h s)) ∙ set-getD sessions (s - 1) _

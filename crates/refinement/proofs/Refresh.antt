@@ -20,7 +20,7 @@ use Rattle.machine.specs.Machine as Plain
 use Rattle.machine.specs.Machine.{Transaction, Session, L}
 use Rattle.refinement.specs.Represents.{OfLayout, handedIn, transactionsFrom, Represents, Simulates}
 use Rattle.refinement.proofs.Effect.{Operations, sizes, Copy, actAll-copy}
-use Rattle.refinement.proofs.Memories.{length-copyAt, length-withCopy, copy-same, copy-other}
+use Rattle.refinement.proofs.Copies.{length-copyAt, length-withCopy, copy-same, copy-other}
 use Rattle.refinement.proofs.Chains.{placed, placed-operations}
 use Rattle.refinement.proofs.Transactions.{length-transactions, transactions-at, handed-actAll, L-step}
 use Rattle.refinement.proofs.Represented.{machineOf}
@@ -51,10 +51,15 @@ module _ (c : Control) (m : Memory) (i : ℕ) where
 
     operations : Operations (transactionAfter c (m .log) (nth (c .applied) i))
     unfolding transactionAfter
-    operations = placed-operations (m .log) (c .used) _ (f .log .size) (f .log .used) (f .log .records) (placed (c .commits) (m .log) (firstRecord c) 1 (c .used + 1) (f .log .chain) _ ready)
+    operations =
+        placed-operations (m .log) (c .used) _ (f .log .size) (f .log .used) (f .log .records)
+        (placed (c .commits) (m .log) (firstRecord c) 1 (c .used + 1) (f .log .chain) _ ready)
 
     copy : Copy (refreshedCopy c m i)
-    copy = actAll-copy _ _ (record { size = length-copyAt (m .library) (f .library .size) i four; form = copy-in-use (c .studios) i _ (p .who .high) (f .library .copies i four) }) operations
+    copy =
+        actAll-copy _ _
+        (record { size = length-copyAt (m .library) (f .library .size) i four; form = copy-in-use (c .studios) i _ (p .who .high) (f .library .copies i four) })
+        operations
 
     same-copy : copyAt (refreshed c m i .library) i ≡ refreshedCopy c m i
     same-copy = copy-same (m .library) (f .library .size) i four _ (copy .size)
@@ -96,7 +101,9 @@ module _ (c : Control) (m : Memory) (i : ℕ) where
             let n = p .behind in
             let a : nth (c .applied) i + 1 ≤ nth (c .sent) i = omega arith in
             let b : nth (c .sent) i - (nth (c .applied) i + 1) ≤ 32 = omega arith in
-            rw e (of-counts (withApplied c i (nth (c .applied) i + 1)) i (p .who .high) (record { order = rw same-applied a; known = k .known; near = rw same-applied b }))
+            rw e
+            (of-counts (withApplied c i (nth (c .applied) i + 1)) i (p .who .high)
+            (record { order = rw same-applied a; known = k .known; near = rw same-applied b }))
         count j l g (no ne) = rw (other-applied j l ne) (f .counts j l g)
 
     -- the copy stands for one transaction more

@@ -13,7 +13,8 @@ abbrev pub machineOf : Control → List Transaction → List Session → Machine
 machineOf c log sessions = record { studios = c .studios; log = log; sent = c .sent; applied = c .applied; sessions = sessions }
 
 -- it is enough to show a fact of that machine
-pub by-machine : (c : Control) (m : Memory) (P : Machine → Type 0) → ((log : List Transaction) (sessions : List Session) → Represents c m (machineOf c log sessions) → P (machineOf c log sessions))
+pub by-machine : (c : Control) (m : Memory) (P : Machine → Type 0)
+    → ((log : List Transaction) (sessions : List Session) → Represents c m (machineOf c log sessions) → P (machineOf c log sessions))
     → (M : Machine) → Represents c m M → P M
 by-machine c m P f M h = subst P same (f (M .log) (M .sessions) (rw same h))
   where

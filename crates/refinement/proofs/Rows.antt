@@ -42,27 +42,28 @@ passed n true rs h = let z : ⊥ = omega arith in absurd z
 passed n false rs h = (refl, h)
 
 -- row 3
-pub record Session (s studio : ℕ) : Type 0 where
+pub record UsedSession (s studio : ℕ) : Type 0 where
   pub low : 1 ≤ s
   pub high : s ≤ 16
   pub used : studio ≢ 0
 
-session-passed : (s studio : ℕ) (rs : List Row) → stopped (sessionRow s studio ∷ rs) ≡ 0 → Session s studio × (stopped rs ≡ 0)
+session-passed : (s studio : ℕ) (rs : List Row) → stopped (sessionRow s studio ∷ rs) ≡ 0 → UsedSession s studio × (stopped rs ≡ 0)
 unfolding sessionRow
 session-passed s studio rs h =
     let p = passed 2 (not (within 1 16 s) || eqb studio 0) rs h in
-    let w : within 1 16 s ≡ true = not-false (within 1 16 s) (neither (not (within 1 16 s)) (eqb studio 0) (p .0) .0) in
-    (record { low = within-low 1 16 s w; high = within-high 1 16 s w; used = eqb-false studio 0 (neither (not (within 1 16 s)) (eqb studio 0) (p .0) .1) }, p .1)
+    let n = neither (not (within 1 16 s)) (eqb studio 0) (p .0) in
+    let w : within 1 16 s ≡ true = not-false (within 1 16 s) (n .0) in
+    (record { low = within-low 1 16 s w; high = within-high 1 16 s w; used = eqb-false studio 0 (n .1) }, p .1)
   where
     neither : (a b : Bool) → (a || b) ≡ false → (a ≡ false) × (b ≡ false)
     neither false b h = (refl, h)
     neither true b h = absurd (false≢true (sym h))
 
-pub record Studio (studios i : ℕ) : Type 0 where
+pub record UsedStudio (studios i : ℕ) : Type 0 where
   pub low : 1 ≤ i
   pub high : i ≤ studios
 
-studio-passed : (studios i : ℕ) (rs : List Row) → stopped (studioRow studios i ∷ rs) ≡ 0 → Studio studios i × (stopped rs ≡ 0)
+studio-passed : (studios i : ℕ) (rs : List Row) → stopped (studioRow studios i ∷ rs) ≡ 0 → UsedStudio studios i × (stopped rs ≡ 0)
 unfolding studioRow
 studio-passed studios i rs h =
     let p = passed 2 (not (within 1 studios i)) rs h in
@@ -77,7 +78,7 @@ not-waiting (byTitle t) h = cc
 
 -- send, refresh, read, collect, commit
 pub record Sendable (studios i sent applied commits : ℕ) : Type 0 where
-  pub who : Studio studios i
+  pub who : UsedStudio studios i
   pub more : sent ≢ commits
   pub near : sent - applied ≢ 32
 
@@ -90,7 +91,7 @@ send-passed studios i sent applied commits h =
     record { who = p3 .0; more = eqb-false _ _ (p9 .0); near = eqb-false _ _ (p10 .0) }
 
 pub record Refreshable (studios i sent applied : ℕ) : Type 0 where
-  pub who : Studio studios i
+  pub who : UsedStudio studios i
   pub behind : sent ≢ applied
 
 pub refresh-passed : (studios i sent applied : ℕ) → stopped (refreshRows studios i sent applied) ≡ 0 → Refreshable studios i sent applied
@@ -101,11 +102,12 @@ refresh-passed studios i sent applied h =
     record { who = p3 .0; behind = eqb-false _ _ (p11 .0) }
 
 pub record Readable (s studio : ℕ) (waiting : Request) (request : List ℕ) : Type 0 where
-  pub who : Session s studio
+  pub who : UsedSession s studio
   pub idle : waiting ≡ nothing
   pub form : requestForm request ≡ true
 
-pub read-passed : (s studio : ℕ) (waiting : Request) (request : List ℕ) (room : ℕ) → stopped (readRows s studio waiting request room) ≡ 0 → Readable s studio waiting request
+pub read-passed : (s studio : ℕ) (waiting : Request) (request : List ℕ) (room : ℕ)
+    → stopped (readRows s studio waiting request room) ≡ 0 → Readable s studio waiting request
 unfolding readRows
 read-passed s studio waiting request room h =
     let p3 = session-passed s studio _ h in
@@ -113,12 +115,12 @@ read-passed s studio waiting request room h =
     let p12 = passed 11 (not (requestForm request)) _ (p4 .1) in
     record { who = p3 .0; idle = not-waiting waiting (p4 .0); form = not-false _ (p12 .0) }
 
-pub collect-passed : (s studio : ℕ) (waiting : Request) (room : ℕ) → stopped (collectRows s studio waiting room) ≡ 0 → Session s studio
+pub collect-passed : (s studio : ℕ) (waiting : Request) (room : ℕ) → stopped (collectRows s studio waiting room) ≡ 0 → UsedSession s studio
 unfolding collectRows
 collect-passed s studio waiting room h = session-passed s studio _ h .0
 
 pub record Committable (s studio used : ℕ) (bytes : List ℕ) : Type 0 where
-  pub who : Session s studio
+  pub who : UsedSession s studio
   pub size : sizeForm bytes ≡ true
   pub forms : every operationForm (operationsOf bytes) ≡ true
   pub room : used + length (operationsOf bytes) ≤ 512

@@ -22,7 +22,8 @@ use Rattle.refinement.proofs.Tests.{all-at, all-set, all-cons, all-nil}
 use Rattle.refinement.proofs.Parts.{length-over}
 use Rattle.refinement.proofs.Zeros.{zero-part}
 use Rattle.refinement.proofs.Fields.{bytes, by-fields}
-use Rattle.refinement.proofs.Memories.{length-cell, length-cells, cell-same, cell-other}
+use Rattle.refinement.proofs.Cells.{length-cell, length-cells, cell-same, cell-other}
+use Rattle.refinement.proofs.Rows.{UsedSession}
 use Rattle.refinement.proofs.Formed.{SessionsFormed, formed}
 
 -- 80 bytes of a session in use, but for their sequence number
@@ -102,7 +103,8 @@ request-bytes q h =
     let z : allZero (part q 2 14) ≡ true = all-at 2 (eqb (length q) 80 ∷ requestFields q ∷ allZero (part q 2 14) ∷ []) h in
     record {
       size = l;
-      zero = by-fields (λ q. allZero (part q 2 14) ≡ true → allZero (part q 4 12) ≡ true) 0 (λ h t _ z. zero-part (part (bytes h t) 2 14) 2 12 z) q (omega arith) z;
+      zero = by-fields (λ q. allZero (part q 2 14) ≡ true → allZero (part q 4 12) ≡ true) 0
+          (λ h t _ z. zero-part (part (bytes h t) 2 14) 2 12 z) q (omega arith) z;
       form = rw (ne-eqb (byte q 0) 0 (request-kind q f)) f;
     }
 
@@ -114,65 +116,67 @@ pub empty-request : requestOf (zeros 80) ≡ nothing
 unfolding zeros requestOf
 empty-request = refl
 
+-- session s as the bytes show it
+abbrev pub shown : Control → List ℕ → ℕ → Session
+shown c memory s = session (studioOf c s) (sequenceOf (sessionAt memory s)) (requestOf (sessionAt memory s))
+
 -- the bytes of session s, in use
-module _ (c : Control) (memory : List ℕ) (f : SessionsFormed c memory) (s : ℕ) (s1 : 1 ≤ s) (s16 : s ≤ 16) (used : studioOf c s ≢ 0) where
+module _ (c : Control) (memory : List ℕ) (f : SessionsFormed c memory) (s : ℕ) (w : UsedSession s (studioOf c s)) where
   pub own-bytes : SessionBytes (sessionAt memory s)
   unfolding sessionAt
-  own-bytes = session-bytes c s used _ (length-cell 16 memory (f .size) s s1 s16) (f .forms s s1 s16)
+  own-bytes = session-bytes c s (w .used) _ (length-cell 16 memory (f .size) s (w .low) (w .high)) (f .forms s (w .low) (w .high))
 
   pub own-sequence : sequenceOf (sessionAt memory s) ≤ c .commits
-  own-sequence = sequence-known c s used _ (f .forms s s1 s16)
+  own-sequence = sequence-known c s (w .used) _ (f .forms s (w .low) (w .high))
 
 -- session s replaced
-module _ (c : Control) (memory : List ℕ) (k : length memory ≡ 1280) (s : ℕ) (s1 : 1 ≤ s) (s16 : s ≤ 16) (n : ℕ) (x : List ℕ) (b : SessionBytes x) where
+module _ (c : Control) (memory : List ℕ) (k : length memory ≡ 1280) (s : ℕ) (w : UsedSession s (studioOf c s)) (n : ℕ) (x : List ℕ) (b : SessionBytes x) where
   same : sessionAt (withSession memory s (withSequence n x)) s ≡ withSequence n x
   unfolding sessionAt withSession
-  same = cell-same 16 memory k s s1 s16 (withSequence n x) (length-withSequence n x (b .size))
+  same = cell-same 16 memory k s (w .low) (w .high) (withSequence n x) (length-withSequence n x (b .size))
 
   other : (q : ℕ) → 1 ≤ q → q ≢ s → sessionAt (withSession memory s (withSequence n x)) q ≡ sessionAt memory q
   unfolding sessionAt withSession
-  other = cell-other 16 memory k s s1 s16 (withSequence n x) (length-withSequence n x (b .size))
+  other = cell-other 16 memory k s (w .low) (w .high) (withSequence n x) (length-withSequence n x (b .size))
 
   pub length-sessions : length (withSession memory s (withSequence n x)) ≡ 1280
   unfolding withSession
-  length-sessions = length-cells 16 memory k s s1 s16 (withSequence n x) (length-withSequence n x (b .size))
+  length-sessions = length-cells 16 memory k s (w .low) (w .high) (withSequence n x) (length-withSequence n x (b .size))
 
   -- the sessions keep their form
-  pub sessions-form : studioOf c s ≢ 0 → n ≤ c .commits → ((q : ℕ) → 1 ≤ q → q ≤ 16 → sessionForm c q (sessionAt memory q) ≡ true)
+  pub sessions-form : n ≤ c .commits → ((q : ℕ) → 1 ≤ q → q ≤ 16 → sessionForm c q (sessionAt memory q) ≡ true)
       → (q : ℕ) → 1 ≤ q → q ≤ 16 → sessionForm c q (sessionAt (withSession memory s (withSequence n x)) q) ≡ true
-  sessions-form used l f q q1 q16 = go (ℕ-discrete q s)
+  sessions-form l f q q1 q16 = go (ℕ-discrete q s)
     where
       go : Dec (q ≡ s) → sessionForm c q (sessionAt (withSession memory s (withSequence n x)) q) ≡ true
-      go (yes e) = rw (e, same) (session-form c s used x n l b)
+      go (yes e) = rw (e, same) (session-form c s (w .used) x n l b)
       go (no ne) = rw (other q q1 ne) (f q q1 q16)
 
   -- and the machine has them
   pub sessions-shown : (ss : List Session) (d : Session) → length ss ≡ 16
-      → ((q : ℕ) → 1 ≤ q → q ≤ 16 → getD ss (q - 1) d ≡ session (studioOf c q) (sequenceOf (sessionAt memory q)) (requestOf (sessionAt memory q)))
+      → ((q : ℕ) → 1 ≤ q → q ≤ 16 → getD ss (q - 1) d ≡ shown c memory q)
       → (q : ℕ) → 1 ≤ q → q ≤ 16
-      → getD (set ss (s - 1) (session (studioOf c s) n (requestOf x))) (q - 1) d
-      ≡ session (studioOf c q) (sequenceOf (sessionAt (withSession memory s (withSequence n x)) q)) (requestOf (sessionAt (withSession memory s (withSequence n x)) q))
+      → getD (set ss (s - 1) (session (studioOf c s) n (requestOf x))) (q - 1) d ≡ shown c (withSession memory s (withSequence n x)) q
   sessions-shown ss d l f q q1 q16 = go (ℕ-discrete q s)
     where
       v : Session
       v = session (studioOf c s) n (requestOf x)
 
-      go : Dec (q ≡ s) → getD (set ss (s - 1) v) (q - 1) d
-          ≡ session (studioOf c q) (sequenceOf (sessionAt (withSession memory s (withSequence n x)) q)) (requestOf (sessionAt (withSession memory s (withSequence n x)) q))
+      go : Dec (q ≡ s) → getD (set ss (s - 1) v) (q - 1) d ≡ shown c (withSession memory s (withSequence n x)) q
       go (yes e) =
           let z = b .size in
-          rw (e, same, sequence-set n x (omega arith), request-kept n x (omega arith)) (getD-set-same ss (s - 1) v d (omega arith))
-      go (no ne) = rw (other q q1 ne) (getD-set-other ss (s - 1) (q - 1) v d (omega arith) ∙ f q q1 q16)
+          rw (e, same, sequence-set n x (omega arith), request-kept n x (omega arith))
+          (getD-set-same ss (s - 1) v d (let a = w .low in let h = w .high in omega arith))
+      go (no ne) = rw (other q q1 ne) (getD-set-other ss (s - 1) (q - 1) v d (let a = w .low in omega arith) ∙ f q q1 q16)
 
 -- the session that a call names, whatever its number
 pub session-of : (c : Control) (m : Memory) (M : Machine) → Represents c m M → (s : ℕ)
-    → sessionOf M s ≡ session (studioOf c s) (sequenceOf (sessionAt (m .sessions) s)) (requestOf (sessionAt (m .sessions) s))
+    → sessionOf M s ≡ shown c (m .sessions) s
 unfolding studioOf sessionAt sequenceOf requestOf u16
 session-of c m M h zero = h .sessions 1 (omega arith) (omega arith)
 session-of c m M h (suc s) = go (decLe (suc s) 16)
   where
-    go : Dec (suc s ≤ 16)
-        → sessionOf M (suc s) ≡ session (studioOf c (suc s)) (sequenceOf (sessionAt (m .sessions) (suc s))) (requestOf (sessionAt (m .sessions) (suc s)))
+    go : Dec (suc s ≤ 16) → sessionOf M (suc s) ≡ shown c (m .sessions) (suc s)
     go (yes l) = h .sessions (suc s) (omega arith) l
     go (no g) =
         let f = formed c m (h .form) in

@@ -15,7 +15,7 @@ use Rattle.replication.specs.Log.{firstRecord, chainForm, freshLog}
 use Rattle.replication.specs.Request.{nothing, requestOf}
 use Rattle.replication.specs.Layout.{replicaForm, sessionForm, countsForm}
 use Rattle.replication.specs.Rows.{stopped, unless, lengthsRow, setupRows}
-use Rattle.replication.specs.Calls.{After, controlOf, freshMemory, setup}
+use Rattle.replication.specs.Calls.{After, after, controlOf, freshMemory, setup}
 use Rattle.replication.specs.declared.control.Control.{Control}
 use Rattle.machine.specs.Machine.{session, fresh}
 use Rattle.refinement.specs.Represents.{transactionsFrom, Represents}
@@ -57,7 +57,9 @@ zeros-shown i = rw (zeros-sequence, empty-request)
 
 zeros-counts : (studios : ℕ) (bytes : List ℕ) (i : ℕ) → countsForm (controlOf studios bytes) i ≡ true
 unfolding countsForm controlOf
-zeros-counts studios bytes i = rw (nth-zeros 4 (i - 1)) (both (leb i studios) _ _ (all-cons _ _ refl (all-cons _ _ refl (all-cons _ _ refl all-nil))) (all-cons _ _ refl (all-cons _ _ refl all-nil)))
+zeros-counts studios bytes i =
+    rw (nth-zeros 4 (i - 1))
+    (both (leb i studios) _ _ (all-cons _ _ refl (all-cons _ _ refl (all-cons _ _ refl all-nil))) (all-cons _ _ refl (all-cons _ _ refl all-nil)))
 
 no-chain : (log : List ℕ) → chainForm 0 log 0 1 (0 + 1) ≡ true
 unfolding chainForm all
@@ -116,21 +118,27 @@ pub record Fresh (studios : ℕ) (bytes : List ℕ) (r : After) : Type 0 where
   pub places : length bytes ≡ 16
   pub represents : Represents (r .control) (r .memory) (fresh studios bytes)
 
-pub setup-fresh : (before : Memory) (studios : ℕ) (bytes : List ℕ) → setup before studios bytes .answer ≡ done 0 → Fresh studios bytes (setup before studios bytes)
+pub setup-fresh : (before : Memory) (studios : ℕ) (bytes : List ℕ) → setup before studios bytes .answer ≡ done 0
+    → Fresh studios bytes (setup before studios bytes)
 unfolding setup setupRows lengthsRow
 setup-fresh before studios bytes =
     unless-by (λ (r : After). r .answer ≡ done 0 → Fresh studios bytes r) (stopped (lengthsRow before ∷ setupRows studios bytes)) _ _
     (λ k e. let z : _≡_ {A = ℕ} 0 1 = cc in let no : ⊥ = omega arith in absurd no)
-    (λ e _.
-    let p1 = passed 0 _ _ e in
-    let p15 = passed 14 _ _ (p1 .1) in
-    let t = not-false (all tests) (p15 .0) in
-    let few = all-at 0 tests t in
-    let n = eqb-true _ _ (all-at 1 tests t) in
-    record { low = within-low 1 4 studios few; high = within-high 1 4 studios few; places = n; represents = fresh-represents studios bytes few n (all-at 2 tests t) })
+    (λ e _. accepted (not-false (all tests) (passed 14 _ _ (passed 0 _ _ e .1) .0)))
   where
     tests : List Bool
     tests = within 1 4 studios ∷ eqb (length bytes) 16 ∷ every (λ b. leb b studios) bytes ∷ []
+
+    accepted : all tests ≡ true → Fresh studios bytes (after (done 0) (controlOf studios bytes) freshMemory [])
+    accepted t =
+        let few = all-at 0 tests t in
+        let n = eqb-true _ _ (all-at 1 tests t) in
+        record {
+          low = within-low 1 4 studios few;
+          high = within-high 1 4 studios few;
+          places = n;
+          represents = fresh-represents studios bytes few n (all-at 2 tests t);
+        }
 
 -- setup accepts what rows 1 and 15 let pass
 pub setup-accepted : (before : Memory) (studios : ℕ) (bytes : List ℕ) → lengthsForm before ≡ true → within 1 4 studios ≡ true → length bytes ≡ 16

@@ -7,12 +7,12 @@ use Rattle.replication.specs.Calls as Bytes
 use Rattle.replication.specs.Calls.{After}
 use Rattle.replication.specs.declared.control.Control.{Control}
 use Rattle.machine.specs.Machine as Plain
-use Rattle.machine.specs.Machine.{Machine}
+use Rattle.machine.specs.Machine.{Transaction, Session, Machine}
 use Rattle.machine.specs.OneCopy.{Event, event, history}
 use Rattle.machine.proofs.Events.{events}
 use Rattle.refinement.specs.Represents.{OfLayout, Represents, Simulates}
 use Rattle.refinement.specs.Lists.{afterCalls, machineAfter}
-use Rattle.refinement.proofs.Represented.{by-machine}
+use Rattle.refinement.proofs.Represented.{machineOf, by-machine}
 use Rattle.refinement.proofs.Send.{send-keeps, send-simulates}
 use Rattle.refinement.proofs.Refresh.{refresh-keeps, refresh-simulates}
 use Rattle.refinement.proofs.Read.{read-keeps, read-simulates, collect-keeps, collect-simulates}
@@ -29,11 +29,15 @@ keeps-layout c m h (collect s out) = collect-keeps c m s out h
 
 pub simulates : (c : Control) (m : Memory) (M : Machine) → Represents c m M → (x : Call) → Simulates (Bytes.call c m x) (Plain.call M x)
 unfolding Bytes.call Plain.call
-simulates c m M h (commit s bytes) = by-machine c m (λ M. Simulates (Bytes.commit c m s bytes) (Plain.commit M s bytes)) (commit-simulates c m s bytes) M h
-simulates c m M h (send i) = by-machine c m (λ M. Simulates (Bytes.send c m i) (Plain.send M i)) (send-simulates c m i) M h
-simulates c m M h (refresh i) = by-machine c m (λ M. Simulates (Bytes.refresh c m i) (Plain.refresh M i)) (refresh-simulates c m i) M h
-simulates c m M h (read s request out) = by-machine c m (λ M. Simulates (Bytes.read c m s request out) (Plain.read M s request out)) (read-simulates c m s request out) M h
-simulates c m M h (collect s out) = by-machine c m (λ M. Simulates (Bytes.collect c m s out) (Plain.collect M s out)) (collect-simulates c m s out) M h
+simulates c m M h x = by-machine c m (λ M. Simulates (Bytes.call c m x) (Plain.call M x)) (case x) M h
+  where
+    case : (x : Call) (log : List Transaction) (sessions : List Session) → Represents c m (machineOf c log sessions)
+        → Simulates (Bytes.call c m x) (Plain.call (machineOf c log sessions) x)
+    case (commit s bytes) = commit-simulates c m s bytes
+    case (send i) = send-simulates c m i
+    case (refresh i) = refresh-simulates c m i
+    case (read s request out) = read-simulates c m s request out
+    case (collect s out) = collect-simulates c m s out
 
 -- a list of calls: what it leaves, and its answers and outputs
 pub layout-after : (H : List Call) (r : After) → OfLayout (r .control) (r .memory) → OfLayout (afterCalls r H .control) (afterCalls r H .memory)

@@ -49,7 +49,8 @@ module _ (before : Memory) (studios : ℕ) (bytes : List ℕ) (accepted : setup 
 
     -- COPIES. After H from a fresh system the bytes stand for the plain machine's state: the head end's copy is L(commits) and studio i's copy is
     -- L(applied of i), of the plain machine's committed transactions, of which there are `commits`.
-    pub represents-after : Represents (afterCalls (setup before studios bytes) H .control) (afterCalls (setup before studios bytes) H .memory) (machineAfter (fresh studios bytes) H)
+    pub represents-after : Represents (afterCalls (setup before studios bytes) H .control) (afterCalls (setup before studios bytes) H .memory)
+        (machineAfter (fresh studios bytes) H)
     represents-after = Simulation.represents-after H (setup before studios bytes) (fresh studios bytes) fresh-represents
 
     pub primary : copyAt (afterCalls (setup before studios bytes) H .memory .library) 0

@@ -30,7 +30,8 @@ handed-act : (copy op : List ℕ) → 16 ≤ length op → act copy (handedIn op
 unfolding handedIn act actedOn effect meetsCart made retitled recut u16 zeros
 handed-act copy op h = by-fields (λ o. act copy (handedIn o) ≡ act copy o) 0 (λ k t l. refl) op (omega arith)
 
-pub handed-actAll : (copy : List ℕ) (ops : List (List ℕ)) → ((i : ℕ) → i < length ops → length (getD ops i []) ≡ 80) → actAll copy (map handedIn ops) ≡ actAll copy ops
+pub handed-actAll : (copy : List ℕ) (ops : List (List ℕ)) → ((i : ℕ) → i < length ops → length (getD ops i []) ≡ 80)
+    → actAll copy (map handedIn ops) ≡ actAll copy ops
 unfolding actAll
 handed-actAll copy [] h = refl
 handed-actAll copy (op ∷ ops) h =
