@@ -13,6 +13,10 @@ use Rattle.carts.specs.Bytes.{within, all, every, pairwise}
 use Rattle.carts.specs.Operation.{operationFields}
 use Rattle.replication.specs.Memory.{recordAt}
 use Rattle.replication.specs.Log.{nextOperation, nextTransaction, chain, recordsOf, transactionAt, walk, upFrom, chainForm, front}
+use Rattle.replication.specs.Memory.{Memory}
+use Rattle.replication.specs.Log.{firstRecord}
+use Rattle.replication.specs.declared.control.Control.{Control}
+use Rattle.replication.proofs.Formed.{Formed}
 use Rattle.replication.proofs.SpanLaws.{chain-cons, chain-zero}
 use Rattle.carts.proofs.TestLaws.{and-left, and-right, all-at, all-cons, all-nil, within-low, within-high, within-of, pairwise-eq, pairwise-refl}
 
@@ -172,3 +176,19 @@ placed (suc n) log first r end h (suc k) l =
     let x = chained n log first r end h in
     let p = placed n log (nextTransaction log r) (r + x .size) end (x .rest) k (omega arith) in
     rw (x .same) (record { size = p .size; after = omega arith; low = p .low; own = p .own; fits = p .fits })
+
+-- each transaction takes a record at least
+chain-count : (n : ℕ) (log : List ℕ) (first r end : ℕ) → chainForm n log first r end ≡ true → r + n ≤ end
+unfolding chainForm
+chain-count zero log first r end h = let e : r ≡ end = eqb-true r end (all-at 1 (eqb first 0 ∷ eqb r end ∷ []) h) in omega arith
+chain-count (suc n) log first r end h =
+    let x = chained n log first r end h in
+    let l = x .low in
+    let rec = chain-count n log (nextTransaction log r) (r + x .size) end (x .rest) in
+    omega arith
+
+pub few-commits : (c : Control) (m : Memory) → Formed c m → c .commits ≤ 512
+few-commits c m f =
+    let k = chain-count (c .commits) (m .log) (firstRecord c) 1 (c .used + 1) (f .log .chain) in
+    let u = f .log .used in
+    omega arith

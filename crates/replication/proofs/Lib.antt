@@ -8,3 +8,5 @@ pub mod RequestLaws
 pub mod RowLaws
 pub mod Samples
 pub mod SpanLaws
+pub mod DecideLaws
+pub mod SendLaws

@@ -46,6 +46,16 @@ passes-on (x ∷ xs) ys v k e z = go (x .stops) e (passes-on xs ys v (and-right 
     go true f ih = let l : 1 ≤ x .number = leb-true 1 (x .number) (and-left (leb 1 (x .number)) (numbered xs) k) in absurd (omega arith)
     go false f ih = ih f z
 
+-- none of them stops the call
+pub none-stops : (xs ys : List Row) → numbered xs ≡ true → stopped (xs ++ ys) ≡ 0 → (stopped xs ≡ 0) × (stopped ys ≡ 0)
+unfolding stopped numbered every
+none-stops [] ys k e = (refl, e)
+none-stops (x ∷ xs) ys k e = go (x .stops) e (none-stops xs ys (and-right (leb 1 (x .number)) (numbered xs) k))
+  where
+    go : (b : Bool) → cond b (x .number) (stopped (xs ++ ys)) ≡ 0 → (stopped (xs ++ ys) ≡ 0 → (stopped xs ≡ 0) × (stopped ys ≡ 0)) → (cond b (x .number) (stopped xs) ≡ 0) × (stopped ys ≡ 0)
+    go true f ih = let l : 1 ≤ x .number = leb-true 1 (x .number) (and-left (leb 1 (x .number)) (numbered xs) k) in absurd (omega arith)
+    go false f ih = ih f
+
 -- the others decide, where the first pass
 pub decides : (xs ys : List Row) (v w : ℕ) → numbered xs ≡ true → v ≡ stopped xs → v ≡ 0 → w ≡ stopped ys → w ≡ stopped (xs ++ ys)
 decides xs ys v w k e z f = f ∙ sym (passes-on xs ys v k e z)

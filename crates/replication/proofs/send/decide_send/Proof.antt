@@ -1,3 +1,13 @@
+use mathlib.Core.Path.{_≡_, sym, ap₂, _∙_}
+use mathlib.Core.List.{_++_}
+use native.Mathlib.Omega.{arith}
+use Prim.Native.Nat.{ℕ, _≤_, _-_}
+use Rattle.replication.specs.Rows.{stopped, memoryRows, sendRows}
+use Rattle.replication.specs.Memory.{memory, nth}
+use Rattle.replication.proofs.RowLaws.{studio-numbered}
+use Rattle.replication.proofs.DecideLaws.{by-memory, by-who, by-rest, memory-formed}
+use Rattle.replication.proofs.Formed.{Counts}
+use Rattle.replication.proofs.SendLaws.{SendRest, all-sent, window-full, may-send, studio-counts}
 use borrow.Author.Needs.{needs}
 use Rattle.replication.proofs.send.decide_send.Statement.{statement}
 use Rattle.replication.proofs.send.decide_send.Tie as tie
@@ -14,7 +24,8 @@ stopped-by-memory-requires c κs = search needs
 
 -- src/send.rt:27:9
 returns : tie.Need-returns
-returns c = ?
+unfolding sendRows
+returns c = by-memory _ _ _ _ (studio-numbered _ _) _ (c .before .stopped-by-memory .ensures) (c .if1 .taken)
 
 -- src/send.rt:29:9
 stopped-by-studio-requires : tie.Need-stopped-by-studio-requires
@@ -22,31 +33,60 @@ stopped-by-studio-requires c κs = search needs
 
 -- src/send.rt:31:9
 returns-2 : tie.Need-returns-2
-returns-2 c = ?
+unfolding sendRows
+returns-2 c = let w = c .before in
+    let v = w .before .before in
+    by-who _ _ _ _ (studio-numbered _ _) _ (v .stopped-by-memory .ensures) (w .before .if1 .left) _ (w .stopped-by-studio .ensures) (c .if2 .taken)
+
+-- neither memory nor who calls stops the send
+known : (c : tie.Else2) → let g = c .before .before .before .before .before .before .before .args in ((1 ≤ g .studio) × (g .studio ≤ 4)) × Counts (g .control) (g .studio)
+known c = let w = c .before in
+    let v = w .before .before in
+    studio-counts _ _ _ (memory-formed _ _ _ (v .stopped-by-memory .ensures) (w .before .if1 .left)) (sym (w .stopped-by-studio .ensures) ∙ c .if2 .left)
+
+rest : (c : tie.Else2) → let g = c .before .before .before .before .before .before .before .args in (n : ℕ)
+    → n ≡ stopped (SendRest (nth (g .control .sent) (g .studio)) (nth (g .control .applied) (g .studio)) (g .control .commits))
+    → n ≡ stopped (memoryRows (g .control) (memory (g .library .now) (g .log .now) (g .sessions .now)) ++ sendRows (g .control .studios) (g .studio) (nth (g .control .sent) (g .studio)) (nth (g .control .applied) (g .studio)) (g .control .commits))
+unfolding sendRows
+rest c n e = let w = c .before in
+    let v = w .before .before in
+    by-rest _ _ _ _ (studio-numbered _ _) _ (v .stopped-by-memory .ensures) (w .before .if1 .left) _ (w .stopped-by-studio .ensures) (c .if2 .left) n e
 
 -- src/send.rt:33:9
 sent-to-requires : tie.Need-sent-to-requires
-sent-to-requires c κs = ?
+sent-to-requires c κs = known c .0
 
 -- src/send.rt:34:9
 applied-by-requires : tie.Need-applied-by-requires
-applied-by-requires c κs = ?
+applied-by-requires c κs = known (c .before) .0
 
 -- src/send.rt:36:9
 returns-3 : tie.Need-returns-3
-returns-3 c = ?
+unfolding sendRows
+returns-3 c = let a = c .before .before in
+    rest (a .before .before) 9 (all-sent _ _ _ (sym (a .before .sent-to .ensures) ∙ c .if3 .taken))
 
 -- src/send.rt:38:8
 sub-if4 : tie.Need-sub-if4
-sub-if4 c = ?
+sub-if4 c = let a = c .before .before in
+    let k = known (a .before .before) .1 in
+    let e = a .before .sent-to .ensures in
+    let f = a .applied-by .ensures in
+    omega (arith, k .order)
 
 -- src/send.rt:39:9
 returns-4 : tie.Need-returns-4
-returns-4 c = ?
+unfolding sendRows
+returns-4 c = let a = c .before .before .before in
+    let e = a .before .sent-to .ensures in
+    rest (a .before .before) 10 (window-full _ _ _ (λ z. c .before .if3 .left (e ∙ z)) (sym (ap₂ (λ (x y : ℕ). x - y) e (a .applied-by .ensures)) ∙ c .if4 .taken))
 
 -- src/send.rt:15:1
 returns-5 : tie.Need-returns-5
-returns-5 c = ?
+unfolding sendRows
+returns-5 c = let a = c .before .before .before in
+    let e = a .before .sent-to .ensures in
+    rest (a .before .before) 0 (may-send _ _ _ (λ z. c .before .if3 .left (e ∙ z)) (λ z. c .if4 .left (ap₂ (λ (x y : ℕ). x - y) e (a .applied-by .ensures) ∙ z)))
 
 pub decide-send-spec : {M : Type 1} → statement M
 decide-send-spec =

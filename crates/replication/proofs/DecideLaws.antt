@@ -1,0 +1,64 @@
+-- A call that decides by its rows in turn: memory, then who calls, then the others; and what is known where none stops it.
+use Prim.Native.Nat.{ℕ, _+_, _-_, _<_, _≤_}
+use mathlib.Core.Path.{_≡_, refl, sym, ap, _∙_}
+use mathlib.Core.Bool.{Bool, true, false, cond, _&&_, _||_, not}
+use mathlib.Core.List.{List, [], _∷_, _++_}
+use native.Mathlib.Omega.{arith}
+use lib.Dec.{eqb, leb}
+use borrow.Author.Tests.{eqb-false, not-false}
+use Rattle.carts.specs.Bytes.{within}
+use Rattle.carts.proofs.TestLaws.{within-low, within-high}
+use Rattle.replication.specs.Memory.{Memory, lengthsForm}
+use Rattle.replication.specs.Layout.{ofLayout}
+use Rattle.replication.specs.Rows.{Row, row, stopped, memoryRows, sessionRow, studioRow}
+use Rattle.replication.specs.declared.control.Control.{Control}
+use Rattle.replication.proofs.RowLaws.{numbered, stops-first, decides, none-stops, right-memory, memory-numbered}
+use Rattle.replication.proofs.Formed.{Formed, formed}
+
+pub memory-formed : (c : Control) (m : Memory) (v : ℕ) → v ≡ stopped (memoryRows c m) → v ≡ 0 → Formed c m
+memory-formed c m v e z = let r = right-memory c m (sym e ∙ z) in formed c m (r .0) (r .1)
+
+-- the rows of a call: on memory, `who`, and the rest; v and w are what the code has found of the first two
+module _ (c : Control) (m : Memory) (who : Row) (rest : List Row) (k : numbered (who ∷ []) ≡ true) where
+  abbrev pub CallRows : List Row
+  CallRows = memoryRows c m ++ (who ∷ rest)
+
+  module _ (v : ℕ) (e : v ≡ stopped (memoryRows c m)) where
+    pub by-memory : (v ≡ 0 → ⊥) → v ≡ stopped CallRows
+    by-memory n = stops-first (memoryRows c m) (who ∷ rest) v e n
+
+    module _ (z : v ≡ 0) (w : ℕ) (f : w ≡ stopped (who ∷ [])) where
+      pub by-who : (w ≡ 0 → ⊥) → w ≡ stopped CallRows
+      by-who n = decides (memoryRows c m) (who ∷ rest) v w (memory-numbered c m) e z (stops-first (who ∷ []) rest w f n)
+
+      pub by-rest : w ≡ 0 → (n : ℕ) → n ≡ stopped rest → n ≡ stopped CallRows
+      by-rest y n g = decides (memoryRows c m) (who ∷ rest) v n (memory-numbered c m) e z (decides (who ∷ []) rest w n k f y g)
+
+  -- where none stops the call
+  module _ (e : stopped CallRows ≡ 0) where
+    pub accepted-formed : Formed c m
+    accepted-formed = let r = right-memory c m (none-stops (memoryRows c m) (who ∷ rest) (memory-numbered c m) e .0) in formed c m (r .0) (r .1)
+
+    pub accepted-who : stopped (who ∷ []) ≡ 0
+    accepted-who = none-stops (who ∷ []) rest k (none-stops (memoryRows c m) (who ∷ rest) (memory-numbered c m) e .1) .0
+
+    pub accepted-rest : stopped rest ≡ 0
+    accepted-rest = none-stops (who ∷ []) rest k (none-stops (memoryRows c m) (who ∷ rest) (memory-numbered c m) e .1) .1
+
+-- who calls, where row 3 does not stop the call
+pub right-studio : (studios i : ℕ) → stopped (studioRow studios i ∷ []) ≡ 0 → (1 ≤ i) × (i ≤ studios)
+unfolding stopped studioRow
+right-studio studios i e = go (within 1 studios i) refl e
+  where
+    go : (b : Bool) → within 1 studios i ≡ b → _≡_ {A = ℕ} (cond (not b) 3 0) 0 → (1 ≤ i) × (i ≤ studios)
+    go true f y = (within-low 1 studios i f, within-high 1 studios i f)
+    go false f y = absurd (omega arith)
+
+pub right-session : (s studio : ℕ) → stopped (sessionRow s studio ∷ []) ≡ 0 → ((1 ≤ s) × (s ≤ 16)) × (studio ≡ 0 → ⊥)
+unfolding stopped sessionRow
+right-session s studio e = go (within 1 16 s) (eqb studio 0) refl refl e
+  where
+    go : (a b : Bool) → within 1 16 s ≡ a → eqb studio 0 ≡ b → _≡_ {A = ℕ} (cond (not a || b) 3 0) 0 → ((1 ≤ s) × (s ≤ 16)) × (studio ≡ 0 → ⊥)
+    go true true f g y = absurd (omega arith)
+    go true false f g y = ((within-low 1 16 s f, within-high 1 16 s f), eqb-false studio 0 g)
+    go false b f g y = absurd (omega arith)
