@@ -1,0 +1,66 @@
+-- Laws of setup: its rows, and the whole call.
+use Prim.Native.Nat.{ℕ, _≤_}
+use mathlib.Core.Path.{_≡_, refl, sym, ap, _∙_}
+use mathlib.Core.Bool.{Bool, true, false, cond, not}
+use mathlib.Core.List.{List, [], _∷_}
+use native.Mathlib.Omega.{arith}
+use lib.Dec.{eqb, leb}
+use lib.ListN.{length, getD}
+use borrow.Author.Tests.{eq-eqb, eqb-true}
+use Rattle.carts.specs.Bytes.{zeros, within, all, every}
+use Rattle.carts.proofs.TestLaws.{all-at, all-fails}
+use Rattle.replication.specs.Answer.{refused, done}
+use Rattle.replication.specs.Memory.{Memory, memory, lengthsForm}
+use Rattle.replication.specs.Log.{freshLog}
+use Rattle.replication.specs.Rows.{Row, row, stopped, lengthsRow, setupRows}
+use Rattle.replication.specs.Calls.{after, controlOf, freshMemory, setup}
+use Rattle.replication.specs.declared.control.Control.{Control}
+use Rattle.replication.proofs.RowLaws.{lengths-are, unless-stopped, unless-accepted}
+
+-- the conditions of row 15
+abbrev StudioTests : ℕ → List ℕ → List Bool
+StudioTests studios bytes = within 1 4 studios ∷ eqb (length bytes) 16 ∷ every (λ b. leb b studios) bytes ∷ []
+
+module _ (m : Memory) (studios : ℕ) (bytes : List ℕ) where
+  abbrev pub SetupRows : List Row
+  SetupRows = lengthsRow m ∷ setupRows studios bytes
+
+  pub setup-lengths : lengthsForm m ≡ false → 1 ≡ stopped SetupRows
+  unfolding stopped lengthsRow
+  setup-lengths e = rw e
+
+  -- one of the conditions fails, counted from 0
+  module _ (l : lengthsForm m ≡ true) where
+    pub setup-studios : (n : ℕ) → getD (StudioTests studios bytes) n true ≡ false → 15 ≡ stopped SetupRows
+    unfolding stopped lengthsRow setupRows
+    setup-studios n e = rw (l, all-fails n (StudioTests studios bytes) e)
+
+    pub setup-passes : within 1 4 studios ≡ true → length bytes ≡ 16 → every (λ b. leb b studios) bytes ≡ true → 0 ≡ stopped SetupRows
+    unfolding stopped lengthsRow setupRows all
+    setup-passes a b c = rw (l, a, eq-eqb (length bytes) 16 b, c)
+
+  -- the whole call
+  module _ (v : ℕ) (e : v ≡ stopped SetupRows) where
+    pub setup-refused : (v ≡ 0 → ⊥) → (next : Control) → next ≡ controlOf 0 (zeros 16) → after (refused v) next m [] ≡ setup m studios bytes
+    unfolding setup
+    setup-refused n next q = rw (q, e) (unless-stopped _ _ _ (λ z. n (e ∙ z)))
+
+    pub setup-known : v ≡ 0 → (lengthsForm m ≡ true) × (length bytes ≡ 16)
+    unfolding stopped lengthsRow setupRows
+    setup-known z = go (lengthsForm m) (all (StudioTests studios bytes)) refl refl (sym e ∙ z)
+      where
+        go : (a b : Bool) → lengthsForm m ≡ a → all (StudioTests studios bytes) ≡ b → _≡_ {A = ℕ} (cond (not a) 1 (cond (not b) 15 0)) 0 → (lengthsForm m ≡ true) × (length bytes ≡ 16)
+        go true true f g y = (f, eqb-true _ _ (all-at 1 (StudioTests studios bytes) g))
+        go true false f g y = absurd (omega arith)
+        go false b f g y = absurd (omega arith)
+
+    pub setup-accepted : v ≡ 0 → (next : Control) (library log sessions : List ℕ) → next ≡ controlOf studios bytes
+        → library ≡ zeros (length (m .library)) → log ≡ zeros (length (m .log)) → sessions ≡ zeros (length (m .sessions))
+        → after (done 0) next (memory library log sessions) [] ≡ setup m studios bytes
+    unfolding setup freshMemory freshLog
+    setup-accepted z next library log sessions q a b c =
+        let l = lengths-are m (setup-known z .0) in
+        let la : library ≡ zeros 51200 = a ∙ ap zeros (l .0) in
+        let lb : log ≡ zeros 40960 = b ∙ ap zeros (l .1 .0) in
+        let lc : sessions ≡ zeros 1280 = c ∙ ap zeros (l .1 .1) in
+        rw (q, la, lb, lc) (unless-accepted _ _ _ (sym e ∙ z))
