@@ -4,9 +4,9 @@ use mathlib.Core.List.{List, [], _∷_}
 use Prim.Native.Nat.{ℕ, _+_, _*_}
 use lib.ListN.{length, drop}
 use lib.Dec.{leb, eqb}
-use Rattle.carts.specs.Bytes.{part, byte, within, all, every, allZero, pairwise}
+use Rattle.carts.specs.Bytes.{part, byte, u16, within, all, every, allZero, pairwise}
 use Rattle.replication.specs.Log.{nextOperation, nextTransaction, recordsOf, upFrom}
-use Rattle.replication.specs.Memory.{sequenceOf}
+use Rattle.replication.specs.Memory.{recordAt, sequenceOf}
 use Rattle.replication.specs.Layout.{waitingForm}
 use Rattle.replication.specs.declared.session.Session.{Session}
 use Rattle.replication.specs.declared.session.Waiting.{Waiting}
@@ -52,3 +52,7 @@ ownForm most log own r end =
 -- how many records the transaction at record r has; 0 where they are not of the layout
 unfoldable pub spanOf : List ℕ → ℕ → ℕ → ℕ
 spanOf log r end = cond (ownForm 8 log (recordsOf log r) r end) (length (recordsOf log r)) 0
+
+-- a record of the log whose operation can act on a copy: its index and its cart's number are in range
+unfoldable pub usable : List ℕ → ℕ → Bool
+usable log r = all (within 1 512 r ∷ within 1 128 (u16 (recordAt log r) 2) ∷ [])

@@ -8,3 +8,4 @@ pub mod rows;
 pub mod send;
 pub mod session;
 pub mod setup;
+pub mod transaction;
