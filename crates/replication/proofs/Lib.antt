@@ -10,3 +10,4 @@ pub mod Samples
 pub mod SpanLaws
 pub mod DecideLaws
 pub mod SendLaws
+pub mod WalkLaws

@@ -7,3 +7,4 @@ pub mod record;
 pub mod rows;
 pub mod send;
 pub mod session;
+pub mod walk;
