@@ -1,7 +1,7 @@
 -- What the code's parts give, by the definitions: a session's value; a record's links; one transaction of the chain.
-use mathlib.Core.Bool.{Bool, true, false, cond}
+use mathlib.Core.Bool.{Bool, true, false, cond, _&&_}
 use mathlib.Core.List.{List, [], _∷_}
-use Prim.Native.Nat.{ℕ, _+_, _*_}
+use Prim.Native.Nat.{ℕ, zero, suc, _+_, _*_}
 use lib.ListN.{length, drop}
 use lib.Dec.{leb, eqb}
 use Rattle.carts.specs.Bytes.{part, byte, u16, within, all, every, allZero, pairwise}
@@ -56,3 +56,8 @@ spanOf log r end = cond (ownForm 8 log (recordsOf log r) r end) (length (records
 -- a record of the log whose operation can act on a copy: its index and its cart's number are in range
 unfoldable pub usable : List ℕ → ℕ → Bool
 usable log r = all (within 1 512 r ∷ within 1 128 (u16 (recordAt log r) 2) ∷ [])
+
+-- the n records that a walk from record r reads are records of the log
+unfoldable pub walkable : ℕ → List ℕ → ℕ → Bool
+walkable zero log r = true
+walkable (suc n) log r = let rest = walkable n log (nextTransaction log r) in within 1 512 r && rest

@@ -9,3 +9,4 @@ pub mod send;
 pub mod session;
 pub mod setup;
 pub mod transaction;
+pub mod walk;
