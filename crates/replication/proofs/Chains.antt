@@ -45,7 +45,7 @@ every-upFrom p r (suc n) h q l g = go (ℕ-discrete q r) (every-upFrom p (r + 1)
     go (yes e) f = rw e (and-left (p r) (every p (upFrom (r + 1) n)) h)
     go (no ne) f = f q (omega arith) (omega arith)
 
-upFrom-every : (p : ℕ → Bool) (r n : ℕ) → ((q : ℕ) → r ≤ q → q < r + n → p q ≡ true) → every p (upFrom r n) ≡ true
+pub upFrom-every : (p : ℕ → Bool) (r n : ℕ) → ((q : ℕ) → r ≤ q → q < r + n → p q ≡ true) → every p (upFrom r n) ≡ true
 unfolding upFrom every
 upFrom-every p r zero f = refl
 upFrom-every p r (suc n) f = rw (f r (omega arith) (omega arith)) (upFrom-every p (r + 1) n (λ q l g. f q (omega arith) (omega arith)))

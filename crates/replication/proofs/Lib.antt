@@ -13,3 +13,4 @@ pub mod SetupLaws
 pub mod SpanLaws
 pub mod TransactionLaws
 pub mod WalkLaws
+pub mod RefreshLaws

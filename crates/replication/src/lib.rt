@@ -4,6 +4,7 @@ pub mod chain;
 pub mod control;
 pub mod layout;
 pub mod record;
+pub mod refresh;
 pub mod rows;
 pub mod send;
 pub mod session;
