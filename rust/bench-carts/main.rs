@@ -60,16 +60,25 @@ fn plain_is_copy(copy: &[u8]) -> bool {
     copy.len() == COPY && copy.chunks_exact(CART).enumerate().all(|(i, s)| plain_is_cart(s, i + 1))
 }
 
-/// The same flags as the proved code, by arrays of fixed size and no early exit within a cart.
+const PLACES: [u8; 64] = {
+    let mut places = [0; 64];
+    let mut j = 0;
+    while j < 64 {
+        places[j] = j as u8;
+        j += 1;
+    }
+    places
+};
+
+/// Flags over arrays of fixed size, with no early exit within a cart and every comparison in bytes.
 fn floor_is_cart(s: &[u8; CART], c: usize) -> bool {
     if s[0] == 0 {
         return s.iter().fold(0u8, |a, &b| a | b) == 0;
     }
     let n = s[1];
     let mut ok = true;
-    for j in 0..64u8 {
-        let b = s[16 + j as usize];
-        ok &= if j < n { (32..=126).contains(&b) } else { b == 0 };
+    for (j, &b) in PLACES.iter().zip(&s[16..]) {
+        ok &= if *j < n { (32..=126).contains(&b) } else { b == 0 };
     }
     ok & (s[0] == 1) & (n >= 1) & (n <= 64) & (u16_at(s, 2) == c) & (u32_at(s, 4) >= 1) & (u32_at(s, 8) >= 1) & (u32_at(s, 12) == 0)
 }

@@ -67,9 +67,11 @@ fn is_title(field: &[u8], n: u8) -> bool
     ensures { λ r. ⌜ r ≡ (every printable (take n (now (field .entry))) && allZero (drop n (now (field .entry)))) ⌝ }
 {
     let mut ok = true;
+    let mut place: u8 = 0; // j in a byte: the comparison with n then vectorises in bytes
     let mut j = 0;
     while j < Cart::TITLE_SIZE {
-        ok &= is_title_byte(field[j], j as u8, n);
+        ok &= is_title_byte(field[j], place, n);
+        place += 1;
         j += 1;
     }
     ok

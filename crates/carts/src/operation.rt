@@ -7,31 +7,14 @@ ghost use mathlib.Core.Bool.{true, cond};
 ghost use Prim.Native.Nat.{ℕ, _+_, _*_, _-_, _<_, _≤_};
 ghost use lib.ListN.{length};
 ghost use Rattle.carts.specs.Bytes.{u16, every};
-ghost use Rattle.carts.specs.Cart.{cartSize, cartCount, copySize, hasTitle, noTitle, hasAudio, noAudio};
+ghost use Rattle.carts.specs.Cart.{cartSize, cartCount, copySize};
 ghost use Rattle.carts.specs.Operation.{operationFields, operationForm, operationsOf, made, retitled, recut, actedOn, meets, act, meetsAll, actAll};
 
-// The title is of its form where one is asked for, else zero.
-fn is_title_as_asked(op: &[u8], asked: bool) -> bool
-    requires { ⌜ length (now op) ≡ cartSize ⌝ }
-    ensures { λ r. ⌜ r ≡ cond asked (hasTitle (now (op .entry))) (noTitle (now (op .entry))) ⌝ }
+// A field is of its form where the operation's kind asks for it, else absent.
+fn is_as_asked(asked: bool, present: bool, absent: bool) -> bool
+    ensures { λ r. ⌜ r ≡ cond asked present absent ⌝ }
 {
-    if asked {
-        cart::has_title(op)
-    } else {
-        cart::no_title(op)
-    }
-}
-
-// Audio and length are of their form where they are asked for, else zero.
-fn is_audio_as_asked(op: &[u8], asked: bool) -> bool
-    requires { ⌜ length (now op) ≡ cartSize ⌝ }
-    ensures { λ r. ⌜ r ≡ cond asked (hasAudio (now (op .entry))) (noAudio (now (op .entry))) ⌝ }
-{
-    if asked {
-        cart::has_audio(op)
-    } else {
-        cart::no_audio(op)
-    }
+    if asked { present } else { absent }
 }
 
 // The operation has the fields of its kind, as it is stored: bytes 12 to 15 are free.
@@ -40,12 +23,13 @@ pub fn has_fields(op: &[u8]) -> bool
     ensures { λ r. ⌜ r ≡ operationFields (now (op .entry)) ⌝ }
 {
     let kind = bytes::byte_at(op, 0);
-    let number = bytes::u16_at(op, 2);
     let new = kind == 1;
+    let title = is_as_asked(new | (kind == 2), cart::has_title(op), cart::no_title(op));
+    let audio = is_as_asked(new | (kind == 3), cart::has_audio(op), cart::no_audio(op));
     bytes::is_within(1, 4, kind)
-        & bytes::is_within(1, Cart::COUNT, number)
-        & is_title_as_asked(op, new | (kind == 2))
-        & is_audio_as_asked(op, new | (kind == 3))
+        & bytes::is_within(1, Cart::COUNT, bytes::u16_at(op, 2))
+        & title
+        & audio
 }
 
 // The operation is of its form, as it is handed in.

@@ -1,7 +1,7 @@
 use Rattle.carts.proofs.CartLaws.{cart-next}
 use Rattle.carts.proofs.TitleLaws.{search-hit, search-miss, search-end, answer-none, answer-one, answer-several}
 use Rattle.carts.specs.Title.{titled, titledIn, titledFrom, searchAnswer}
-use lib.ListN.{length, drop, replicate}
+use lib.ListN.{length, take, drop, replicate}
 use mathlib.Core.List.{_++_}
 use mathlib.Core.Path.{_≡_, refl, sym, ap, _∙_}
 use Prim.Native.Nat.{ℕ, _≤_, _-_, _+_, _*_}
@@ -41,18 +41,23 @@ is-titled-requires c κs = (c .cart-at .ensures .1, c .before .before .before .b
 add-count : tie.Need-add-count Inv-loop μ-loop
 add-count c = omega arith
 
+-- what the test of a turn has found of its cart
+tested : (c : tie.After-is-titled Inv-loop μ-loop)
+    → titled (c .before .before .before .before .before .before .args .title .now) (take 80 (drop (80 * c .before .before .before .loop .c) (c .before .before .before .before .before .before .args .copy .now))) ≡ c .is-titled .result
+tested c = let t = c .before .before .before in
+    let a = t .before .before .before .args in
+    ap (λ s. titled (a .title .now) s) (sym (c .before .cart-at .ensures .0 ∙ cart-next (a .copy .now) (t .loop .c))) ∙ sym (c .is-titled .ensures)
+
 -- src/titles.rt:64:5
 loop-less : tie.Need-loop-less Inv-loop μ-loop
 loop-less c = omega arith
 
 -- src/titles.rt:64:5
 loop-again : tie.Need-loop-again Inv-loop μ-loop
-loop-again c = let u = c .before in
-    let t = u .before .before .before in
+loop-again c = let t = c .before .before .before .before in
     let a = t .before .before .before .args in
     let i = t .loop .c in
-    let e = ap (λ s. titled (a .title .now) s) (sym (u .before .cart-at .ensures .0 ∙ cart-next (a .copy .now) i)) ∙ sym (u .is-titled .ensures) ∙ c .if1 .taken in
-    (omega arith, omega arith, search-hit (a .title .now) 128 i (i + 1) (a .copy .now) (omega arith) (t .loop .count) (t .loop .last) (t .loop .inv .2) e)
+    (omega arith, omega arith, search-hit (a .title .now) 128 i (i + 1) (a .copy .now) (omega arith) (t .loop .count) (t .loop .last) (t .loop .inv .2) (tested (c .before) ∙ c .if1 .taken))
 
 -- src/titles.rt:64:5
 loop-less-2 : tie.Need-loop-less-2 Inv-loop μ-loop
@@ -60,13 +65,12 @@ loop-less-2 c = omega arith
 
 -- src/titles.rt:64:5
 loop-again-2 : tie.Need-loop-again-2 Inv-loop μ-loop
-loop-again-2 c = let u = c .before in
-    let t = u .before .before .before in
+loop-again-2 c = let t = c .before .before .before .before in
     let a = t .before .before .before .args in
     let i = t .loop .c in
-    let e = ap (λ s. titled (a .title .now) s) (sym (u .before .cart-at .ensures .0 ∙ cart-next (a .copy .now) i)) ∙ sym (u .is-titled .ensures) ∙ c .if1 .left in
-    (omega arith, omega arith, search-miss (a .title .now) 128 i (i + 1) (a .copy .now) (omega arith) (t .loop .count) (t .loop .last) (t .loop .inv .2) e)
+    (omega arith, omega arith, search-miss (a .title .now) 128 i (i + 1) (a .copy .now) (omega arith) (t .loop .count) (t .loop .last) (t .loop .inv .2) (tested (c .before) ∙ c .if1 .left))
 
+-- the answer goes by the count and the last
 ended : (c : tie.After-loop Inv-loop μ-loop) → searchAnswer (titledIn (c .before .before .before .before .args .title .now) (c .before .before .before .before .args .copy .now)) ≡ searchAnswer (replicate (c .before .loop .count) (c .before .loop .last))
 ended c = let t = c .before in
     let a = t .before .before .before .args in
