@@ -4,9 +4,9 @@ use mathlib.Core.Path.{_≡_, refl, sym, ap, _∙_}
 use mathlib.Core.List.{List, [], _∷_, _++_, append-assoc}
 use native.Mathlib.Numerals.{add-one}
 use native.Mathlib.Omega.{arith}
-use lib.ListN.{take-append-drop, length, getD, take, drop, set, length-append, length-take, length-drop, length-set, drop-of-length-le}
-use lib.Seq.{drop-cons, take-suc, set-at, length-take-le, take-all, take-at, drop-at, drop-drop, take-append-le, drop-append-le, take-take}
-use Rattle.carts.specs.Bytes.{over, part}
+use lib.ListN.{length, getD, take, drop, set, length-append, length-take, length-drop, drop-of-length-le}
+use lib.Seq.{drop-cons, take-suc, take-nil, take-all, take-at, drop-at, drop-drop, take-take, set-at, getD-take, length-take-le}
+use Rattle.carts.specs.Bytes.{part, over, byte, u16, u32}
 
 pub length-part : (s : List ℕ) (at n : ℕ) → at + n ≤ length s → length (part s at n) ≡ n
 length-part s at n h = simp (length-take, length-drop) (omega arith)
@@ -29,3 +29,53 @@ stores (x ∷ s) (suc at) a b h = ap (λ l. x ∷ l) (stores s at a b (omega ari
 
 pub over-pair : (s : List ℕ) (at a b : ℕ) → at + 2 ≤ length s → set (set s at a) (at + 1) b ≡ over s at 2 (a ∷ b ∷ [])
 over-pair s at a b h = rw add-one (stores s at a b h)
+
+-- a part within the first k bytes, and one from byte k on
+pub part-take : (s : List ℕ) (k at n : ℕ) → at + n ≤ k → part (take k s) at n ≡ part s at n
+part-take [] k at n h = rw take-nil
+part-take (x ∷ s) k zero n h = take-take n k (x ∷ s) (omega arith)
+part-take (x ∷ s) zero (suc at) n h = absurd (omega arith)
+part-take (x ∷ s) (suc k) (suc at) n h = part-take s k at n (omega arith)
+
+pub drop-later : (s : List ℕ) (k at : ℕ) → k ≤ at → drop at s ≡ drop (at - k) (drop k s)
+drop-later s k at h = let e : k + (at - k) ≡ at = omega arith in sym (drop-drop (at - k) k s ∙ ap (λ j. drop j s) e)
+
+-- a part replaced: the length stays, what was put in is read back, and what stands before and after it is unchanged
+module _ (s : List ℕ) (at n : ℕ) (ys : List ℕ) where
+  pub length-over : at + n ≤ length s → length ys ≡ n → length (over s at n ys) ≡ length s
+  length-over h e = simp (length-append, length-take, length-drop, e) (omega arith)
+
+  pub drop-over : at ≤ length s → drop at (over s at n ys) ≡ ys ++ drop n (drop at s)
+  drop-over h = drop-at (take at s) (ys ++ drop n (drop at s)) at (length-take-le at s h)
+
+  pub part-over : at ≤ length s → length ys ≡ n → part (over s at n ys) at n ≡ ys
+  part-over h e = rw drop-over (take-at ys (drop n (drop at s)) n e)
+
+  pub take-over : (k : ℕ) → at ≤ length s → k ≤ at → take k (over s at n ys) ≡ take k s
+  take-over k h l =
+      sym (take-take k at (over s at n ys) l) ∙ ap (λ r. take k r) (take-at (take at s) (ys ++ drop n (drop at s)) at (length-take-le at s h)) ∙ take-take k at s l
+
+  pub drop-over-after : (k : ℕ) → at ≤ length s → length ys ≡ n → at + n ≤ k → drop k (over s at n ys) ≡ drop k s
+  drop-over-after k h e l =
+      drop-later (over s at n ys) (at + n) k l
+      ∙ ap (λ r. drop (k - (at + n)) r) (sym (drop-drop n at (over s at n ys)) ∙ ap (λ r. drop n r) (drop-over h) ∙ drop-at ys (drop n (drop at s)) n e ∙ drop-drop n at s)
+      ∙ sym (drop-later s (at + n) k l)
+
+-- so two lists that agree there have the same parts and bytes there
+module _ (s t : List ℕ) (k : ℕ) where
+  pub part-before : take k s ≡ take k t → (at n : ℕ) → at + n ≤ k → part s at n ≡ part t at n
+  part-before e at n h = sym (part-take s k at n h) ∙ ap (λ l. part l at n) e ∙ part-take t k at n h
+
+  pub byte-before : take k s ≡ take k t → (at : ℕ) → at < k → byte s at ≡ byte t at
+  byte-before e at h = sym (getD-take k s at 0 h) ∙ ap (λ l. byte l at) e ∙ getD-take k t at 0 h
+
+  pub u16-before : take k s ≡ take k t → (at : ℕ) → at + 2 ≤ k → u16 s at ≡ u16 t at
+  unfolding u16
+  u16-before e at h = rw (byte-before e at (omega arith), byte-before e (at + 1) (omega arith))
+
+  pub u32-before : take k s ≡ take k t → (at : ℕ) → at + 4 ≤ k → u32 s at ≡ u32 t at
+  unfolding u32
+  u32-before e at h = rw (byte-before e at (omega arith), byte-before e (at + 1) (omega arith), byte-before e (at + 2) (omega arith), byte-before e (at + 3) (omega arith))
+
+  pub part-after : drop k s ≡ drop k t → (at n : ℕ) → k ≤ at → part s at n ≡ part t at n
+  part-after e at n h = ap (λ l. take n l) (drop-later s k at h ∙ ap (λ l. drop (at - k) l) e ∙ sym (drop-later t k at h))
