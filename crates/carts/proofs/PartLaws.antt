@@ -1,7 +1,7 @@
 -- Laws of parts of a list, read and replaced.
 use Prim.Native.Nat.{ℕ, zero, suc, _+_, _-_, _*_, _<_, _≤_, min}
 use mathlib.Core.Path.{_≡_, refl, sym, ap, _∙_}
-use mathlib.Core.List.{List, [], _∷_, _++_, append-assoc}
+use mathlib.Core.List.{List, [], _∷_, _++_, append-assoc, append-nil}
 use native.Mathlib.Numerals.{add-one}
 use native.Mathlib.Omega.{arith}
 use lib.ListN.{length, getD, take, drop, set, length-append, length-take, length-drop, drop-of-length-le}
@@ -79,3 +79,7 @@ module _ (s t : List ℕ) (k : ℕ) where
 
   pub part-after : drop k s ≡ drop k t → (at n : ℕ) → k ≤ at → part s at n ≡ part t at n
   part-after e at n h = ap (λ l. take n l) (drop-later s k at h ∙ ap (λ l. drop (at - k) l) e ∙ sym (drop-later t k at h))
+
+-- the whole list replaced
+pub over-whole : (s ys : List ℕ) (n : ℕ) → length s ≤ n → over s 0 n ys ≡ ys
+over-whole s ys n h = rw (drop-of-length-le s h, append-nil)

@@ -8,7 +8,7 @@ ghost use Prim.Native.Nat.{ℕ, _+_, _*_, _-_, _<_, _≤_};
 ghost use lib.ListN.{length};
 ghost use Rattle.carts.specs.Bytes.{u16, every};
 ghost use Rattle.carts.specs.Cart.{cartSize, cartCount, copySize};
-ghost use Rattle.carts.specs.Operation.{operationFields, operationForm, operationsOf, made, retitled, recut, actedOn, meets, act, meetsAll, actAll};
+ghost use Rattle.carts.specs.Operation.{operationFields, operationForm, operationsOf, made, retitled, recut, withdrawn, actedOn, meets, act, meetsAll, actAll};
 
 // A field is of its form where the operation's kind asks for it, else absent.
 fn is_as_asked(asked: bool, present: bool, absent: bool) -> bool
@@ -92,6 +92,14 @@ fn re_cut(cart: &mut [u8], op: &[u8])
     bytes::copy_all(&mut cart[4..12], &op[4..12]);
 }
 
+// Withdraw: the cart is empty.
+fn withdraw(cart: &mut [u8])
+    requires { ⌜ length (now cart) ≡ cartSize ⌝ }
+    ensures { λ _. ⌜ now (cart .exit) ≡ withdrawn ⌝ }
+{
+    bytes::clear(&mut cart[0..Cart::SIZE]);
+}
+
 // The operation acts on its cart, which it leaves as it is where it meets it in the wrong state.
 fn act_on(cart: &mut [u8], op: &[u8])
     requires { ⌜ (length (now cart) ≡ cartSize) × (length (now op) ≡ cartSize) ⌝ }
@@ -109,7 +117,7 @@ fn act_on(cart: &mut [u8], op: &[u8])
         } else if kind == 3 {
             re_cut(cart, op);
         } else if kind == 4 {
-            bytes::clear(cart);
+            withdraw(cart);
         }
     }
 }

@@ -8,7 +8,7 @@ use Rattle.carts.proofs.operation.act_on.Statement.{statement}
 use Rattle.carts.proofs.operation.act_on.Tie as tie
 use Rattle.carts.proofs.operation.act_on.Reads as reads
 use Rattle.carts.proofs.operation.act_on.Lts as lts
-use Rattle.carts.proofs.bytes.clear.Reads as clear-reads
+use Rattle.carts.proofs.operation.withdraw.Reads as withdraw-reads
 use Rattle.carts.proofs.operation.make.Reads as make-reads
 use Rattle.carts.proofs.operation.re_cut.Reads as re-cut-reads
 use Rattle.carts.proofs.operation.retitle.Reads as retitle-reads
@@ -34,8 +34,8 @@ re-cut-requires : tie.Need-re-cut-requires
 re-cut-requires c κs = search needs
 
 -- src/operation.rt:55:13
-clear-requires : tie.Need-clear-requires
-clear-requires c κs = search needs
+withdraw-requires : tie.Need-withdraw-requires
+withdraw-requires c κs = search needs
 
 -- src/operation.rt:39:1
 same-length : tie.Need-same-length
@@ -79,12 +79,10 @@ same-length-4 c = search needs
 
 -- src/operation.rt:39:1
 returns-5 : tie.Need-returns-5
-unfolding actedOn meetsCart effect held withdrawn
+unfolding actedOn meetsCart effect held
 returns-5 c = let t = c .before .before .before .before in
     let u = t .before .before .before in
-    let s = u .before .before .before .before .before .before in
-    let l : length (s .args .cart .now) ≡ 80 = s .pre .0 in
-    simp (c .before .before .clear .ensures, l, eq-eqb _ _ (t .if6 .taken), ne-eqb _ _ (t .before .if5 .left), ne-eqb _ _ (t .before .before .if4 .left), eq-eqb _ _ (u .if3 .taken), ne-eqb _ _ (u .before .if1 .left))
+    simp (c .before .before .withdraw .ensures, eq-eqb _ _ (t .if6 .taken), ne-eqb _ _ (t .before .if5 .left), ne-eqb _ _ (t .before .before .if4 .left), eq-eqb _ _ (u .if3 .taken), ne-eqb _ _ (u .before .if1 .left))
 
 -- src/operation.rt:39:1
 returns-6 : tie.Need-returns-6
@@ -106,7 +104,7 @@ act-on-spec =
     make-requires
     retitle-requires
     re-cut-requires
-    clear-requires
+    withdraw-requires
     same-length
     returns
     returns-2

@@ -1,3 +1,4 @@
+use lib.ListN.{length-append, length-take, length-drop, length-set}
 use borrow.Rule.Slice.PartMut.{putMid, same-len-mid}
 use lib.ListN.{set, length-set}
 use mathlib.Core.Path.{_≡_, _∙_}
@@ -52,9 +53,7 @@ part-copy-all-start-3 c = search needs
 
 -- src/operation.rt:18:21
 part-copy-all-end-3 : tie.Need-part-copy-all-end-3
-part-copy-all-end-3 c = let xs = set (c .before .before .before .before .before .before .before .args .cart .now) 0 1 in
-    let k = c .before .before .copy-all in
-    rw (same-len-mid 1 11 xs (k .last .0) (k .kept .0)) (simp length-set (omega arith))
+part-copy-all-end-3 c = simp (length-append, c .before .before .copy-all .kept .0, length-take, length-drop, length-set) (omega arith)
 
 -- src/operation.rt:18:40
 sub-copy-all-4 : tie.Need-sub-copy-all-4

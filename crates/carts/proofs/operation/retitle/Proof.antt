@@ -1,3 +1,4 @@
+use lib.ListN.{length-append, length-take, length-drop, length-set}
 use borrow.Rule.Slice.PartMut.{same-len-mid}
 use lib.ListN.{set, getD, length-set}
 use mathlib.Core.Path.{_≡_, _∙_}
@@ -48,9 +49,7 @@ copy-all-requires c κs = search needs
 
 -- src/operation.rt:22:1
 same-length : tie.Need-same-length
-same-length c = let a = c .before .before .before .before .before .before .before .before .args in
-    let k = c .before .before .copy-all in
-    same-len-mid 16 64 (set (a .cart .now) 1 (getD (a .op .now) 1 0)) (k .last .0) (k .kept .0) ∙ simp length-set
+same-length c = simp (length-append, c .before .before .copy-all .kept .0, length-take, length-drop, length-set) (omega arith)
 
 -- src/operation.rt:22:1
 returns : tie.Need-returns
