@@ -4,7 +4,7 @@ use crate::cart;
 use crate::cart::Cart;
 ghost use mathlib.Core.Path.{_≡_};
 ghost use mathlib.Core.Bool.{true, cond};
-ghost use Prim.Native.Nat.{ℕ, _+_, _*_, _-_, _<_, _≤_};
+ghost use Prim.Native.Nat.{_≤_};
 ghost use lib.ListN.{length};
 ghost use Rattle.carts.specs.Bytes.{u16, every};
 ghost use Rattle.carts.specs.Cart.{cartSize, cartCount, copySize};

@@ -4,19 +4,13 @@ use mathlib.Core.Bool.{and-true}
 use borrow.Author.Needs.{needs}
 use Rattle.carts.proofs.cart.has_audio.Statement.{statement}
 use Rattle.carts.proofs.cart.has_audio.Tie as tie
-use Rattle.carts.proofs.cart.has_audio.Reads as reads
-use Rattle.carts.proofs.cart.has_audio.Lts as lts
-use Rattle.carts.proofs.bytes.u32_at.Reads as u32-at-reads
 
--- src/cart.rt:97:11
 u32-at-requires : tie.Need-u32-at-requires
 u32-at-requires c κs = search needs
 
--- src/cart.rt:97:40
 u32-at-requires-2 : tie.Need-u32-at-requires-2
 u32-at-requires-2 c κs = search needs
 
--- src/cart.rt:93:1
 returns : tie.Need-returns
 unfolding hasAudio all
 returns c = simp (c .u32-at2 .ensures, c .before .u32-at .ensures, and-true)

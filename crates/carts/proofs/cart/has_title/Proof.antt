@@ -4,31 +4,22 @@ use mathlib.Core.Bool.{and-true}
 use borrow.Author.Needs.{needs}
 use Rattle.carts.proofs.cart.has_title.Statement.{statement}
 use Rattle.carts.proofs.cart.has_title.Tie as tie
-use Rattle.carts.proofs.cart.has_title.Reads as reads
-use Rattle.carts.proofs.cart.has_title.Lts as lts
-use Rattle.carts.proofs.cart.is_title.Reads as is-title-reads
 
--- src/cart.rt:80:13
 shared-slice-read-n : tie.Need-shared-slice-read-n
 shared-slice-read-n c = search needs
 
--- src/cart.rt:81:37
 sub-is-title : tie.Need-sub-is-title
 sub-is-title c = search needs
 
--- src/cart.rt:81:37
 part-is-title-start : tie.Need-part-is-title-start
 part-is-title-start c = search needs
 
--- src/cart.rt:81:37
 part-is-title-end : tie.Need-part-is-title-end
 part-is-title-end c = search needs
 
--- src/cart.rt:81:28
 is-title-requires : tie.Need-is-title-requires
 is-title-requires c κs = search needs
 
--- src/cart.rt:76:1
 returns : tie.Need-returns
 unfolding hasTitle titleForm all within
 returns c = simp (c .is-title .ensures, and-true)

@@ -4,31 +4,22 @@ use mathlib.Core.Bool.{and-true}
 use borrow.Author.Needs.{needs}
 use Rattle.carts.proofs.cart.no_title.Statement.{statement}
 use Rattle.carts.proofs.cart.no_title.Tie as tie
-use Rattle.carts.proofs.cart.no_title.Reads as reads
-use Rattle.carts.proofs.cart.no_title.Lts as lts
-use Rattle.carts.proofs.bytes.all_zero.Reads as all-zero-reads
 
--- src/cart.rt:89:6
 shared-slice-read-result : tie.Need-shared-slice-read-result
 shared-slice-read-result c = search needs
 
--- src/cart.rt:89:35
 sub-all-zero : tie.Need-sub-all-zero
 sub-all-zero c = search needs
 
--- src/cart.rt:89:35
 part-all-zero-start : tie.Need-part-all-zero-start
 part-all-zero-start c = search needs
 
--- src/cart.rt:89:35
 part-all-zero-end : tie.Need-part-all-zero-end
 part-all-zero-end c = search needs
 
--- src/cart.rt:89:19
 all-zero-requires : tie.Need-all-zero-requires
 all-zero-requires c κs = search needs
 
--- src/cart.rt:85:1
 returns : tie.Need-returns
 unfolding noTitle all
 returns c = simp (c .all-zero .ensures, and-true)
