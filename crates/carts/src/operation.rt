@@ -165,7 +165,7 @@ pub fn meets_all(copy: &[u8], ops: &[u8]) -> bool
     requires { ⌜ (length (now copy) ≡ copySize) × (every operationFields (operationsOf (now ops)) ≡ true) ⌝ }
     ensures { λ r. ⌜ r ≡ meetsAll (now (copy .entry)) (operationsOf (now (ops .entry))) ⌝ }
 {
-    let mut scratch = [0u8; 10240];
+    let mut scratch = [0u8; Cart::COPY_SIZE];
     bytes::copy_all(&mut scratch, copy);
     try_all(&mut scratch, ops)
 }
