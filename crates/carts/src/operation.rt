@@ -3,19 +3,12 @@ use crate::bytes;
 use crate::cart;
 use crate::cart::Cart;
 ghost use mathlib.Core.Path.{_≡_};
-ghost use mathlib.Core.Bool.{true, cond};
+ghost use mathlib.Core.Bool.{true};
 ghost use Prim.Native.Nat.{_≤_};
 ghost use lib.ListN.{length};
 ghost use Rattle.carts.specs.Bytes.{u16, every};
 ghost use Rattle.carts.specs.Cart.{cartSize, cartCount, copySize};
 ghost use Rattle.carts.specs.Operation.{operationFields, operationForm, operationsOf, made, retitled, recut, withdrawn, actedOn, meets, act, meetsAll, actAll};
-
-// A field is of its form where the operation's kind asks for it, else absent.
-fn is_as_asked(asked: bool, present: bool, absent: bool) -> bool
-    ensures { λ r. ⌜ r ≡ cond asked present absent ⌝ }
-{
-    if asked { present } else { absent }
-}
 
 // The operation has the fields of its kind, as it is stored: bytes 12 to 15 are free.
 pub fn has_fields(op: &[u8]) -> bool
@@ -24,12 +17,10 @@ pub fn has_fields(op: &[u8]) -> bool
 {
     let kind = bytes::byte_at(op, 0);
     let new = kind == 1;
-    let title = is_as_asked(new | (kind == 2), cart::has_title(op), cart::no_title(op));
-    let audio = is_as_asked(new | (kind == 3), cart::has_audio(op), cart::no_audio(op));
     bytes::is_within(1, 4, kind)
         & bytes::is_within(1, Cart::COUNT, bytes::u16_at(op, 2))
-        & title
-        & audio
+        & cart::is_title_as_asked(op, new | (kind == 2))
+        & cart::is_audio_as_asked(op, new | (kind == 3))
 }
 
 // The operation is of its form, as it is handed in.

@@ -13,11 +13,11 @@ is-held-requires c κs = search needs
 u16-at-requires : tie.Need-u16-at-requires
 u16-at-requires c κs = search needs
 
-has-title-requires : tie.Need-has-title-requires
-has-title-requires c κs = search needs
+is-title-as-asked-requires : tie.Need-is-title-as-asked-requires
+is-title-as-asked-requires c κs = search needs
 
-has-audio-requires : tie.Need-has-audio-requires
-has-audio-requires c κs = search needs
+is-audio-as-asked-requires : tie.Need-is-audio-as-asked-requires
+is-audio-as-asked-requires c κs = search needs
 
 sub-all-zero : tie.Need-sub-all-zero
 sub-all-zero c = search needs
@@ -38,8 +38,8 @@ returns c = let t = c .before .before in
     let s = a .s .now in
     rw (
       c .all-zero .ensures,
-      t .has-audio .ensures,
-      t .before .has-title .ensures,
+      t .is-audio-as-asked .ensures,
+      t .before .is-title-as-asked .ensures,
       t .before .before .u16-at .ensures .0,
       t .before .before .before .is-held .ensures,
     ) (join-all (held s) (eqb (u16 s 2) (a .c) ∷ hasTitle s ∷ hasAudio s ∷ allZero (part s 12 4) ∷ []))
@@ -50,8 +50,8 @@ is-held-cart-spec =
     (tie.spec
     is-held-requires
     u16-at-requires
-    has-title-requires
-    has-audio-requires
+    is-title-as-asked-requires
+    is-audio-as-asked-requires
     sub-all-zero
     part-all-zero-start
     part-all-zero-end

@@ -11,24 +11,6 @@ use Rattle.carts.proofs.operation.has_fields.Tie as tie
 byte-at-requires : tie.Need-byte-at-requires
 byte-at-requires c κs = search needs
 
-has-title-requires : tie.Need-has-title-requires
-has-title-requires c κs = search needs
-
-no-title-requires : tie.Need-no-title-requires
-no-title-requires c κs = search needs
-
-is-as-asked-requires : tie.Need-is-as-asked-requires
-is-as-asked-requires c κs = search needs
-
-has-audio-requires : tie.Need-has-audio-requires
-has-audio-requires c κs = search needs
-
-no-audio-requires : tie.Need-no-audio-requires
-no-audio-requires c κs = search needs
-
-is-as-asked-requires-2 : tie.Need-is-as-asked-requires-2
-is-as-asked-requires-2 c κs = search needs
-
 is-within-requires : tie.Need-is-within-requires
 is-within-requires c κs = search needs
 
@@ -38,23 +20,24 @@ u16-at-requires c κs = search needs
 is-within-requires-2 : tie.Need-is-within-requires-2
 is-within-requires-2 c κs = search needs
 
+is-title-as-asked-requires : tie.Need-is-title-as-asked-requires
+is-title-as-asked-requires c κs = search needs
+
+is-audio-as-asked-requires : tie.Need-is-audio-as-asked-requires
+is-audio-as-asked-requires c κs = search needs
+
 returns : tie.Need-returns
 unfolding operationFields
 returns c = let t = c .before .before .before in
-    let u = t .before .before .before in
-    let b = u .before .before .before in
+    let b = t .before .before in
     let op = b .before .before .args .op .now in
     let kind = byte op 0 in
     rw (
-      c .is-within2 .ensures,
-      c .before .u16-at .ensures .0,
-      c .before .before .is-within .ensures,
-      t .is-as-asked2 .ensures,
-      t .before .no-audio .ensures,
-      t .before .before .has-audio .ensures,
-      u .is-as-asked .ensures,
-      u .before .no-title .ensures,
-      u .before .before .has-title .ensures,
+      c .is-audio-as-asked .ensures,
+      c .before .is-title-as-asked .ensures,
+      c .before .before .is-within2 .ensures,
+      t .u16-at .ensures .0,
+      t .before .is-within .ensures,
       b .byte-at .ensures .0,
     ) (join-all (within 1 4 kind) (within 1 128 (u16 op 2) ∷ cond (isNew kind || isRetitle kind) (hasTitle op) (noTitle op) ∷ cond (isNew kind || isRecut kind) (hasAudio op) (noAudio op) ∷ []))
 
@@ -63,13 +46,9 @@ has-fields-spec =
     tie.close
     (tie.spec
     byte-at-requires
-    has-title-requires
-    no-title-requires
-    is-as-asked-requires
-    has-audio-requires
-    no-audio-requires
-    is-as-asked-requires-2
     is-within-requires
     u16-at-requires
     is-within-requires-2
+    is-title-as-asked-requires
+    is-audio-as-asked-requires
     returns)
