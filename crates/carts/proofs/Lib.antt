@@ -1,5 +1,6 @@
 -- Sample data, and laws on the definitions of specs/ for the proofs of this crate and of its callers.
 pub mod CartLaws
+pub mod KeepLaws
 pub mod OperationLaws
 pub mod PartLaws
 pub mod RecordLaws

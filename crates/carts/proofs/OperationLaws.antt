@@ -1,6 +1,6 @@
 -- Laws of operations.
 use Prim.Native.Nat.{ℕ, _+_, _-_, _*_, _/_, _<_, _≤_}
-use mathlib.Core.Path.{_≡_, _∙_}
+use mathlib.Core.Path.{_≡_, ap, _∙_}
 use mathlib.Core.Bool.{Bool, true, false, _&&_, _||_, cond}
 use mathlib.Core.List.{List, [], _∷_}
 use native.Mathlib.Nat.{mul-div-le}
@@ -13,16 +13,19 @@ use Rattle.carts.specs.Cart.{cartAt, hasTitle, noTitle, hasAudio, noAudi
 use Rattle.carts.specs.Operation.{isNew, isRetitle, isRecut, isWithdraw, operationFields, operationForm, operationsOf, made, retitled, recut, withdrawn, meetsCart, effect, actedOn, meets, act, meetsAll, actAll}
 use Rattle.carts.proofs.ScanLaws.{and-left, and-right, all-at, within-true, every-implied}
 use Rattle.carts.proofs.CartLaws.{length-cart}
-use Rattle.carts.proofs.PartLaws.{length-part, length-over, part-before, part-after, byte-before, u16-before, u32-before}
+use Rattle.carts.proofs.PartLaws.{length-part, length-over, part-in, byte-in, u16-in, u32-in}
 use Rattle.carts.proofs.RecordLaws.{parts-next, parts-end, sized-parts}
+
+-- the tests of an operation's fields, read by position
+abbrev pub operationTests : List ℕ → List Bool
+operationTests op =
+    let kind = byte op 0 in
+    within 1 4 kind ∷ within 1 128 (u16 op 2) ∷ cond (isNew kind || isRetitle kind) (hasTitle op) (noTitle op) ∷ cond (isNew kind || isRecut kind) (hasAudio op) (noAudio op) ∷ []
 
 -- an operation of its fields names a cart of the copy
 pub fields-cart : (op : List ℕ) → operationFields op ≡ true → (1 ≤ u16 op 2) × (u16 op 2 ≤ 128)
 unfolding operationFields
-fields-cart op e =
-    let kind = byte op 0 in
-    let tests = within 1 4 kind ∷ within 1 128 (u16 op 2) ∷ cond (isNew kind || isRetitle kind) (hasTitle op) (noTitle op) ∷ cond (isNew kind || isRecut kind) (hasAudio op) (noAudio op) ∷ [] in
-    within-true 1 128 (u16 op 2) (all-at tests 1 e)
+fields-cart op e = within-true 1 128 (u16 op 2) (all-at (operationTests op) 1 e)
 
 -- the operations left of n, of which i have been passed: the first, and the others
 module _ (n i : ℕ) (s : List ℕ) (h : i < n) where
@@ -62,16 +65,16 @@ op-ready ops i h e = (length-part ops (80 * i) 80 (omega arith), fields-cart (ta
 -- what an operation does is not told by its bytes 12 to 15, the links of a log record
 module _ (a b : List ℕ) (front : take 12 a ≡ take 12 b) (back : drop 16 a ≡ drop 16 b) where
   kind-same : byte a 0 ≡ byte b 0
-  kind-same = byte-before a b 12 front 0 (omega arith)
+  kind-same = byte-in a b 0 12 front 0 (omega arith) (omega arith)
 
   letters-same : byte a 1 ≡ byte b 1
-  letters-same = byte-before a b 12 front 1 (omega arith)
+  letters-same = byte-in a b 0 12 front 1 (omega arith) (omega arith)
 
   number-same : u16 a 2 ≡ u16 b 2
-  number-same = u16-before a b 12 front 2 (omega arith)
+  number-same = u16-in a b 0 12 front 2 (omega arith) (omega arith)
 
   title-same : part a 16 64 ≡ part b 16 64
-  title-same = part-after a b 16 back 16 64 (omega arith)
+  title-same = ap (λ l. take 64 l) back
 
   pub meets-links : (copy : List ℕ) → meets copy a ≡ meets copy b
   unfolding meets meetsCart
@@ -79,7 +82,7 @@ module _ (a b : List ℕ) (front : take 12 a ≡ take 12 b) (back : drop 16 a �
 
   acted-same : (cart : List ℕ) → actedOn a cart ≡ actedOn b cart
   unfolding actedOn meetsCart effect made retitled recut
-  acted-same cart = rw (kind-same, letters-same, title-same, part-before a b 12 front 1 11 (omega arith), part-before a b 12 front 4 8 (omega arith))
+  acted-same cart = rw (kind-same, letters-same, title-same, part-in a b 0 12 front 1 11 (omega arith) (omega arith), part-in a b 0 12 front 4 8 (omega arith) (omega arith))
 
   pub act-links : (copy : List ℕ) → act copy a ≡ act copy b
   unfolding act
@@ -92,9 +95,9 @@ module _ (a b : List ℕ) (front : take 12 a ≡ take 12 b) (back : drop 16 a �
     letters-same,
     number-same,
     title-same,
-    part-before a b 12 front 4 8 (omega arith),
-    u32-before a b 12 front 4 (omega arith),
-    u32-before a b 12 front 8 (omega arith),
+    part-in a b 0 12 front 4 8 (omega arith) (omega arith),
+    u32-in a b 0 12 front 4 (omega arith) (omega arith),
+    u32-in a b 0 12 front 8 (omega arith) (omega arith),
   )
 
 -- a cart and a copy keep their length

@@ -5,7 +5,7 @@ use mathlib.Core.List.{List, [], _∷_, _++_, append-assoc, append-nil}
 use native.Mathlib.Numerals.{add-one}
 use native.Mathlib.Omega.{arith}
 use lib.ListN.{length, getD, take, drop, set, length-append, length-take, length-drop, drop-of-length-le}
-use lib.Seq.{drop-cons, take-suc, take-nil, take-all, take-at, drop-at, drop-drop, take-take, set-at, getD-take, length-take-le}
+use lib.Seq.{drop-cons, take-suc, take-nil, take-all, take-at, drop-at, drop-drop, take-take, set-at, getD-take, getD-drop, length-take-le}
 use Rattle.carts.specs.Bytes.{part, over, byte, u16, u32}
 
 pub length-part : (s : List ℕ) (at n : ℕ) → at + n ≤ length s → length (part s at n) ≡ n
@@ -61,24 +61,34 @@ module _ (s : List ℕ) (at n : ℕ) (ys : List ℕ) where
       ∙ ap (λ r. drop (k - (at + n)) r) (sym (drop-drop n at (over s at n ys)) ∙ ap (λ r. drop n r) (drop-over h) ∙ drop-at ys (drop n (drop at s)) n e ∙ drop-drop n at s)
       ∙ sym (drop-later s (at + n) k l)
 
--- so two lists that agree there have the same parts and bytes there
-module _ (s t : List ℕ) (k : ℕ) where
-  pub part-before : take k s ≡ take k t → (at n : ℕ) → at + n ≤ k → part s at n ≡ part t at n
-  part-before e at n h = sym (part-take s k at n h) ∙ ap (λ l. part l at n) e ∙ part-take t k at n h
+  pub over-before : (k m : ℕ) → at ≤ length s → k + m ≤ at → part (over s at n ys) k m ≡ part s k m
+  over-before k m h l = sym (part-take (over s at n ys) at k m l) ∙ ap (λ r. part r k m) (take-over at h (omega arith)) ∙ part-take s at k m l
 
-  pub byte-before : take k s ≡ take k t → (at : ℕ) → at < k → byte s at ≡ byte t at
-  byte-before e at h = sym (getD-take k s at 0 h) ∙ ap (λ l. byte l at) e ∙ getD-take k t at 0 h
+  pub over-after : (k m : ℕ) → at ≤ length s → length ys ≡ n → at + n ≤ k → part (over s at n ys) k m ≡ part s k m
+  over-after k m h e l = ap (λ r. take m r) (drop-over-after k h e l)
 
-  pub u16-before : take k s ≡ take k t → (at : ℕ) → at + 2 ≤ k → u16 s at ≡ u16 t at
+-- a part, and a byte, of a part
+part-part : (s : List ℕ) (a n at m : ℕ) → a ≤ at → at + m ≤ a + n → part (part s a n) (at - a) m ≡ part s at m
+part-part s a n at m h l = part-take (drop a s) n (at - a) m (omega arith) ∙ ap (λ r. take m r) (sym (drop-later s a at h))
+
+byte-part : (s : List ℕ) (a n at : ℕ) → a ≤ at → at < a + n → byte (part s a n) (at - a) ≡ byte s at
+byte-part s a n at h l = let e : a + (at - a) ≡ at = omega arith in getD-take n (drop a s) (at - a) 0 (omega arith) ∙ getD-drop a s (at - a) 0 ∙ ap (λ k. byte s k) e
+
+-- two lists that agree on n bytes from byte a on have the same parts, bytes and numbers there
+module _ (s t : List ℕ) (a n : ℕ) (e : part s a n ≡ part t a n) where
+  pub part-in : (at m : ℕ) → a ≤ at → at + m ≤ a + n → part s at m ≡ part t at m
+  part-in at m h l = sym (part-part s a n at m h l) ∙ ap (λ r. part r (at - a) m) e ∙ part-part t a n at m h l
+
+  pub byte-in : (at : ℕ) → a ≤ at → at < a + n → byte s at ≡ byte t at
+  byte-in at h l = sym (byte-part s a n at h l) ∙ ap (λ r. byte r (at - a)) e ∙ byte-part t a n at h l
+
+  pub u16-in : (at : ℕ) → a ≤ at → at + 2 ≤ a + n → u16 s at ≡ u16 t at
   unfolding u16
-  u16-before e at h = rw (byte-before e at (omega arith), byte-before e (at + 1) (omega arith))
+  u16-in at h l = rw (byte-in at h (omega arith), byte-in (at + 1) (omega arith) (omega arith))
 
-  pub u32-before : take k s ≡ take k t → (at : ℕ) → at + 4 ≤ k → u32 s at ≡ u32 t at
+  pub u32-in : (at : ℕ) → a ≤ at → at + 4 ≤ a + n → u32 s at ≡ u32 t at
   unfolding u32
-  u32-before e at h = rw (byte-before e at (omega arith), byte-before e (at + 1) (omega arith), byte-before e (at + 2) (omega arith), byte-before e (at + 3) (omega arith))
-
-  pub part-after : drop k s ≡ drop k t → (at n : ℕ) → k ≤ at → part s at n ≡ part t at n
-  part-after e at n h = ap (λ l. take n l) (drop-later s k at h ∙ ap (λ l. drop (at - k) l) e ∙ sym (drop-later t k at h))
+  u32-in at h l = rw (byte-in at h (omega arith), byte-in (at + 1) (omega arith) (omega arith), byte-in (at + 2) (omega arith) (omega arith), byte-in (at + 3) (omega arith) (omega arith))
 
 -- the whole list replaced
 pub over-whole : (s ys : List ℕ) (n : ℕ) → length s ≤ n → over s 0 n ys ≡ ys

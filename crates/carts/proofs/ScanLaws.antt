@@ -5,12 +5,12 @@ use mathlib.Core.Bool.{Bool, true, false, _&&_, and-assoc, and-true, true≢fals
 use mathlib.Core.List.{List, [], _∷_}
 use native.Mathlib.Numerals.{add-one}
 use native.Mathlib.Omega.{arith}
-use lib.ListN.{length, getD, drop, drop-of-length-le}
+use lib.ListN.{length, getD, take, drop, drop-of-length-le}
 use lib.Seq.{drop-cons}
 use lib.Bits.{bitOr, or-zero-l, or-add-and, and-le-r}
 use borrow.Author.Tests.{ne-eqb, eqb-true, leb-true, le-leb}
 use lib.Dec.{eqb, leb, eqb·suc-zero}
-use Rattle.carts.specs.Bytes.{within, all, every, pairwise}
+use Rattle.carts.specs.Bytes.{zeros, part, within, all, every, isZero, allZero, pairwise}
 
 -- a turn of a loop that joins tests, and its end
 pub test-more : (ok t next : Bool) {new whole left : Bool} → whole ≡ (ok && left) → left ≡ (t && next) → new ≡ (ok && t) → whole ≡ (new && next)
@@ -107,3 +107,32 @@ pairwise-equal (x ∷ a) (y ∷ b) e =
     let p = eqb-true x y (and-left (eqb x y) (pairwise eqb a b) e) in
     let q = pairwise-equal a b (and-right (eqb x y) (pairwise eqb a b) e) in
     cc
+
+-- a part of zeros is zeros
+zero-take : (n : ℕ) (s : List ℕ) → allZero s ≡ true → allZero (take n s) ≡ true
+unfolding allZero every
+zero-take zero s e = refl
+zero-take (suc n) [] e = refl
+zero-take (suc n) (x ∷ s) e = rw (and-left (isZero x) (every isZero s) e) (zero-take n s (and-right (isZero x) (every isZero s) e))
+
+zero-drop : (n : ℕ) (s : List ℕ) → allZero s ≡ true → allZero (drop n s) ≡ true
+unfolding allZero every
+zero-drop zero s e = e
+zero-drop (suc n) [] e = refl
+zero-drop (suc n) (x ∷ s) e = zero-drop n s (and-right (isZero x) (every isZero s) e)
+
+pub zero-part : (s : List ℕ) (at n : ℕ) → allZero s ≡ true → allZero (part s at n) ≡ true
+zero-part s at n e = zero-take n (drop at s) (zero-drop at s e)
+
+pub zero-zeros : (n : ℕ) → allZero (zeros n) ≡ true
+unfolding allZero every zeros
+zero-zeros zero = refl
+zero-zeros (suc n) = zero-zeros n
+
+pub zeros-of : (s : List ℕ) → allZero s ≡ true → s ≡ zeros (length s)
+unfolding allZero every zeros
+zeros-of [] e = refl
+zeros-of (x ∷ s) e =
+    let p = eqb-true x 0 (and-left (isZero x) (every isZero s) e) in
+    let q = zeros-of s (and-right (isZero x) (every isZero s) e) in
+    ap (λ y. y ∷ s) p ∙ ap (λ r. 0 ∷ r) q
