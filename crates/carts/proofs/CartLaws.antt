@@ -1,17 +1,17 @@
 -- Laws of carts and copies.
-use Prim.Native.Nat.{ℕ, suc, _+_, _-_, _*_, _<_, _≤_}
-use mathlib.Core.Path.{_≡_, refl, ap, _∙_}
-use mathlib.Core.Bool.{Bool, true, false, cond, _&&_, _||_, and-assoc, and-true, or-false}
+use Prim.Native.Nat.{ℕ, zero, suc, _+_, _-_, _*_, _<_, _≤_}
+use mathlib.Core.Path.{_≡_, refl, ap}
+use mathlib.Core.Bool.{Bool, true, false, cond, _&&_, and-assoc, and-true, or-false}
 use mathlib.Core.List.{List, [], _∷_}
 use native.Mathlib.Nat.{add-sub-cancel}
 use native.Mathlib.Numerals.{add-one}
 use native.Mathlib.Omega.{arith}
 use lib.ListN.{length, getD, take, drop, drop-of-length-le}
 use lib.Seq.{drop-cons, take-nil, drop-nil}
-use lib.Dec.{ltb, eqb}
-use borrow.Author.Tests.{ltb-true, ltb-false, eq-eqb, ne-eqb}
-use Rattle.carts.specs.Bytes.{byte, isZero, every, allZero, all}
-use Rattle.carts.specs.Cart.{cartAt, printable, held, heldForm, cartForm}
+use lib.Dec.{ltb, eqb, eqb·suc-zero}
+use borrow.Author.Tests.{ltb-true, ltb-false, ne-eqb}
+use Rattle.carts.specs.Bytes.{byte, within, isZero, every, allZero, all}
+use Rattle.carts.specs.Cart.{cartAt, printable, titleForm, held, heldForm, cartForm}
 use Rattle.carts.proofs.PartLaws.{length-part}
 
 -- a cart of a copy has 80 bytes
@@ -40,6 +40,13 @@ letters-step n j t h = rw (add-one, drop-cons t j 0) (letters-at n j (getD t j 0
 pub letters-end : (n j : ℕ) (t : List ℕ) → length t ≤ j → letters (n - j) (drop j t) ≡ true
 unfolding allZero every
 letters-end n j t h = rw (drop-of-length-le t h, take-nil (n - j), drop-nil (n - j))
+
+-- a title of n letters that is asked for, or no title: one test of the letters serves both
+pub title-asked : (asked : Bool) (n : ℕ) (t : List ℕ) → cond asked (titleForm n t) (all (eqb n 0 ∷ allZero t ∷ [])) ≡ (cond asked (within 1 64 n) (eqb n 0) && letters n t)
+unfolding titleForm all every
+title-asked true n t = ap (λ b. within 1 64 n && (every printable (take n t) && b)) (and-true (allZero (drop n t)))
+title-asked false zero t = and-true (allZero t)
+title-asked false (suc n) t = rw eqb·suc-zero
 
 -- a cart's first byte says which form it must have
 pub cart-empty : (c : ℕ) (s : List ℕ) → byte s 0 ≡ 0 → cartForm c s ≡ allZero s

@@ -2,6 +2,7 @@
 pub mod CartLaws
 pub mod EachLaws
 pub mod Examples
+pub mod KeepLaws
 pub mod OperationLaws
 pub mod OverLaws
 pub mod PartLaws

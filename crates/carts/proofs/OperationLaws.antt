@@ -1,24 +1,31 @@
 -- Laws of operations.
-use Prim.Native.Nat.{ℕ, zero, suc, _+_, _-_, _*_, _/_, _<_, _≤_}
-use mathlib.Core.Path.{_≡_, refl, sym, ap, _∙_}
+use Prim.Native.Nat.{ℕ, _+_, _-_, _*_, _/_, _<_, _≤_}
+use mathlib.Core.Path.{_≡_, ap, _∙_}
 use mathlib.Core.Bool.{Bool, true, false, _&&_, _||_, cond}
 use mathlib.Core.List.{List, [], _∷_}
+use native.Mathlib.Nat.{mul-div-le}
 use native.Mathlib.Omega.{arith}
-use lib.ListN.{length, take, drop}
-use Rattle.carts.specs.Bytes.{u16, every, parts, within, all, byte}
-use Rattle.carts.specs.Cart.{hasTitle, noTitle, hasAudio, noAudio}
-use Rattle.carts.specs.Operation.{operationFields, operationForm, meets, act, meetsAll, actAll, isNew, isRetitle, isRecut}
-use Rattle.carts.proofs.ScanLaws.{and-left, and-right, all-at, within-true}
-use Rattle.carts.proofs.PartLaws.{length-part}
-use Rattle.carts.proofs.RecordLaws.{parts-next, parts-end}
+use lib.Dec.{eqb}
+use lib.ListN.{length, take, drop, set, length-set, length-replicate}
+use borrow.Author.Tests.{eqb-true}
+use Rattle.carts.specs.Bytes.{byte, u16, zeros, part, over, parts, within, every, allZero}
+use Rattle.carts.specs.Cart.{cartAt, hasTitle, noTitle, hasAudio, noAudio}
+use Rattle.carts.specs.Operation.{isNew, isRetitle, isRecut, isWithdraw, operationFields, operationForm, operationsOf, made, retitled, recut, withdrawn, meetsCart, effect, actedOn, meets, act, meetsAll, actAll}
+use Rattle.carts.proofs.ScanLaws.{and-left, and-right, all-at, within-true, every-implied}
+use Rattle.carts.proofs.CartLaws.{length-cart}
+use Rattle.carts.proofs.PartLaws.{length-part, length-over, part-in, byte-in, u16-in, u32-in}
+use Rattle.carts.proofs.RecordLaws.{parts-next, parts-end, sized-parts}
+
+-- the tests of an operation's fields, read by position
+abbrev pub operationTests : List ℕ → List Bool
+operationTests op =
+    let kind = byte op 0 in
+    within 1 4 kind ∷ within 1 128 (u16 op 2) ∷ cond (isNew kind || isRetitle kind) (hasTitle op) (noTitle op) ∷ cond (isNew kind || isRecut kind) (hasAudio op) (noAudio op) ∷ []
 
 -- an operation of its fields names a cart of the copy
 pub fields-cart : (op : List ℕ) → operationFields op ≡ true → (1 ≤ u16 op 2) × (u16 op 2 ≤ 128)
 unfolding operationFields
-fields-cart op e =
-    let kind = byte op 0 in
-    let tests = within 1 4 kind ∷ within 1 128 (u16 op 2) ∷ cond (isNew kind || isRetitle kind) (hasTitle op) (noTitle op) ∷ cond (isNew kind || isRecut kind) (hasAudio op) (noAudio op) ∷ [] in
-    within-true 1 128 (u16 op 2) (all-at tests 1 e)
+fields-cart op e = within-true 1 128 (u16 op 2) (all-at (operationTests op) 1 e)
 
 -- the operations left of n, of which i have been passed: the first, and the others
 module _ (n i : ℕ) (s : List ℕ) (h : i < n) where
@@ -54,3 +61,83 @@ act-end n i s copy h = rw (parts-end 80 n i s h)
 pub op-ready : (ops : List ℕ) (i : ℕ) → i < length ops / 80 → every operationFields (parts 80 (length ops / 80 - i) (drop (80 * i) ops)) ≡ true
     → (length (take 80 (drop (80 * i) ops)) ≡ 80) × ((1 ≤ u16 (take 80 (drop (80 * i) ops)) 2) × (u16 (take 80 (drop (80 * i) ops)) 2 ≤ 128))
 op-ready ops i h e = (length-part ops (80 * i) 80 (omega arith), fields-cart (take 80 (drop (80 * i) ops)) (fields-next (length ops / 80) i ops h e .0))
+
+-- what an operation does is not told by its bytes 12 to 15, the links of a log record
+module _ (a b : List ℕ) (front : take 12 a ≡ take 12 b) (back : drop 16 a ≡ drop 16 b) where
+  kind-same : byte a 0 ≡ byte b 0
+  kind-same = byte-in a b 0 12 front 0 (omega arith) (omega arith)
+
+  letters-same : byte a 1 ≡ byte b 1
+  letters-same = byte-in a b 0 12 front 1 (omega arith) (omega arith)
+
+  number-same : u16 a 2 ≡ u16 b 2
+  number-same = u16-in a b 0 12 front 2 (omega arith) (omega arith)
+
+  title-same : part a 16 64 ≡ part b 16 64
+  title-same = ap (λ l. take 64 l) back
+
+  pub meets-links : (copy : List ℕ) → meets copy a ≡ meets copy b
+  unfolding meets meetsCart
+  meets-links copy = rw (number-same, kind-same)
+
+  acted-same : (cart : List ℕ) → actedOn a cart ≡ actedOn b cart
+  unfolding actedOn meetsCart effect made retitled recut
+  acted-same cart = rw (kind-same, letters-same, title-same, part-in a b 0 12 front 1 11 (omega arith) (omega arith), part-in a b 0 12 front 4 8 (omega arith) (omega arith))
+
+  pub act-links : (copy : List ℕ) → act copy a ≡ act copy b
+  unfolding act
+  act-links copy = rw (number-same, acted-same)
+
+  pub fields-links : operationFields a ≡ operationFields b
+  unfolding operationFields hasTitle noTitle hasAudio noAudio
+  fields-links = rw (
+    kind-same,
+    letters-same,
+    number-same,
+    title-same,
+    part-in a b 0 12 front 4 8 (omega arith) (omega arith),
+    u32-in a b 0 12 front 4 (omega arith) (omega arith),
+    u32-in a b 0 12 front 8 (omega arith) (omega arith),
+  )
+
+-- a cart and a copy keep their length
+either-length : (b : Bool) (x y : List ℕ) (n : ℕ) → length x ≡ n → length y ≡ n → length (cond b x y) ≡ n
+either-length true x y n p q = p
+either-length false x y n p q = q
+
+pub length-acted : (op cart : List ℕ) → length op ≡ 80 → length cart ≡ 80 → length (actedOn op cart) ≡ 80
+unfolding actedOn effect made retitled recut withdrawn zeros
+length-acted op cart p q =
+    let title = length-part op 16 64 (omega arith) in
+    let kept : (i x : ℕ) → length (set cart i x) ≡ 80 = λ i x. length-set cart i x ∙ q in
+    let fields = length-over (set cart 0 1) 1 11 (part op 1 11) (omega (arith, kept 0 1)) (length-part op 1 11 (omega arith)) ∙ kept 0 1 in
+    let m = length-over (over (set cart 0 1) 1 11 (part op 1 11)) 16 64 (part op 16 64) (omega arith) title ∙ fields in
+    let r = length-over (set cart 1 (byte op 1)) 16 64 (part op 16 64) (omega (arith, kept 1 (byte op 1))) title ∙ kept 1 (byte op 1) in
+    let u = length-over cart 4 8 (part op 4 8) (omega arith) (length-part op 4 8 (omega arith)) ∙ q in
+    let w = length-replicate {A = ℕ} 80 0 in
+    let other = either-length (isRetitle (byte op 0)) _ _ 80 r (either-length (isRecut (byte op 0)) _ _ 80 u (either-length (isWithdraw (byte op 0)) _ _ 80 w q)) in
+    either-length (meetsCart op cart) _ _ 80 (either-length (isNew (byte op 0)) _ _ 80 m other) q
+
+pub length-act : (copy op : List ℕ) → length copy ≡ 10240 → length op ≡ 80 → u16 op 2 ≤ 128 → length (act copy op) ≡ 10240
+unfolding act
+length-act copy op p q h =
+    let c = u16 op 2 in
+    length-over copy (80 * (c - 1)) 80 (actedOn op (cartAt copy c)) (omega arith) (length-acted op (cartAt copy c) q (length-cart copy c p h)) ∙ p
+
+-- the operations of a transaction: each of 80 bytes and of its fields
+pub length-actAll : (ops : List (List ℕ)) (copy : List ℕ) → length copy ≡ 10240 → every (λ op. eqb (length op) 80) ops ≡ true → every operationFields ops ≡ true → length (actAll copy ops) ≡ 10240
+unfolding actAll every
+length-actAll [] copy p s f = p
+length-actAll (op ∷ ops) copy p s f =
+    let l = eqb-true (length op) 80 (and-left (eqb (length op) 80) (every (λ o. eqb (length o) 80) ops) s) in
+    let c = fields-cart op (and-left (operationFields op) (every operationFields ops) f) in
+    length-actAll ops (act copy op) (length-act copy op p l (c .1)) (and-right (eqb (length op) 80) (every (λ o. eqb (length o) 80) ops) s) (and-right (operationFields op) (every operationFields ops) f)
+
+pub length-actAll-of : (bytes copy : List ℕ) → length copy ≡ 10240 → every operationFields (operationsOf bytes) ≡ true → length (actAll copy (operationsOf bytes)) ≡ 10240
+unfolding operationsOf
+length-actAll-of bytes copy p f = length-actAll (operationsOf bytes) copy p (sized-parts 80 (length bytes / 80) bytes (mul-div-le (length bytes) 80)) f
+
+-- operations that are of their form are of their fields
+pub forms-fields : (ops : List (List ℕ)) → every operationForm ops ≡ true → every operationFields ops ≡ true
+unfolding operationForm
+forms-fields ops e = every-implied operationForm operationFields ops (λ op h. all-at (operationFields op ∷ allZero (part op 12 4) ∷ []) 0 h) e

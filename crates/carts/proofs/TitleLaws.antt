@@ -1,15 +1,22 @@
 -- Laws of titles and of a search's answer.
 use Prim.Native.Nat.{ℕ, zero, suc, _+_, _-_, _*_, _<_, _≤_}
 use mathlib.Core.Path.{_≡_, refl, sym, ap, _∙_}
-use mathlib.Core.Bool.{Bool, true, false, _&&_, cond}
+use mathlib.Core.Bool.{Bool, true, false, cond}
 use mathlib.Core.List.{List, [], _∷_, _++_, append-nil}
-use native.Mathlib.Numerals.{add-one}
+use mathlib.Core.Logic.{⊎-elim}
+use types.Run.{OneOf}
+use denote.Enum.Declared.{tagOf}
 use native.Mathlib.Omega.{arith}
 use lib.ListN.{length, take, drop, replicate, length-append, length-replicate}
-use Rattle.carts.specs.Title.{titled, titledFrom, searchAnswer}
+use Rattle.carts.specs.Bytes.{zeros, within, every}
+use Rattle.carts.specs.Cart.{cartAt}
+use Rattle.carts.specs.Fields.{foundCount}
+use Rattle.carts.specs.Title.{titled, titledFrom, titledIn, foundByTitle, theOne, shownByTitle, searchAnswer}
 use Rattle.carts.specs.declared.titles.Found.{Found}
 use Rattle.carts.specs.declared.titles.Found.the-variants.{One, None, Several}
+use Rattle.carts.proofs.titles.Found.{the-type}
 use Rattle.carts.proofs.RecordLaws.{left-suc, drop-next}
+use Rattle.carts.proofs.ScanLaws.{and-left, within-true, within-of}
 
 -- the carts left of n, of which i have been passed: the first, and the others; m is the first's number
 titled-next : (title : List ℕ) (n i m : ℕ) (s : List ℕ) (b : Bool) → i < n → titled title (take 80 (drop (80 * i) s)) ≡ b
@@ -56,3 +63,57 @@ answer-one k c e = rw e
 
 pub answer-several : (k c : ℕ) → (k ≡ 0 → ⊥) → (k ≡ 1 → ⊥) → searchAnswer (replicate k c) ≡ Several k
 answer-several k c p q = let l : length (replicate k c) ≡ k = length-replicate k c in several (replicate k c) (omega arith) ∙ ap Several l
+
+-- what the answer tells of the carts that have the title
+one-of : (xs : List ℕ) (c : ℕ) → searchAnswer xs ≡ One c → xs ≡ c ∷ []
+unfolding searchAnswer
+one-of [] c e = let z : _≡_ {A = ℕ} 0 1 = cc in absurd (omega arith)
+one-of (x ∷ []) c e = cc
+one-of (x ∷ y ∷ xs) c e = let z : _≡_ {A = ℕ} 0 1 = cc in absurd (omega arith)
+
+titled-range : (title : List ℕ) (low high n m : ℕ) (s : List ℕ) → low ≤ m → m + n ≤ high + 1 → every (within low high) (titledFrom title n m s) ≡ true
+unfolding titledFrom every
+titled-range title low high zero m s p q = refl
+titled-range title low high (suc n) m s p q =
+    let rest = titledFrom title n (m + 1) (drop 80 s) in
+    let ih = titled-range title low high n (m + 1) (drop 80 s) (omega arith) (omega arith) in
+    pick (titled title (take 80 s)) rest (within-of low high m p (omega arith)) ih
+  where
+    pick : (b : Bool) (rest : List ℕ) → within low high m ≡ true → every (within low high) rest ≡ true → every (within low high) (cond b (m ∷ rest) rest) ≡ true
+    pick true rest w r = rw (w, r)
+    pick false rest w r = r
+
+-- the one cart found is a cart of the copy, and the one that is shown
+pub found-one : (title copy : List ℕ) (c : ℕ) → searchAnswer (titledIn title copy) ≡ One c → ((1 ≤ c) × (c ≤ 128)) × (shownByTitle copy title ≡ cartAt copy c)
+unfolding titledIn shownByTitle theOne every
+found-one title copy c e =
+    let one = one-of (titledIn title copy) c e in
+    let range = rw one at (titled-range title 1 128 128 1 copy (omega arith) (omega arith)) in
+    (within-true 1 128 c (and-left (within 1 128 c) true range), rw one)
+
+-- any other answer shows zeros
+pub found-other : (title copy : List ℕ) → ((c : ℕ) → searchAnswer (titledIn title copy) ≡ One c → ⊥) → shownByTitle copy title ≡ zeros 80
+unfolding shownByTitle theOne searchAnswer
+found-other title copy f = pick (titledIn title copy) f
+  where
+    pick : (xs : List ℕ) → ((c : ℕ) → searchAnswer xs ≡ One c → ⊥) → theOne copy xs ≡ zeros 80
+    pick [] g = refl
+    pick (x ∷ []) g = absurd (g x refl)
+    pick (x ∷ y ∷ xs) g = refl
+
+-- how many are found
+pub found-length : (xs : List ℕ) → foundCount (searchAnswer xs) ≡ length xs
+unfolding searchAnswer
+found-length [] = refl
+found-length (x ∷ []) = refl
+found-length (x ∷ y ∷ xs) = refl
+
+pub found-by-title : (title copy : List ℕ) → foundCount (searchAnswer (titledIn title copy)) ≡ foundByTitle copy title
+unfolding foundByTitle
+found-by-title title copy = found-length (titledIn title copy)
+
+-- in the `else` of `let Found::One(c) = found`
+pub not-one : (found : Found) → OneOf (1 ∷ 2 ∷ []) (tagOf the-type found) → (c : ℕ) → found ≡ One c → ⊥
+not-one (One x) k c e = ⊎-elim (λ q. omega arith) (λ q. omega arith) k
+not-one None k c e = let z : _≡_ {A = ℕ} 0 1 = cc in omega arith
+not-one (Several n) k c e = let z : _≡_ {A = ℕ} 0 1 = cc in omega arith

@@ -1,6 +1,6 @@
 // Bytes of a lent slice: numbers, scans and stores. A scan joins its tests by `|` or `&` and has no early exit, so that it vectorises.
 ghost use mathlib.Core.Path.{_≡_};
-ghost use Prim.Native.Nat.{ℕ, _+_, _<_, _≤_};
+ghost use Prim.Native.Nat.{_+_, _<_, _≤_};
 ghost use lib.ListN.{length};
 ghost use lib.Dec.{eqb};
 ghost use Rattle.carts.specs.Bytes.{byte, u16, u32, u16Bytes, over, within, every, allZero, pairwise, zeros};

@@ -2,7 +2,7 @@
 use crate::bytes;
 ghost use mathlib.Core.Path.{_≡_};
 ghost use mathlib.Core.Bool.{cond, _&&_};
-ghost use Prim.Native.Nat.{ℕ, _+_, _*_, _-_, _<_, _≤_};
+ghost use Prim.Native.Nat.{_≤_};
 ghost use lib.ListN.{length, take, drop};
 ghost use lib.Dec.{ltb};
 ghost use Rattle.carts.specs.Bytes.{isZero, every, allZero};
@@ -67,45 +67,44 @@ fn is_title(field: &[u8], n: u8) -> bool
     ensures { λ r. ⌜ r ≡ (every printable (take n (now (field .entry))) && allZero (drop n (now (field .entry)))) ⌝ }
 {
     let mut ok = true;
+    let mut place: u8 = 0; // j in a byte: the comparison with n then vectorises in bytes
     let mut j = 0;
     while j < Cart::TITLE_SIZE {
-        ok &= is_title_byte(field[j], j as u8, n);
+        ok &= is_title_byte(field[j], place, n);
+        place += 1;
         j += 1;
     }
     ok
 }
 
-// The title and its length are of their form.
-pub fn has_title(s: &[u8]) -> bool
+// What holds of a field: one test where the field is asked for, the other where it must be absent.
+fn is_as_asked(asked: bool, present: bool, absent: bool) -> bool
+    ensures { λ r. ⌜ r ≡ cond asked present absent ⌝ }
+{
+    if asked { present } else { absent }
+}
+
+// The title and its length are of their form where they are asked for, else zero.
+pub fn is_title_as_asked(s: &[u8], asked: bool) -> bool
     requires { ⌜ length (now s) ≡ cartSize ⌝ }
-    ensures { λ r. ⌜ r ≡ hasTitle (now (s .entry)) ⌝ }
+    ensures { λ r. ⌜ r ≡ cond asked (hasTitle (now (s .entry))) (noTitle (now (s .entry))) ⌝ }
 {
     let n = s[1];
-    (1 <= n) & (n <= 64) & is_title(&s[16..80], n)
+    is_as_asked(asked, (1 <= n) & (n <= 64), n == 0) & is_title(&s[16..80], n)
 }
 
-// The title and its length are zero.
-pub fn no_title(s: &[u8]) -> bool
+// Audio number and length are at least 1 where they are asked for, else zero.
+pub fn is_audio_as_asked(s: &[u8], asked: bool) -> bool
     requires { ⌜ length (now s) ≡ cartSize ⌝ }
-    ensures { λ r. ⌜ r ≡ noTitle (now (s .entry)) ⌝ }
+    ensures { λ r. ⌜ r ≡ cond asked (hasAudio (now (s .entry))) (noAudio (now (s .entry))) ⌝ }
 {
-    (s[1] == 0) & bytes::all_zero(&s[16..80])
-}
-
-// Audio number and length are at least 1.
-pub fn has_audio(s: &[u8]) -> bool
-    requires { ⌜ length (now s) ≡ cartSize ⌝ }
-    ensures { λ r. ⌜ r ≡ hasAudio (now (s .entry)) ⌝ }
-{
-    (1 <= bytes::u32_at(s, 4)) & (1 <= bytes::u32_at(s, 8))
-}
-
-// Audio number and length are zero.
-pub fn no_audio(s: &[u8]) -> bool
-    requires { ⌜ length (now s) ≡ cartSize ⌝ }
-    ensures { λ r. ⌜ r ≡ noAudio (now (s .entry)) ⌝ }
-{
-    bytes::all_zero(&s[4..12])
+    let audio = bytes::u32_at(s, 4);
+    let milliseconds = bytes::u32_at(s, 8);
+    is_as_asked(
+        asked,
+        (1 <= audio) & (1 <= milliseconds),
+        bytes::all_zero(&s[4..12]),
+    )
 }
 
 // A held cart of number c.
@@ -115,8 +114,8 @@ fn is_held_cart(s: &[u8], c: u32) -> bool
 {
     is_held(s)
         & (bytes::u16_at(s, 2) == c)
-        & has_title(s)
-        & has_audio(s)
+        & is_title_as_asked(s, true)
+        & is_audio_as_asked(s, true)
         & bytes::all_zero(&s[12..16])
 }
 

@@ -3,36 +3,12 @@ use crate::bytes;
 use crate::cart;
 use crate::cart::Cart;
 ghost use mathlib.Core.Path.{_≡_};
-ghost use mathlib.Core.Bool.{true, cond};
-ghost use Prim.Native.Nat.{ℕ, _+_, _*_, _-_, _<_, _≤_};
+ghost use mathlib.Core.Bool.{true};
+ghost use Prim.Native.Nat.{_≤_};
 ghost use lib.ListN.{length};
 ghost use Rattle.carts.specs.Bytes.{u16, every};
-ghost use Rattle.carts.specs.Cart.{cartSize, cartCount, copySize, hasTitle, noTitle, hasAudio, noAudio};
-ghost use Rattle.carts.specs.Operation.{operationFields, operationForm, operationsOf, made, retitled, recut, actedOn, meets, act, meetsAll, actAll};
-
-// The title is of its form where one is asked for, else zero.
-fn is_title_as_asked(op: &[u8], asked: bool) -> bool
-    requires { ⌜ length (now op) ≡ cartSize ⌝ }
-    ensures { λ r. ⌜ r ≡ cond asked (hasTitle (now (op .entry))) (noTitle (now (op .entry))) ⌝ }
-{
-    if asked {
-        cart::has_title(op)
-    } else {
-        cart::no_title(op)
-    }
-}
-
-// Audio and length are of their form where they are asked for, else zero.
-fn is_audio_as_asked(op: &[u8], asked: bool) -> bool
-    requires { ⌜ length (now op) ≡ cartSize ⌝ }
-    ensures { λ r. ⌜ r ≡ cond asked (hasAudio (now (op .entry))) (noAudio (now (op .entry))) ⌝ }
-{
-    if asked {
-        cart::has_audio(op)
-    } else {
-        cart::no_audio(op)
-    }
-}
+ghost use Rattle.carts.specs.Cart.{cartSize, cartCount, copySize};
+ghost use Rattle.carts.specs.Operation.{operationFields, operationForm, operationsOf, made, retitled, recut, withdrawn, actedOn, meets, act, meetsAll, actAll};
 
 // The operation has the fields of its kind, as it is stored: bytes 12 to 15 are free.
 pub fn has_fields(op: &[u8]) -> bool
@@ -40,12 +16,11 @@ pub fn has_fields(op: &[u8]) -> bool
     ensures { λ r. ⌜ r ≡ operationFields (now (op .entry)) ⌝ }
 {
     let kind = bytes::byte_at(op, 0);
-    let number = bytes::u16_at(op, 2);
     let new = kind == 1;
     bytes::is_within(1, 4, kind)
-        & bytes::is_within(1, Cart::COUNT, number)
-        & is_title_as_asked(op, new | (kind == 2))
-        & is_audio_as_asked(op, new | (kind == 3))
+        & bytes::is_within(1, Cart::COUNT, bytes::u16_at(op, 2))
+        & cart::is_title_as_asked(op, new | (kind == 2))
+        & cart::is_audio_as_asked(op, new | (kind == 3))
 }
 
 // The operation is of its form, as it is handed in.
@@ -108,6 +83,14 @@ fn re_cut(cart: &mut [u8], op: &[u8])
     bytes::copy_all(&mut cart[4..12], &op[4..12]);
 }
 
+// Withdraw: the cart is empty.
+fn withdraw(cart: &mut [u8])
+    requires { ⌜ length (now cart) ≡ cartSize ⌝ }
+    ensures { λ _. ⌜ now (cart .exit) ≡ withdrawn ⌝ }
+{
+    bytes::clear(&mut cart[0..Cart::SIZE]);
+}
+
 // The operation acts on its cart, which it leaves as it is where it meets it in the wrong state.
 fn act_on(cart: &mut [u8], op: &[u8])
     requires { ⌜ (length (now cart) ≡ cartSize) × (length (now op) ≡ cartSize) ⌝ }
@@ -125,7 +108,7 @@ fn act_on(cart: &mut [u8], op: &[u8])
         } else if kind == 3 {
             re_cut(cart, op);
         } else if kind == 4 {
-            bytes::clear(cart);
+            withdraw(cart);
         }
     }
 }
@@ -173,7 +156,7 @@ pub fn meets_all(copy: &[u8], ops: &[u8]) -> bool
     requires { ⌜ (length (now copy) ≡ copySize) × (every operationFields (operationsOf (now ops)) ≡ true) ⌝ }
     ensures { λ r. ⌜ r ≡ meetsAll (now (copy .entry)) (operationsOf (now (ops .entry))) ⌝ }
 {
-    let mut scratch = [0u8; 10240];
+    let mut scratch = [0u8; Cart::COPY_SIZE];
     bytes::copy_all(&mut scratch, copy);
     try_all(&mut scratch, ops)
 }

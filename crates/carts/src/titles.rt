@@ -3,7 +3,7 @@ use crate::bytes;
 use crate::cart;
 use crate::cart::Cart;
 ghost use mathlib.Core.Path.{_≡_};
-ghost use Prim.Native.Nat.{ℕ, _+_, _*_, _-_, _<_, _≤_};
+ghost use Prim.Native.Nat.{_≤_};
 ghost use lib.ListN.{length};
 ghost use Rattle.carts.specs.Bytes.{pairwise};
 ghost use Rattle.carts.specs.Cart.{cartSize, copySize, titleSize};

@@ -3,8 +3,9 @@ ghost use mathlib.Core.Path.{_≡_};
 ghost use mathlib.Core.Bool.{_&&_};
 ghost use lib.ListN.{length};
 ghost use lib.Dec.{eqb};
-ghost use Rattle.carts.specs.Bytes.{allZero};
+ghost use Rattle.carts.specs.Bytes.{every, allZero};
 ghost use Rattle.carts.specs.Cart.{copySize, copyForm};
+ghost use Rattle.carts.specs.Operation.{operationForm, operationsOf};
 
 // Every byte is zero.
 #[no_mangle]
@@ -23,4 +24,12 @@ pub extern "C" fn carts_is_copy(copy: &[u8]) -> bool
         return false;
     }
     carts::cart::is_copy(copy)
+}
+
+// Each operation is of its form.
+#[no_mangle]
+pub extern "C" fn carts_all_operations(ops: &[u8]) -> bool
+    ensures { λ r. ⌜ r ≡ every operationForm (operationsOf (now (ops .entry))) ⌝ }
+{
+    carts::operation::all_operations(ops)
 }

@@ -5,6 +5,7 @@ pub mod DecideLaws
 pub mod Examples
 pub mod Formed
 pub mod LayoutLaws
+pub mod RefreshLaws
 pub mod RequestLaws
 pub mod RowLaws
 pub mod Samples
@@ -13,4 +14,3 @@ pub mod SetupLaws
 pub mod SpanLaws
 pub mod TransactionLaws
 pub mod WalkLaws
-pub mod RefreshLaws

@@ -2,19 +2,13 @@ use borrow.Author.Tests.{eq-eqb, ne-eqb}
 use borrow.Author.Needs.{needs}
 use Rattle.carts_c.proofs.carts_is_copy.Statement.{statement}
 use Rattle.carts_c.proofs.carts_is_copy.Tie as tie
-use Rattle.carts_c.proofs.carts_is_copy.Reads as reads
-use Rattle.carts_c.proofs.carts_is_copy.Lts as lts
-use Rattle.carts.proofs.cart.is_copy.Reads as is-copy-reads
 
--- src/lib.rt:23:9
 returns : tie.Need-returns
 returns c = simp (ne-eqb _ _ (c .if1 .taken))
 
--- src/lib.rt:25:5
 is-copy-requires : tie.Need-is-copy-requires
 is-copy-requires c κs = search needs
 
--- src/lib.rt:18:1
 returns-2 : tie.Need-returns-2
 returns-2 c = simp (eq-eqb _ _ (c .before .if1 .left), c .is-copy .ensures)
 

@@ -3,13 +3,11 @@ use Rattle.carts.specs.Bytes.{every, allZero, isZero}
 use lib.Dec.{eqb}
 use lib.ListN.{length, drop, getD}
 use mathlib.Core.Bool.{_&&_}
-use mathlib.Core.Path.{_≡_, refl, ap, _∙_}
-use Prim.Native.Nat.{ℕ, _≤_, _-_, _+_}
+use mathlib.Core.Path.{_≡_, refl}
+use Prim.Native.Nat.{_≤_, _-_}
 use native.Mathlib.Omega.{arith}
 use Rattle.carts.proofs.bytes.all_zero.Statement.{statement}
 use Rattle.carts.proofs.bytes.all_zero.Tie as tie
-use Rattle.carts.proofs.bytes.all_zero.Reads as reads
-use Rattle.carts.proofs.bytes.all_zero.Lts as lts
 
 abbrev Inv-loop : tie.InvT-loop
 Inv-loop s joined₀ i₀ joined i = (i ≤ length s) × (every isZero s ≡ (eqb joined 0 && every isZero (drop i s)))
@@ -17,29 +15,23 @@ Inv-loop s joined₀ i₀ joined i = (i ≤ length s) × (every isZero s ≡ (eq
 abbrev μ-loop : tie.MeasureT-loop
 μ-loop s joined₀ i₀ joined i = length s - i
 
--- src/bytes.rt:29:5
 loop-holds : tie.Need-loop-holds Inv-loop μ-loop
 loop-holds c = (omega arith, refl)
 
--- src/bytes.rt:30:19
 shared-slice-read-joined : tie.Need-shared-slice-read-joined Inv-loop μ-loop
 shared-slice-read-joined c = omega arith
 
--- src/bytes.rt:31:9
 add-i : tie.Need-add-i Inv-loop μ-loop
 add-i c = omega arith
 
--- src/bytes.rt:29:5
 loop-less : tie.Need-loop-less Inv-loop μ-loop
 loop-less c = omega arith
 
--- src/bytes.rt:29:5
 loop-again : tie.Need-loop-again Inv-loop μ-loop
 loop-again c = let t = c .before .before in
     let xs = t .before .args .s .now in
     (omega arith, every-more isZero xs (t .loop .i) (eqb (t .loop .joined) 0) (omega arith) (t .loop .inv .1) (or-zero (t .loop .joined) (getD xs (t .loop .i) 0)))
 
--- src/bytes.rt:24:1
 returns : tie.Need-returns Inv-loop μ-loop
 unfolding allZero
 returns c = let t = c .before in

@@ -1,15 +1,13 @@
 use Rattle.carts.proofs.ScanLaws.{pairwise-more, pairwise-done}
 use Rattle.carts.specs.Bytes.{pairwise}
 use lib.Dec.{eqb}
-use lib.ListN.{length, drop, getD}
+use lib.ListN.{length, drop}
 use mathlib.Core.Bool.{_&&_}
 use mathlib.Core.Path.{_≡_, refl}
-use Prim.Native.Nat.{ℕ, _≤_, _-_, _+_}
+use Prim.Native.Nat.{_≤_, _-_}
 use native.Mathlib.Omega.{arith}
 use Rattle.carts.proofs.bytes.are_equal.Statement.{statement}
 use Rattle.carts.proofs.bytes.are_equal.Tie as tie
-use Rattle.carts.proofs.bytes.are_equal.Reads as reads
-use Rattle.carts.proofs.bytes.are_equal.Lts as lts
 
 abbrev Inv-loop : tie.InvT-loop
 Inv-loop a b ok₀ i₀ ok i = (i ≤ length a) × (pairwise eqb a b ≡ (ok && pairwise eqb (drop i a) (drop i b)))
@@ -17,33 +15,26 @@ Inv-loop a b ok₀ i₀ ok i = (i ≤ length a) × (pairwise eqb a b ≡ (ok && 
 abbrev μ-loop : tie.MeasureT-loop
 μ-loop a b ok₀ i₀ ok i = length a - i
 
--- src/bytes.rt:89:5
 loop-holds : tie.Need-loop-holds Inv-loop μ-loop
 loop-holds c = (omega arith, refl)
 
--- src/bytes.rt:90:15
 shared-slice-read-ok : tie.Need-shared-slice-read-ok Inv-loop μ-loop
 shared-slice-read-ok c = omega arith
 
--- src/bytes.rt:90:23
 shared-slice-read-ok-2 : tie.Need-shared-slice-read-ok-2 Inv-loop μ-loop
 shared-slice-read-ok-2 c = omega arith
 
--- src/bytes.rt:91:9
 add-i : tie.Need-add-i Inv-loop μ-loop
 add-i c = omega arith
 
--- src/bytes.rt:89:5
 loop-less : tie.Need-loop-less Inv-loop μ-loop
 loop-less c = omega arith
 
--- src/bytes.rt:89:5
 loop-again : tie.Need-loop-again Inv-loop μ-loop
 loop-again c = let t = c .before .before .before in
     let a = t .before .args in
     (omega arith, pairwise-more eqb (a .a .now) (a .b .now) (t .loop .i) (t .loop .ok) (omega arith) (omega arith) (t .loop .inv .1) refl)
 
--- src/bytes.rt:83:1
 returns : tie.Need-returns Inv-loop μ-loop
 returns c = let t = c .before in
     let a = t .before .args in

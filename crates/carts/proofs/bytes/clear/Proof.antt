@@ -3,12 +3,10 @@ use Rattle.carts.specs.Bytes.{zeros}
 use lib.ListN.{length, drop, length-set, replicate, drop-of-length-le}
 use mathlib.Core.List.{_++_, append-nil}
 use mathlib.Core.Path.{_≡_, refl, ap, _∙_}
-use Prim.Native.Nat.{ℕ, _≤_, _-_}
+use Prim.Native.Nat.{_≤_, _-_}
 use native.Mathlib.Omega.{arith}
 use Rattle.carts.proofs.bytes.clear.Statement.{statement}
 use Rattle.carts.proofs.bytes.clear.Tie as tie
-use Rattle.carts.proofs.bytes.clear.Reads as reads
-use Rattle.carts.proofs.bytes.clear.Lts as lts
 
 abbrev Inv-loop : tie.InvT-loop
 Inv-loop dst₀ i₀ dst i = (i ≤ length dst₀) × (length dst ≡ length dst₀) × (dst ≡ replicate i 0 ++ drop i dst₀)
@@ -16,33 +14,26 @@ Inv-loop dst₀ i₀ dst i = (i ≤ length dst₀) × (length dst ≡ length dst
 abbrev μ-loop : tie.MeasureT-loop
 μ-loop dst₀ i₀ dst i = length dst₀ - i
 
--- src/bytes.rt:53:5
 loop-holds : tie.Need-loop-holds Inv-loop μ-loop
 loop-holds c = (omega arith, refl, refl)
 
--- src/bytes.rt:54:9
 slice-write-dst : tie.Need-slice-write-dst Inv-loop μ-loop
 slice-write-dst c = omega arith
 
--- src/bytes.rt:55:9
 add-i : tie.Need-add-i Inv-loop μ-loop
 add-i c = omega arith
 
--- src/bytes.rt:53:5
 loop-less : tie.Need-loop-less Inv-loop μ-loop
 loop-less c = omega arith
 
--- src/bytes.rt:53:5
 loop-again : tie.Need-loop-again Inv-loop μ-loop
 loop-again c = let t = c .before in
     let e = t .loop .inv .2 in
     (omega arith, rw length-set (t .loop .inv .1), rw e (fill-more (t .loop .i) 0 (t .before .args .dst .now) (omega arith)))
 
--- src/bytes.rt:49:1
 same-length : tie.Need-same-length Inv-loop μ-loop
 same-length c = c .before .loop .inv .1
 
--- src/bytes.rt:49:1
 returns : tie.Need-returns Inv-loop μ-loop
 unfolding zeros
 returns c = let t = c .before in

@@ -3,10 +3,7 @@ use Rattle.carts.specs.Cart.{printable}
 use mathlib.Core.Path.{refl}
 use Rattle.carts.proofs.bytes.is_printable.Statement.{statement}
 use Rattle.carts.proofs.bytes.is_printable.Tie as tie
-use Rattle.carts.proofs.bytes.is_printable.Reads as reads
-use Rattle.carts.proofs.bytes.is_printable.Lts as lts
 
--- src/bytes.rt:50:1
 returns : tie.Need-returns
 unfolding printable within
 returns c = refl

@@ -2,10 +2,7 @@ use Rattle.carts.specs.Bytes.{within}
 use mathlib.Core.Path.{refl}
 use Rattle.carts.proofs.bytes.is_within.Statement.{statement}
 use Rattle.carts.proofs.bytes.is_within.Tie as tie
-use Rattle.carts.proofs.bytes.is_within.Reads as reads
-use Rattle.carts.proofs.bytes.is_within.Lts as lts
 
--- src/bytes.rt:43:1
 returns : tie.Need-returns
 unfolding within
 returns c = refl

@@ -6,34 +6,25 @@ use native.Mathlib.Omega.{arith}
 use borrow.Author.Needs.{needs}
 use Rattle.carts.proofs.bytes.put_u16.Statement.{statement}
 use Rattle.carts.proofs.bytes.put_u16.Tie as tie
-use Rattle.carts.proofs.bytes.put_u16.Reads as reads
-use Rattle.carts.proofs.bytes.put_u16.Lts as lts
 
--- src/bytes.rt:38:13
 cast-s : tie.Need-cast-s
 cast-s c = search needs
 
--- src/bytes.rt:38:5
 slice-write-s : tie.Need-slice-write-s
 slice-write-s c = search needs
 
--- src/bytes.rt:39:17
 cast-s-2 : tie.Need-cast-s-2
 cast-s-2 c = search needs
 
--- src/bytes.rt:39:7
 add-s : tie.Need-add-s
 add-s c = search needs
 
--- src/bytes.rt:39:5
 slice-write-s-2 : tie.Need-slice-write-s-2
 slice-write-s-2 c = simp length-set (omega arith)
 
--- src/bytes.rt:34:1
 same-length : tie.Need-same-length
 same-length c = search needs
 
--- src/bytes.rt:34:1
 returns : tie.Need-returns
 unfolding u16Bytes
 returns c = let a = c .args in over-pair (a .s .now) (a .at) (a .v % 256) (a .v / 256) (omega arith)

@@ -3,30 +3,21 @@ use mathlib.Core.Path.{sym, _∙_}
 use borrow.Author.Needs.{needs}
 use Rattle.carts.proofs.cart.is_cart.Statement.{statement}
 use Rattle.carts.proofs.cart.is_cart.Tie as tie
-use Rattle.carts.proofs.cart.is_cart.Reads as reads
-use Rattle.carts.proofs.cart.is_cart.Lts as lts
-use Rattle.carts.proofs.bytes.all_zero.Reads as all-zero-reads
-use Rattle.carts.proofs.cart.is_held_cart.Reads as is-held-cart-reads
 
--- src/cart.rt:121:8
 shared-slice-read-if1 : tie.Need-shared-slice-read-if1
 shared-slice-read-if1 c = search needs
 
--- src/cart.rt:122:9
 all-zero-requires : tie.Need-all-zero-requires
 all-zero-requires c κs = search needs
 
--- src/cart.rt:122:9
 returns : tie.Need-returns
 returns c = let t = c .before in
     let a = t .before .before .before .args in
     c .all-zero .ensures ∙ sym (cart-empty (a .c) (a .s .now) (t .if1 .taken))
 
--- src/cart.rt:124:5
 is-held-cart-requires : tie.Need-is-held-cart-requires
 is-held-cart-requires c κs = search needs
 
--- src/cart.rt:117:1
 returns-2 : tie.Need-returns-2
 returns-2 c = let t = c .before in
     let a = t .before .before .before .args in

@@ -3,14 +3,10 @@ use mathlib.Core.Path.{refl}
 use borrow.Author.Needs.{needs}
 use Rattle.carts.proofs.cart.is_held.Statement.{statement}
 use Rattle.carts.proofs.cart.is_held.Tie as tie
-use Rattle.carts.proofs.cart.is_held.Reads as reads
-use Rattle.carts.proofs.cart.is_held.Lts as lts
 
--- src/cart.rt:51:5
 shared-slice-read-result : tie.Need-shared-slice-read-result
 shared-slice-read-result c = search needs
 
--- src/cart.rt:47:1
 returns : tie.Need-returns
 unfolding held
 returns c = refl

@@ -2,19 +2,13 @@ use borrow.Author.Tests.{lt-ltb, le-ltb}
 use borrow.Author.Needs.{needs}
 use Rattle.carts.proofs.cart.is_title_byte.Statement.{statement}
 use Rattle.carts.proofs.cart.is_title_byte.Tie as tie
-use Rattle.carts.proofs.cart.is_title_byte.Reads as reads
-use Rattle.carts.proofs.cart.is_title_byte.Lts as lts
-use Rattle.carts.proofs.bytes.is_printable.Reads as is-printable-reads
 
--- src/cart.rt:58:16
 is-printable-requires : tie.Need-is-printable-requires
 is-printable-requires c κs = search needs
 
--- src/cart.rt:55:1
 returns : tie.Need-returns
 returns c = simp (lt-ltb _ _ (c .before .if1 .taken), c .is-printable .ensures)
 
--- src/cart.rt:55:1
 returns-2 : tie.Need-returns-2
 returns-2 c = simp (le-ltb _ _ (c .if1 .left))
 

@@ -1,98 +1,71 @@
 use borrow.Author.Tests.{eq-eqb, ne-eqb}
 use Rattle.carts.specs.Cart.{held}
-use Rattle.carts.specs.Operation.{actedOn, meetsCart, effect, withdrawn}
-use mathlib.Core.Path.{_≡_}
-use lib.ListN.{length}
+use Rattle.carts.specs.Operation.{actedOn, meetsCart, effect}
 use borrow.Author.Needs.{needs}
 use Rattle.carts.proofs.operation.act_on.Statement.{statement}
 use Rattle.carts.proofs.operation.act_on.Tie as tie
-use Rattle.carts.proofs.operation.act_on.Reads as reads
-use Rattle.carts.proofs.operation.act_on.Lts as lts
-use Rattle.carts.proofs.bytes.clear.Reads as clear-reads
-use Rattle.carts.proofs.operation.make.Reads as make-reads
-use Rattle.carts.proofs.operation.re_cut.Reads as re-cut-reads
-use Rattle.carts.proofs.operation.retitle.Reads as retitle-reads
 
--- src/operation.rt:43:17
 slice-read-state : tie.Need-slice-read-state
 slice-read-state c = search needs
 
--- src/operation.rt:44:16
 shared-slice-read-kind : tie.Need-shared-slice-read-kind
 shared-slice-read-kind c = search needs
 
--- src/operation.rt:47:13
 make-requires : tie.Need-make-requires
 make-requires c κs = search needs
 
--- src/operation.rt:51:13
 retitle-requires : tie.Need-retitle-requires
 retitle-requires c κs = search needs
 
--- src/operation.rt:53:13
 re-cut-requires : tie.Need-re-cut-requires
 re-cut-requires c κs = search needs
 
--- src/operation.rt:55:13
-clear-requires : tie.Need-clear-requires
-clear-requires c κs = search needs
+withdraw-requires : tie.Need-withdraw-requires
+withdraw-requires c κs = search needs
 
--- src/operation.rt:39:1
 same-length : tie.Need-same-length
 same-length c = search needs
 
--- src/operation.rt:39:1
 returns : tie.Need-returns
 unfolding actedOn meetsCart effect held
 returns c = let t = c .before .before .before .before in
     simp (c .before .before .make .ensures, ne-eqb _ _ (t .if2 .taken), eq-eqb _ _ (t .before .if1 .taken))
 
--- src/operation.rt:39:1
 returns-2 : tie.Need-returns-2
 unfolding actedOn meetsCart effect held
 returns-2 c = simp (eq-eqb _ _ (c .if2 .left), eq-eqb _ _ (c .before .if1 .taken))
 
--- src/operation.rt:39:1
 same-length-2 : tie.Need-same-length-2
 same-length-2 c = search needs
 
--- src/operation.rt:39:1
 returns-3 : tie.Need-returns-3
 unfolding actedOn meetsCart effect held
 returns-3 c = let t = c .before .before .before .before in
     simp (c .before .before .retitle .ensures, eq-eqb _ _ (t .if4 .taken), eq-eqb _ _ (t .before .if3 .taken), ne-eqb _ _ (t .before .before .if1 .left))
 
--- src/operation.rt:39:1
 same-length-3 : tie.Need-same-length-3
 same-length-3 c = search needs
 
--- src/operation.rt:39:1
 returns-4 : tie.Need-returns-4
 unfolding actedOn meetsCart effect held
 returns-4 c = let t = c .before .before .before .before in
     let u = t .before .before in
     simp (c .before .before .re-cut .ensures, eq-eqb _ _ (t .if5 .taken), ne-eqb _ _ (t .before .if4 .left), eq-eqb _ _ (u .if3 .taken), ne-eqb _ _ (u .before .if1 .left))
 
--- src/operation.rt:39:1
 same-length-4 : tie.Need-same-length-4
 same-length-4 c = search needs
 
--- src/operation.rt:39:1
 returns-5 : tie.Need-returns-5
-unfolding actedOn meetsCart effect held withdrawn
+unfolding actedOn meetsCart effect held
 returns-5 c = let t = c .before .before .before .before in
     let u = t .before .before .before in
-    let s = u .before .before .before .before .before .before in
-    let l : length (s .args .cart .now) ≡ 80 = s .pre .0 in
-    simp (c .before .before .clear .ensures, l, eq-eqb _ _ (t .if6 .taken), ne-eqb _ _ (t .before .if5 .left), ne-eqb _ _ (t .before .before .if4 .left), eq-eqb _ _ (u .if3 .taken), ne-eqb _ _ (u .before .if1 .left))
+    simp (c .before .before .withdraw .ensures, eq-eqb _ _ (t .if6 .taken), ne-eqb _ _ (t .before .if5 .left), ne-eqb _ _ (t .before .before .if4 .left), eq-eqb _ _ (u .if3 .taken), ne-eqb _ _ (u .before .if1 .left))
 
--- src/operation.rt:39:1
 returns-6 : tie.Need-returns-6
 unfolding actedOn meetsCart effect held
 returns-6 c = let u = c .before .before .before in
     simp (ne-eqb _ _ (c .if6 .left), ne-eqb _ _ (c .before .if5 .left), ne-eqb _ _ (c .before .before .if4 .left), eq-eqb _ _ (u .if3 .taken), ne-eqb _ _ (u .before .if1 .left))
 
--- src/operation.rt:39:1
 returns-7 : tie.Need-returns-7
 unfolding actedOn meetsCart effect held
 returns-7 c = simp (ne-eqb _ _ (c .if3 .left), ne-eqb _ _ (c .before .if1 .left))
@@ -106,7 +79,7 @@ act-on-spec =
     make-requires
     retitle-requires
     re-cut-requires
-    clear-requires
+    withdraw-requires
     same-length
     returns
     returns-2

@@ -5,14 +5,11 @@ use Rattle.carts.specs.Bytes.{eachPart, every}
 use Rattle.carts.specs.Operation.{operationForm, operationsOf}
 use lib.ListN.{length, drop}
 use mathlib.Core.Bool.{_&&_}
-use mathlib.Core.Path.{_≡_, refl, ap, _∙_}
-use Prim.Native.Nat.{ℕ, _≤_, _-_, _+_, _*_}
+use mathlib.Core.Path.{_≡_, ap}
+use Prim.Native.Nat.{_≤_, _-_, _*_}
 use native.Mathlib.Omega.{arith}
 use Rattle.carts.proofs.operation.all_operations.Statement.{statement}
 use Rattle.carts.proofs.operation.all_operations.Tie as tie
-use Rattle.carts.proofs.operation.all_operations.Reads as reads
-use Rattle.carts.proofs.operation.all_operations.Lts as lts
-use Rattle.carts.proofs.operation.is_operation.Reads as is-operation-reads
 
 abbrev Inv-loop : tie.InvT-loop
 Inv-loop ops count ok₀ i₀ ok i = (i ≤ count) × (every operationForm (operationsOf ops) ≡ (ok && eachPart (λ k. operationForm) 80 (count - i) i (drop (80 * i) ops)))
@@ -20,52 +17,41 @@ Inv-loop ops count ok₀ i₀ ok i = (i ≤ count) × (every operationForm (oper
 abbrev μ-loop : tie.MeasureT-loop
 μ-loop ops count ok₀ i₀ ok i = count - i
 
--- src/operation.rt:56:5
 loop-holds : tie.Need-loop-holds Inv-loop μ-loop
 unfolding operationsOf
 loop-holds c = let ops = c .before .args .ops .now in
     (omega arith, rw sub-zero (every-parts operationForm 80 (length ops / 80) 0 ops))
 
--- src/operation.rt:57:21
 mul-start : tie.Need-mul-start Inv-loop μ-loop
 mul-start c = omega arith
 
--- src/operation.rt:58:40
 add-is-operation : tie.Need-add-is-operation Inv-loop μ-loop
 add-is-operation c = omega arith
 
--- src/operation.rt:58:28
 sub-is-operation : tie.Need-sub-is-operation Inv-loop μ-loop
 sub-is-operation c = omega arith
 
--- src/operation.rt:58:28
 part-is-operation-start : tie.Need-part-is-operation-start Inv-loop μ-loop
 part-is-operation-start c = omega arith
 
--- src/operation.rt:58:28
 part-is-operation-end : tie.Need-part-is-operation-end Inv-loop μ-loop
 part-is-operation-end c = omega arith
 
--- src/operation.rt:58:15
 is-operation-requires : tie.Need-is-operation-requires Inv-loop μ-loop
 is-operation-requires c κs = omega arith
 
--- src/operation.rt:59:9
 add-i : tie.Need-add-i Inv-loop μ-loop
 add-i c = omega arith
 
--- src/operation.rt:56:5
 loop-less : tie.Need-loop-less Inv-loop μ-loop
 loop-less c = omega arith
 
--- src/operation.rt:56:5
 loop-again : tie.Need-loop-again Inv-loop μ-loop
 loop-again c = let t = c .before .before .before in
     let ops = t .before .before .args .ops .now in
     let i = t .loop .i in
     (omega arith, each-more (λ k. operationForm) 80 (length ops / 80) i i ops (t .loop .ok) (omega arith) (t .loop .inv .1) (ap (λ b. t .loop .ok && b) (rw add-sub-cancel-left at (c .is-operation .ensures))))
 
--- src/operation.rt:50:1
 returns : tie.Need-returns Inv-loop μ-loop
 returns c = let t = c .before in
     let ops = t .before .before .args .ops .now in

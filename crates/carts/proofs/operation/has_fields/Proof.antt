@@ -4,55 +4,41 @@ use Rattle.carts.specs.Cart.{hasTitle, noTitle, hasAudio, noAudio}
 use Rattle.carts.specs.Operation.{operationFields, isNew, isRetitle, isRecut}
 use mathlib.Core.Bool.{cond, _||_}
 use mathlib.Core.List.{[], _∷_}
-use Rattle.carts.specs.Operation.{operationFields}
 use borrow.Author.Needs.{needs}
 use Rattle.carts.proofs.operation.has_fields.Statement.{statement}
 use Rattle.carts.proofs.operation.has_fields.Tie as tie
-use Rattle.carts.proofs.operation.has_fields.Reads as reads
-use Rattle.carts.proofs.operation.has_fields.Lts as lts
-use Rattle.carts.proofs.bytes.byte_at.Reads as byte-at-reads
-use Rattle.carts.proofs.bytes.is_within.Reads as is-within-reads
-use Rattle.carts.proofs.bytes.u16_at.Reads as u16-at-reads
-use Rattle.carts.proofs.operation.is_audio_as_asked.Reads as is-audio-as-asked-reads
-use Rattle.carts.proofs.operation.is_title_as_asked.Reads as is-title-as-asked-reads
 
--- src/operation.rt:35:9
 byte-at-requires : tie.Need-byte-at-requires
 byte-at-requires c κs = search needs
 
--- src/operation.rt:36:9
-u16-at-requires : tie.Need-u16-at-requires
-u16-at-requires c κs = search needs
-
--- src/operation.rt:38:5
 is-within-requires : tie.Need-is-within-requires
 is-within-requires c κs = search needs
 
--- src/operation.rt:38:36
+u16-at-requires : tie.Need-u16-at-requires
+u16-at-requires c κs = search needs
+
 is-within-requires-2 : tie.Need-is-within-requires-2
 is-within-requires-2 c κs = search needs
 
--- src/operation.rt:38:79
 is-title-as-asked-requires : tie.Need-is-title-as-asked-requires
 is-title-as-asked-requires c κs = search needs
 
--- src/operation.rt:38:122
 is-audio-as-asked-requires : tie.Need-is-audio-as-asked-requires
 is-audio-as-asked-requires c κs = search needs
 
--- src/operation.rt:31:1
 returns : tie.Need-returns
 unfolding operationFields
 returns c = let t = c .before .before .before in
-    let op = t .before .before .before .before .args .op .now in
+    let b = t .before .before in
+    let op = b .before .before .args .op .now in
     let kind = byte op 0 in
     rw (
       c .is-audio-as-asked .ensures,
       c .before .is-title-as-asked .ensures,
       c .before .before .is-within2 .ensures,
-      t .is-within .ensures,
-      t .before .u16-at .ensures .0,
-      t .before .before .byte-at .ensures .0,
+      t .u16-at .ensures .0,
+      t .before .is-within .ensures,
+      b .byte-at .ensures .0,
     ) (join-all (within 1 4 kind) (within 1 128 (u16 op 2) ∷ cond (isNew kind || isRetitle kind) (hasTitle op) (noTitle op) ∷ cond (isNew kind || isRecut kind) (hasAudio op) (noAudio op) ∷ []))
 
 pub has-fields-spec : {M : Type 1} → statement M
@@ -60,8 +46,8 @@ has-fields-spec =
     tie.close
     (tie.spec
     byte-at-requires
-    u16-at-requires
     is-within-requires
+    u16-at-requires
     is-within-requires-2
     is-title-as-asked-requires
     is-audio-as-asked-requires

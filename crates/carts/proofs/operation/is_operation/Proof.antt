@@ -5,32 +5,22 @@ use mathlib.Core.List.{[], _∷_}
 use borrow.Author.Needs.{needs}
 use Rattle.carts.proofs.operation.is_operation.Statement.{statement}
 use Rattle.carts.proofs.operation.is_operation.Tie as tie
-use Rattle.carts.proofs.operation.is_operation.Reads as reads
-use Rattle.carts.proofs.operation.is_operation.Lts as lts
-use Rattle.carts.proofs.bytes.all_zero.Reads as all-zero-reads
-use Rattle.carts.proofs.operation.has_fields.Reads as has-fields-reads
 
--- src/operation.rt:46:5
 has-fields-requires : tie.Need-has-fields-requires
 has-fields-requires c κs = search needs
 
--- src/operation.rt:46:38
 sub-all-zero : tie.Need-sub-all-zero
 sub-all-zero c = search needs
 
--- src/operation.rt:46:38
 part-all-zero-start : tie.Need-part-all-zero-start
 part-all-zero-start c = search needs
 
--- src/operation.rt:46:38
 part-all-zero-end : tie.Need-part-all-zero-end
 part-all-zero-end c = search needs
 
--- src/operation.rt:46:22
 all-zero-requires : tie.Need-all-zero-requires
 all-zero-requires c κs = search needs
 
--- src/operation.rt:42:1
 returns : tie.Need-returns
 unfolding operationForm
 returns c = let t = c .before .before in

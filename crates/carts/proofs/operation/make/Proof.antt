@@ -1,78 +1,58 @@
+use lib.ListN.{length-append, length-take, length-drop, length-set}
 use borrow.Rule.Slice.PartMut.{putMid, same-len-mid}
 use lib.ListN.{set, length-set}
-use mathlib.Core.Path.{_≡_, _∙_}
+use mathlib.Core.Path.{_∙_}
 use native.Mathlib.Omega.{arith}
 use Rattle.carts.specs.Operation.{made}
 use borrow.Author.Needs.{needs}
 use Rattle.carts.proofs.operation.make.Statement.{statement}
 use Rattle.carts.proofs.operation.make.Tie as tie
-use Rattle.carts.proofs.operation.make.Reads as reads
-use Rattle.carts.proofs.operation.make.Lts as lts
-use Rattle.carts.proofs.bytes.copy_all.Reads as copy-all-reads
 
--- src/operation.rt:16:5
 slice-write-cart : tie.Need-slice-write-cart
 slice-write-cart c = search needs
 
--- src/operation.rt:17:21
 sub-copy-all : tie.Need-sub-copy-all
 sub-copy-all c = search needs
 
--- src/operation.rt:17:21
 part-copy-all-start : tie.Need-part-copy-all-start
 part-copy-all-start c = search needs
 
--- src/operation.rt:17:21
 part-copy-all-end : tie.Need-part-copy-all-end
 part-copy-all-end c = simp length-set (omega arith)
 
--- src/operation.rt:17:39
 sub-copy-all-2 : tie.Need-sub-copy-all-2
 sub-copy-all-2 c = search needs
 
--- src/operation.rt:17:39
 part-copy-all-start-2 : tie.Need-part-copy-all-start-2
 part-copy-all-start-2 c = search needs
 
--- src/operation.rt:17:39
 part-copy-all-end-2 : tie.Need-part-copy-all-end-2
 part-copy-all-end-2 c = search needs
 
--- src/operation.rt:17:5
 copy-all-requires : tie.Need-copy-all-requires
 copy-all-requires c κs = search needs
 
--- src/operation.rt:18:21
 sub-copy-all-3 : tie.Need-sub-copy-all-3
 sub-copy-all-3 c = search needs
 
--- src/operation.rt:18:21
 part-copy-all-start-3 : tie.Need-part-copy-all-start-3
 part-copy-all-start-3 c = search needs
 
--- src/operation.rt:18:21
 part-copy-all-end-3 : tie.Need-part-copy-all-end-3
-part-copy-all-end-3 c = let xs = set (c .before .before .before .before .before .before .before .args .cart .now) 0 1 in
-    let k = c .before .before .copy-all in
-    rw (same-len-mid 1 11 xs (k .last .0) (k .kept .0)) (simp length-set (omega arith))
+part-copy-all-end-3 c = simp (length-append, c .before .before .copy-all .kept .0, length-take, length-drop, length-set) (omega arith)
 
--- src/operation.rt:18:40
 sub-copy-all-4 : tie.Need-sub-copy-all-4
 sub-copy-all-4 c = search needs
 
--- src/operation.rt:18:40
 part-copy-all-start-4 : tie.Need-part-copy-all-start-4
 part-copy-all-start-4 c = search needs
 
--- src/operation.rt:18:40
 part-copy-all-end-4 : tie.Need-part-copy-all-end-4
 part-copy-all-end-4 c = search needs
 
--- src/operation.rt:18:5
 copy-all-requires-2 : tie.Need-copy-all-requires-2
 copy-all-requires-2 c κs = search needs
 
--- src/operation.rt:12:1
 same-length : tie.Need-same-length
 same-length c = let d = c .before .before .before .before .before .before .before in
     let xs = set (d .before .before .before .before .before .args .cart .now) 0 1 in
@@ -80,7 +60,6 @@ same-length c = let d = c .before .before .before .before .before .before .befor
     let k2 = c .before .before .copy-all2 in
     same-len-mid 16 64 (putMid 1 11 xs (k .last .0)) (k2 .last .0) (k2 .kept .0) ∙ same-len-mid 1 11 xs (k .last .0) (k .kept .0) ∙ simp length-set
 
--- src/operation.rt:12:1
 returns : tie.Need-returns
 unfolding made
 returns c = rw (c .before .before .copy-all2 .ensures, c .before .before .before .before .before .before .before .copy-all .ensures)

@@ -3,35 +3,24 @@ use borrow.Author.Tests.{eq-eqb, ne-eqb}
 use borrow.Author.Needs.{needs}
 use Rattle.carts.proofs.operation.meets.Statement.{statement}
 use Rattle.carts.proofs.operation.meets.Tie as tie
-use Rattle.carts.proofs.operation.meets.Reads as reads
-use Rattle.carts.proofs.operation.meets.Lts as lts
-use Rattle.carts.proofs.bytes.u16_at.Reads as u16-at-reads
-use Rattle.carts.proofs.cart.cart_at.Reads as cart-at-reads
-use Rattle.carts.proofs.cart.is_held.Reads as is-held-reads
 
--- src/operation.rt:70:50
 u16-at-requires : tie.Need-u16-at-requires
 u16-at-requires c κs = search needs
 
--- src/operation.rt:70:30
 cart-at-requires : tie.Need-cart-at-requires
 cart-at-requires c κs = search needs
 
--- src/operation.rt:70:9
 is-held-requires : tie.Need-is-held-requires
 is-held-requires c κs = search needs
 
--- src/operation.rt:71:8
 shared-slice-read-if1 : tie.Need-shared-slice-read-if1
 shared-slice-read-if1 c = search needs
 
--- src/operation.rt:65:1
 returns : tie.Need-returns
 unfolding meets meetsCart
 returns c = let t = c .before .before in
     simp (t .is-held .ensures, t .before .cart-at .ensures .0, t .before .before .u16-at .ensures .0, eq-eqb _ _ (c .if1 .taken))
 
--- src/operation.rt:65:1
 returns-2 : tie.Need-returns-2
 unfolding meets meetsCart
 returns-2 c = let t = c .before .before in

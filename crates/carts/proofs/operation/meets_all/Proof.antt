@@ -3,28 +3,19 @@ use mathlib.Core.Path.{ap, _∙_}
 use borrow.Author.Needs.{needs}
 use Rattle.carts.proofs.operation.meets_all.Statement.{statement}
 use Rattle.carts.proofs.operation.meets_all.Tie as tie
-use Rattle.carts.proofs.operation.meets_all.Reads as reads
-use Rattle.carts.proofs.operation.meets_all.Lts as lts
-use Rattle.carts.proofs.bytes.copy_all.Reads as copy-all-reads
-use Rattle.carts.proofs.operation.try_all.Reads as try-all-reads
 
--- src/operation.rt:167:21
 slice-aggregate-copy-all : tie.Need-slice-aggregate-copy-all
 slice-aggregate-copy-all c = search needs
 
--- src/operation.rt:167:5
 copy-all-requires : tie.Need-copy-all-requires
 copy-all-requires c κs = search needs
 
--- src/operation.rt:168:13
 slice-aggregate-try-all : tie.Need-slice-aggregate-try-all
 slice-aggregate-try-all c = search needs
 
--- src/operation.rt:168:5
 try-all-requires : tie.Need-try-all-requires
 try-all-requires c κs = search needs
 
--- src/operation.rt:162:1
 returns : tie.Need-returns
 returns c = let t = c .before in
     t .try-all .ensures .0 ∙ ap (λ s. meetsAll s (operationsOf (c .before .before .before .before .before .before .before .before .args .ops .now))) (t .before .before .before .copy-all .ensures)

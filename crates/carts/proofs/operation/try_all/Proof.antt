@@ -5,15 +5,11 @@ use Rattle.carts.specs.Operation.{operationFields, operationsOf, meets, 
 use lib.ListN.{length, take, drop}
 use mathlib.Core.Bool.{_&&_, true}
 use mathlib.Core.Path.{_≡_, refl, sym, ap, _∙_}
-use Prim.Native.Nat.{ℕ, _≤_, _<_, _-_, _+_, _*_, _/_}
+use Prim.Native.Nat.{_≤_, _<_, _-_, _+_, _*_, _/_}
 use native.Mathlib.Nat.{sub-zero, add-sub-cancel-left}
 use native.Mathlib.Omega.{arith}
 use Rattle.carts.proofs.operation.try_all.Statement.{statement}
 use Rattle.carts.proofs.operation.try_all.Tie as tie
-use Rattle.carts.proofs.operation.try_all.Reads as reads
-use Rattle.carts.proofs.operation.try_all.Lts as lts
-use Rattle.carts.proofs.operation.apply.Reads as apply-reads
-use Rattle.carts.proofs.operation.meets.Reads as meets-reads
 
 abbrev Inv-loop : tie.InvT-loop
 Inv-loop copy₀ ops count ok₀ i₀ copy ok i =
@@ -23,53 +19,42 @@ Inv-loop copy₀ ops count ok₀ i₀ copy ok i =
 abbrev μ-loop : tie.MeasureT-loop
 μ-loop copy₀ ops count ok₀ i₀ copy ok i = count - i
 
--- src/operation.rt:143:5
 loop-holds : tie.Need-loop-holds Inv-loop μ-loop
 unfolding operationsOf
 loop-holds c = let s = c .before .before in
     rw sub-zero (omega arith, s .pre .0, s .pre .1, refl, refl)
 
--- src/operation.rt:144:21
 mul-start : tie.Need-mul-start Inv-loop μ-loop
 mul-start c = omega arith
 
--- src/operation.rt:145:30
 add-op : tie.Need-add-op Inv-loop μ-loop
 add-op c = omega arith
 
--- src/operation.rt:145:18
 sub-op : tie.Need-sub-op Inv-loop μ-loop
 sub-op c = omega arith
 
--- src/operation.rt:145:18
 part-op-start : tie.Need-part-op-start Inv-loop μ-loop
 part-op-start c = omega arith
 
--- src/operation.rt:145:18
 part-op-end : tie.Need-part-op-end Inv-loop μ-loop
 part-op-end c = omega arith
 
--- src/operation.rt:146:15
 meets-requires : tie.Need-meets-requires Inv-loop μ-loop
 meets-requires c κs = let t = c .before .before .before in
     let r = op-ready (t .before .before .before .args .ops .now) (t .loop .i) (omega arith) (t .loop .inv .2) in
     rw add-sub-cancel-left ((t .loop .inv .1, r .0), r .1)
 
--- src/operation.rt:147:9
 apply-requires : tie.Need-apply-requires Inv-loop μ-loop
 apply-requires c κs = let t = c .before .before .before .before .before in
     let r = op-ready (t .before .before .before .args .ops .now) (t .loop .i) (omega arith) (t .loop .inv .2) in
     rw add-sub-cancel-left ((t .loop .inv .1, r .0), r .1)
 
--- src/operation.rt:148:9
 add-i : tie.Need-add-i Inv-loop μ-loop
 add-i c = omega arith
 
--- src/operation.rt:143:5
 loop-less : tie.Need-loop-less Inv-loop μ-loop
 loop-less c = omega arith
 
--- src/operation.rt:143:5
 loop-again : tie.Need-loop-again Inv-loop μ-loop
 loop-again c = let u = c .before .before in
     let t = u .before .before .before .before .before .before in
@@ -89,11 +74,9 @@ loop-again c = let u = c .before .before in
       rw e (t .loop .inv .4 ∙ act-next n i ops h copy),
     )
 
--- src/operation.rt:136:1
 same-length : tie.Need-same-length Inv-loop μ-loop
 same-length c = omega arith
 
--- src/operation.rt:136:1
 returns : tie.Need-returns Inv-loop μ-loop
 returns c = let t = c .before in
     let ops = t .before .before .before .args .ops .now in

@@ -4,13 +4,10 @@ use Rattle.carts.specs.Title.{sameLetter}
 use lib.ListN.{length, drop}
 use mathlib.Core.Bool.{_&&_}
 use mathlib.Core.Path.{_≡_, refl, ap}
-use Prim.Native.Nat.{ℕ, _≤_, _-_, _+_}
+use Prim.Native.Nat.{_≤_, _-_}
 use native.Mathlib.Omega.{arith}
 use Rattle.carts.proofs.titles.are_same_letters.Statement.{statement}
 use Rattle.carts.proofs.titles.are_same_letters.Tie as tie
-use Rattle.carts.proofs.titles.are_same_letters.Reads as reads
-use Rattle.carts.proofs.titles.are_same_letters.Lts as lts
-use Rattle.carts.proofs.titles.same_letter.Reads as same-letter-reads
 
 abbrev Inv-loop : tie.InvT-loop
 Inv-loop a b ok₀ i₀ ok i = (i ≤ length a) × (pairwise sameLetter a b ≡ (ok && pairwise sameLetter (drop i a) (drop i b)))
@@ -18,37 +15,29 @@ Inv-loop a b ok₀ i₀ ok i = (i ≤ length a) × (pairwise sameLetter a b ≡ 
 abbrev μ-loop : tie.MeasureT-loop
 μ-loop a b ok₀ i₀ ok i = length a - i
 
--- src/titles.rt:35:5
 loop-holds : tie.Need-loop-holds Inv-loop μ-loop
 loop-holds c = (omega arith, refl)
 
--- src/titles.rt:36:27
 shared-slice-read-same-letter : tie.Need-shared-slice-read-same-letter Inv-loop μ-loop
 shared-slice-read-same-letter c = omega arith
 
--- src/titles.rt:36:33
 shared-slice-read-same-letter-2 : tie.Need-shared-slice-read-same-letter-2 Inv-loop μ-loop
 shared-slice-read-same-letter-2 c = omega arith
 
--- src/titles.rt:36:15
 same-letter-requires : tie.Need-same-letter-requires Inv-loop μ-loop
 same-letter-requires c κs = tt
 
--- src/titles.rt:37:9
 add-i : tie.Need-add-i Inv-loop μ-loop
 add-i c = omega arith
 
--- src/titles.rt:35:5
 loop-less : tie.Need-loop-less Inv-loop μ-loop
 loop-less c = omega arith
 
--- src/titles.rt:35:5
 loop-again : tie.Need-loop-again Inv-loop μ-loop
 loop-again c = let t = c .before .before .before .before in
     let a = t .before .before .before .args in
     (omega arith, pairwise-more sameLetter (a .a .now) (a .b .now) (t .loop .i) (t .loop .ok) (omega arith) (omega arith) (t .loop .inv .1) (ap (λ r. t .loop .ok && r) (c .same-letter .ensures)))
 
--- src/titles.rt:29:1
 returns : tie.Need-returns Inv-loop μ-loop
 returns c = let t = c .before in
     let a = t .before .before .before .args in

@@ -5,55 +5,39 @@ use native.Mathlib.Nat.{add-sub-cancel-left}
 use borrow.Author.Needs.{needs}
 use Rattle.carts.proofs.titles.is_titled.Statement.{statement}
 use Rattle.carts.proofs.titles.is_titled.Tie as tie
-use Rattle.carts.proofs.titles.is_titled.Reads as reads
-use Rattle.carts.proofs.titles.is_titled.Lts as lts
-use Rattle.carts.proofs.bytes.byte_at.Reads as byte-at-reads
-use Rattle.carts.proofs.cart.is_held.Reads as is-held-reads
-use Rattle.carts.proofs.titles.are_same_letters.Reads as are-same-letters-reads
 
--- src/titles.rt:47:9
 is-held-requires : tie.Need-is-held-requires
 is-held-requires c κs = search needs
 
--- src/titles.rt:48:9
 returns : tie.Need-returns
 unfolding titled
 returns c = simp (← c .before .is-held .ensures, not-true (c .before .is-held .result) (c .if1 .taken))
 
--- src/titles.rt:50:8
 byte-at-requires : tie.Need-byte-at-requires
 byte-at-requires c κs = search needs
 
--- src/titles.rt:50:8
 cast-if2 : tie.Need-cast-if2
 cast-if2 c = search needs
 
--- src/titles.rt:51:9
 returns-2 : tie.Need-returns-2
 unfolding titled
 returns-2 c = simp (← c .before .byte-at .ensures .0, ne-eqb _ _ (c .if2 .taken), and-false)
 
--- src/titles.rt:53:32
 add-are-same-letters : tie.Need-add-are-same-letters
 add-are-same-letters c = search needs
 
--- src/titles.rt:53:22
 sub-are-same-letters : tie.Need-sub-are-same-letters
 sub-are-same-letters c = search needs
 
--- src/titles.rt:53:22
 part-are-same-letters-start : tie.Need-part-are-same-letters-start
 part-are-same-letters-start c = search needs
 
--- src/titles.rt:53:22
 part-are-same-letters-end : tie.Need-part-are-same-letters-end
 part-are-same-letters-end c = search needs
 
--- src/titles.rt:53:5
 are-same-letters-requires : tie.Need-are-same-letters-requires
 are-same-letters-requires c κs = search needs
 
--- src/titles.rt:43:1
 returns-3 : tie.Need-returns-3
 unfolding titled
 returns-3 c = let t = c .before .before in

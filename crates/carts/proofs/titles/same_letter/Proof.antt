@@ -2,10 +2,7 @@ use Rattle.carts.specs.Title.{sameLetter}
 use mathlib.Core.Path.{refl}
 use Rattle.carts.proofs.titles.same_letter.Statement.{statement}
 use Rattle.carts.proofs.titles.same_letter.Tie as tie
-use Rattle.carts.proofs.titles.same_letter.Reads as reads
-use Rattle.carts.proofs.titles.same_letter.Lts as lts
 
--- src/titles.rt:22:1
 returns : tie.Need-returns
 unfolding sameLetter
 returns c = refl
