@@ -111,7 +111,7 @@ fn is_read(x: &[u8]) -> bool
         return is_numbers(x);
     }
     if kind == 2 {
-        return cart::has_title(x);
+        return cart::is_title_as_asked(x, true);
     }
     false
 }
@@ -132,7 +132,7 @@ fn is_waiting_form(x: &[u8]) -> bool
     ensures { λ r. ⌜ r ≡ waitingForm (now (x .entry)) ⌝ }
 {
     if x[0] == 0 {
-        return cart::no_title(x);
+        return cart::is_title_as_asked(x, false);
     }
     is_read(x)
 }

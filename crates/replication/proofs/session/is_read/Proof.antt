@@ -7,7 +7,7 @@ use Rattle.replication.proofs.session.is_read.Statement.{statement}
 use Rattle.replication.proofs.session.is_read.Tie as tie
 use Rattle.replication.proofs.session.is_read.Reads as reads
 use Rattle.replication.proofs.session.is_read.Lts as lts
-use Rattle.carts.proofs.cart.has_title.Reads as has-title-reads
+use Rattle.carts.proofs.cart.is_title_as_asked.Reads as is-title-as-asked-reads
 use Rattle.replication.proofs.session.is_numbers.Reads as is-numbers-reads
 
 -- src/session.rt:109:16
@@ -24,13 +24,13 @@ unfolding requestFields
 returns c = simp (c .is-numbers .ensures, eq-eqb _ _ (c .before .if1 .taken))
 
 -- src/session.rt:114:9
-has-title-requires : tie.Need-has-title-requires
-has-title-requires c κs = search needs
+is-title-as-asked-requires : tie.Need-is-title-as-asked-requires
+is-title-as-asked-requires c κs = search needs
 
 -- src/session.rt:114:9
 returns-2 : tie.Need-returns-2
 unfolding requestFields hasTitle
-returns-2 c = simp (c .has-title .ensures, eq-eqb _ _ (c .before .if2 .taken), ne-eqb _ _ (c .before .before .if1 .left))
+returns-2 c = simp (c .is-title-as-asked .ensures, eq-eqb _ _ (c .before .if2 .taken), ne-eqb _ _ (c .before .before .if1 .left))
 
 -- src/session.rt:105:1
 returns-3 : tie.Need-returns-3
@@ -44,6 +44,6 @@ is-read-spec =
     shared-slice-read-kind
     is-numbers-requires
     returns
-    has-title-requires
+    is-title-as-asked-requires
     returns-2
     returns-3)

@@ -7,7 +7,7 @@ use Rattle.replication.proofs.session.is_waiting_form.Statement.{statem
 use Rattle.replication.proofs.session.is_waiting_form.Tie as tie
 use Rattle.replication.proofs.session.is_waiting_form.Reads as reads
 use Rattle.replication.proofs.session.is_waiting_form.Lts as lts
-use Rattle.carts.proofs.cart.no_title.Reads as no-title-reads
+use Rattle.carts.proofs.cart.is_title_as_asked.Reads as is-title-as-asked-reads
 use Rattle.replication.proofs.session.is_read.Reads as is-read-reads
 
 -- src/session.rt:134:8
@@ -15,13 +15,13 @@ shared-slice-read-if1 : tie.Need-shared-slice-read-if1
 shared-slice-read-if1 c = search needs
 
 -- src/session.rt:135:9
-no-title-requires : tie.Need-no-title-requires
-no-title-requires c κs = search needs
+is-title-as-asked-requires : tie.Need-is-title-as-asked-requires
+is-title-as-asked-requires c κs = search needs
 
 -- src/session.rt:135:9
 returns : tie.Need-returns
 unfolding waitingForm noTitle
-returns c = simp (c .no-title .ensures, eq-eqb _ _ (c .before .if1 .taken))
+returns c = simp (c .is-title-as-asked .ensures, eq-eqb _ _ (c .before .if1 .taken))
 
 -- src/session.rt:137:5
 is-read-requires : tie.Need-is-read-requires
@@ -34,4 +34,4 @@ returns-2 c = simp (c .is-read .ensures, ne-eqb _ _ (c .before .if1 .left))
 
 pub is-waiting-form-spec : {M : Type 1} → statement M
 is-waiting-form-spec =
-    tie.close (tie.spec shared-slice-read-if1 no-title-requires returns is-read-requires returns-2)
+    tie.close (tie.spec shared-slice-read-if1 is-title-as-asked-requires returns is-read-requires returns-2)
