@@ -11,3 +11,4 @@ pub mod SpanLaws
 pub mod DecideLaws
 pub mod SendLaws
 pub mod WalkLaws
+pub mod AppendLaws

@@ -1,5 +1,6 @@
 // Log, sessions and studios of document 01: control, and what the calls answer.
 pub mod answer;
+pub mod append;
 pub mod chain;
 pub mod control;
 pub mod layout;
