@@ -12,3 +12,4 @@ pub mod DecideLaws
 pub mod SendLaws
 pub mod WalkLaws
 pub mod AppendLaws
+pub mod CommitLaws

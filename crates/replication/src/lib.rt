@@ -2,6 +2,7 @@
 pub mod answer;
 pub mod append;
 pub mod chain;
+pub mod commit;
 pub mod control;
 pub mod layout;
 pub mod record;
