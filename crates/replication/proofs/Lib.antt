@@ -14,3 +14,5 @@ pub mod SetupLaws
 pub mod SpanLaws
 pub mod TransactionLaws
 pub mod WalkLaws
+pub mod AppendLaws
+pub mod CommitLaws
