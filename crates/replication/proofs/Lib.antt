@@ -1,5 +1,7 @@
 -- Worked examples, and laws on the definitions of specs/ for the proofs of this crate and of the crates above.
+pub mod AppendLaws
 pub mod Chains
+pub mod CommitLaws
 pub mod ControlLaws
 pub mod DecideLaws
 pub mod Examples
@@ -14,5 +16,3 @@ pub mod SetupLaws
 pub mod SpanLaws
 pub mod TransactionLaws
 pub mod WalkLaws
-pub mod AppendLaws
-pub mod CommitLaws
