@@ -4,6 +4,8 @@ pub mod ControlLaws
 pub mod Examples
 pub mod Formed
 pub mod LayoutLaws
+pub mod OutputLaws
+pub mod ReadLaws
 pub mod RequestLaws
 pub mod RowLaws
 pub mod Samples

@@ -1,8 +1,11 @@
 // Log, sessions and studios of document 01: control, and what the calls answer.
 pub mod answer;
 pub mod chain;
+pub mod collect;
 pub mod control;
 pub mod layout;
+pub mod output;
+pub mod read;
 pub mod record;
 pub mod rows;
 pub mod send;
