@@ -12,8 +12,10 @@ use Rattle.replication.specs.Calls.{After}
 use Rattle.machine.specs.Machine.{Machine, L, call, run}
 use Rattle.machine.specs.OneCopy.{history}
 use Rattle.machine.proofs.Events.{events}
+use Rattle.replication.proofs.Samples.{askNumbers}
 use Rattle.machine.proofs.Table as Plain
-use Rattle.machine.proofs.Table.{start, A, askNumber, buffer, holding, morning, long, longTitles, oneTitle, Seen, seen, last, table}
+use Rattle.replication.proofs.Samples.{askNumbers}
+use Rattle.machine.proofs.Table.{start, A, buffer, holding, morning, long, longTitles, oneTitle, Seen, seen, last, table}
 use Rattle.refinement.specs.Represents.{transactionsFrom, Represents}
 use Rattle.refinement.specs.Lists.{afterCalls, machineAfter, seenIn}
 use Rattle.refinement.proofs.Simulation.{same-history, represents-after}
@@ -24,7 +26,7 @@ calls r H i n = take n (drop i (seenIn (history (r .control) (r .memory) H)))
 
 pub record BytesTable (r : After) : Type 0 where
   -- "Fresh, session 1 reads [7]: state 0, found 0, zeros."
-  pub case1 : calls r (read 1 (askNumber 7) buffer ∷ []) 0 1 ≡ (answered 0 0, holding (zeros 80)) ∷ []
+  pub case1 : calls r (read 1 (askNumbers (7 ∷ [])) buffer ∷ []) 0 1 ≡ (answered 0 0, holding (zeros 80)) ∷ []
   -- "Fresh, session 1 commits A: 1."
   pub case2 : calls r morning 0 1 ≡ (done 1, []) ∷ []
   -- "+ session 1 reads [7]: waits, 1."
