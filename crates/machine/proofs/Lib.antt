@@ -16,3 +16,4 @@ pub mod Entries
 pub mod OneCopyOrder
 pub mod Places
 pub mod Table
+pub mod NotEmpty
