@@ -1,5 +1,5 @@
 -- An operation of its fields leaves a copy of its form: the carts that it does not name are unchanged, the one that it names stays of its form.
-use Prim.Native.Nat.{ℕ, _+_, _-_, _*_, _<_, _≤_}
+use Prim.Native.Nat.{ℕ, _-_, _*_, _≤_}
 use mathlib.Core.Path.{_≡_, refl, sym, ap, _∙_}
 use mathlib.Core.Bool.{Bool, true, false, not, cond, _||_, or-true, or-false}
 use mathlib.Core.List.{List, [], _∷_}
@@ -8,7 +8,7 @@ use lib.Dec.{eqb}
 use lib.ListN.{length, getD, take, set, length-set}
 use lib.Seq.{getD-set-same, getD-set-other, drop-set-lt}
 use borrow.Author.Tests.{eq-eqb, eqb-true, eqb-false}
-use Rattle.carts.specs.Bytes.{byte, u16, part, over, zeros, all, every, allZero}
+use Rattle.carts.specs.Bytes.{byte, u16, part, over, all, every, allZero}
 use Rattle.carts.specs.Cart.{cartAt, hasTitle, hasAudio, held, heldForm, cartForm, copyForm}
 use Rattle.carts.specs.Operation.{isNew, isRetitle, isRecut, isWithdraw, operationFields, made, retitled, recut, withdrawn, meetsCart, effect, actedOn, act, actAll}
 use Rattle.carts.proofs.CartLaws.{length-cart, cart-held}

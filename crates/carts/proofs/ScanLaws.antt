@@ -1,15 +1,15 @@
 -- Laws of list tests, for loops that walk a list from its front: the whole test is the tests so far and the test of what is left.
-use Prim.Native.Nat.{ℕ, zero, suc, _+_, _-_, _<_, _≤_}
+use Prim.Native.Nat.{ℕ, zero, suc, _+_, _<_, _≤_}
 use mathlib.Core.Path.{_≡_, refl, sym, ap, _∙_}
-use mathlib.Core.Bool.{Bool, true, false, _&&_, and-assoc, and-true, true≢false}
+use mathlib.Core.Bool.{Bool, true, _&&_, and-assoc, and-true}
 use mathlib.Core.List.{List, [], _∷_}
 use native.Mathlib.Numerals.{add-one}
 use native.Mathlib.Omega.{arith}
-use lib.ListN.{length, getD, take, drop, drop-of-length-le}
+use lib.ListN.{length, getD, drop, drop-of-length-le}
 use lib.Seq.{drop-cons}
 use lib.Bits.{bitOr, or-zero-l, or-add-and, and-le-r}
-use borrow.Author.Tests.{ne-eqb, eqb-true, leb-true, le-leb}
-use lib.Dec.{eqb, leb, eqb·suc-zero}
+use borrow.Author.Tests.{ne-eqb}
+use lib.Dec.{eqb, eqb·suc-zero}
 use Rattle.carts.specs.Bytes.{within, all, every, pairwise}
 use Rattle.carts.proofs.TestLaws.{all-at as test-at, within-low, within-high}
 pub use Rattle.carts.proofs.TestLaws.{and-left, and-right, within-of, pairwise-eq as pairwise-equal}

@@ -1,15 +1,15 @@
 -- Demand 2: "A title is kept whole or refused."
-use Prim.Native.Nat.{ℕ, _+_, _-_, _*_, _<_, _≤_}
+use Prim.Native.Nat.{ℕ, _-_, _*_, _<_, _≤_}
 use mathlib.Core.Path.{_≡_, refl, _∙_}
 use mathlib.Core.Bool.{Bool, true, false, _||_, and-false}
-use mathlib.Core.List.{List, [], _∷_, _++_}
+use mathlib.Core.List.{List}
 use native.Mathlib.Omega.{arith}
 use lib.ListN.{length, set, length-set}
 use lib.Seq.{getD-set-same}
 use borrow.Author.Tests.{lt-leb}
-use Rattle.carts.specs.Bytes.{zeros, over, part, byte, u16, within, all}
+use Rattle.carts.specs.Bytes.{over, part, byte, u16, within, all}
 use Rattle.carts.specs.Cart.{cartAt, titleForm, hasTitle}
-use Rattle.carts.specs.Operation.{isNew, isRetitle, made, retitled, effect, meetsCart, actedOn, meets, act, operationFields}
+use Rattle.carts.specs.Operation.{isNew, isRetitle, made, retitled, effect, actedOn, meets, act, operationFields}
 use Rattle.carts.proofs.PartLaws.{length-part, length-over, part-over, over-before, byte-in}
 use Rattle.carts.proofs.CartLaws.{length-cart}
 

@@ -4,7 +4,6 @@ use mathlib.Core.Path.{_≡_, refl, ap, _∙_}
 use mathlib.Core.Bool.{true}
 use mathlib.Core.List.{List, [], _∷_}
 use native.Mathlib.Omega.{arith}
-use lib.Dec.{eqb}
 use lib.ListN.{length, take, drop, getD, length-replicate}
 use borrow.Author.Tests.{eqb-true}
 use Rattle.carts.specs.Bytes.{zeros, part, every, isZero, allZero}

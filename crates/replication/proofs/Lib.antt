@@ -1,6 +1,8 @@
 -- Worked examples, and laws on the definitions of specs/ for the proofs of this crate and of the crates above.
+pub mod Accepted
 pub mod Chains
 pub mod ControlLaws
+pub mod CopyLaws
 pub mod DecideLaws
 pub mod Examples
 pub mod Formed
@@ -11,6 +13,7 @@ pub mod RowLaws
 pub mod Samples
 pub mod SendLaws
 pub mod SetupLaws
+pub mod ShownLaws
 pub mod SpanLaws
 pub mod TransactionLaws
 pub mod WalkLaws
