@@ -1,30 +1,32 @@
 -- Laws of parts of one size: one of them replaced, and tests of each of them.
-use mathlib.Core.Path.{_≡_, refl, sym, ap, _∙_}
+use mathlib.Core.Path.{_≡_, refl, ap, _∙_}
 use mathlib.Core.Logic.{_≢_}
 use mathlib.Core.Bool.{Bool, true}
 use mathlib.Core.List.{List, []}
-use Prim.Native.Nat.{ℕ, zero, suc, _+_, _*_, _≤_, _<_}
+use Prim.Native.Nat.{ℕ, zero, suc, _+_, _-_, _*_, _≤_, _<_}
 use native.Mathlib.Omega.{arith}
-use native.Mathlib.Nat.{add-zero, mul-zero, mul-suc, mul-le-mul-left}
+use native.Mathlib.Nat.{add-zero, add-sub-cancel-left, mul-zero, mul-suc, mul-le-mul-left}
 use native.Mathlib.Decide.{decLe}
 use lib.ListN.{length, take, drop, getD}
 use lib.Seq.{drop-drop}
 use Rattle.carts.specs.Bytes.{part, over, parts, eachPart}
-use Rattle.carts.proofs.OverLaws.{part-over-before, drop-over-after}
+use Rattle.carts.proofs.PartLaws.{over-before, over-after}
 use Rattle.carts.proofs.TestLaws.{and-left, and-right}
 
--- parts of one size: part k of them replaced leaves the others
+-- parts of one size: part i of them replaced leaves the others
+apart : (size k i : ℕ) → k < i → size * k + size ≤ size * i
+apart size k i h = rw (← mul-suc size k) (mul-le-mul-left size h)
+
+pub record-other : (s ys : List ℕ) (size i k : ℕ) → size * i ≤ length s → length ys ≡ size → (k ≡ i → ⊥) → part (over s (size * i) size ys) (size * k) size ≡ part s (size * k) size
+record-other s ys size i k h e ne = go (decLe i k)
+  where
+    go : Dec (i ≤ k) → part (over s (size * i) size ys) (size * k) size ≡ part s (size * k) size
+    go (yes l) = over-after s (size * i) size ys (size * k) size h e (apart size i k (omega arith))
+    go (no l) = over-before s (size * i) size ys (size * k) size h (apart size k i (omega arith))
+
 module _ (size : ℕ) (s : List ℕ) (k : ℕ) (x : List ℕ) (e : length x ≡ size) (h : size * k + size ≤ length s) where
   pub part-other : (j : ℕ) → j ≢ k → part (over s (size * k) size x) (size * j) size ≡ part s (size * j) size
-  part-other j ne = go (decLe j k)
-    where
-      go : Dec (j ≤ k) → part (over s (size * k) size x) (size * j) size ≡ part s (size * j) size
-      go (yes le) =
-          let l : suc j ≤ k = omega arith in
-          part-over-before s (size * k) size x (size * j) size (omega arith) (omega (arith, mul-le-mul-left size l))
-      go (no gt) =
-          let l : suc k ≤ j = omega arith in
-          ap (take size) (drop-over-after s (size * k) size x (size * j) (omega arith) e (omega (arith, mul-le-mul-left size l)))
+  part-other j ne = record-other s x size k j (omega arith) e ne
 
 -- the parts of one size, and what stands at each
 next-part : (size i : ℕ) (s : List ℕ) → part (drop size s) (size * i) size ≡ part s (size * suc i) size
@@ -61,3 +63,12 @@ module _ (test : ℕ → List ℕ → Bool) (size : ℕ) where
       let r : eachPart test size n (i + 1) (drop size s) ≡ true = at-each n (i + 1) (drop size s) (λ j l.
       let k : i + 1 + j ≡ i + suc j = omega arith in rw (k, next-part size j s) (f (suc j) (omega arith))) in
       rw (a, r)
+
+-- parts counted from 1
+pub from-one : (test : ℕ → List ℕ → Bool) (size n : ℕ) (s : List ℕ) → eachPart test size n 1 s ≡ true
+    → (i : ℕ) → 1 ≤ i → i ≤ n → test i (part s (size * (i - 1)) size) ≡ true
+from-one test size n s h i l g = let e : 1 + (i - 1) ≡ i = omega arith in rw e at (each-at test size n 1 s h (i - 1) (omega arith))
+
+pub to-one : (test : ℕ → List ℕ → Bool) (size n : ℕ) (s : List ℕ)
+    → ((i : ℕ) → 1 ≤ i → i ≤ n → test i (part s (size * (i - 1)) size) ≡ true) → eachPart test size n 1 s ≡ true
+to-one test size n s f = at-each test size n 1 s (λ j l. rw add-sub-cancel-left at (f (1 + j) (omega arith) (omega arith)))

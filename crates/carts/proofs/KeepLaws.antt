@@ -1,37 +1,22 @@
 -- An operation of its fields leaves a copy of its form: the carts that it does not name are unchanged, the one that it names stays of its form.
-use Prim.Native.Nat.{ℕ, _+_, _-_, _*_, _<_, _≤_}
+use Prim.Native.Nat.{ℕ, _-_, _*_, _≤_}
 use mathlib.Core.Path.{_≡_, refl, sym, ap, _∙_}
 use mathlib.Core.Bool.{Bool, true, false, not, cond, _||_, or-true, or-false}
 use mathlib.Core.List.{List, [], _∷_}
-use mathlib.Core.Logic.{⊎-elim}
-use native.Mathlib.Nat.{eq-or-lt-of-le, mul-suc, mul-le-mul-left, add-sub-cancel-left}
 use native.Mathlib.Omega.{arith}
-use lib.Dec.{eqb, ltb}
+use lib.Dec.{eqb}
 use lib.ListN.{length, getD, take, set, length-set}
 use lib.Seq.{getD-set-same, getD-set-other, drop-set-lt}
-use borrow.Author.Tests.{ltb-true, ltb-false, eq-eqb, eqb-true, eqb-false}
-use Rattle.carts.specs.Bytes.{byte, u16, part, over, zeros, all, every, allZero}
+use borrow.Author.Tests.{eq-eqb, eqb-true, eqb-false}
+use Rattle.carts.specs.Bytes.{byte, u16, part, over, all, every, allZero}
 use Rattle.carts.specs.Cart.{cartAt, hasTitle, hasAudio, held, heldForm, cartForm, copyForm}
 use Rattle.carts.specs.Operation.{isNew, isRetitle, isRecut, isWithdraw, operationFields, made, retitled, recut, withdrawn, meetsCart, effect, actedOn, act, actAll}
 use Rattle.carts.proofs.CartLaws.{length-cart, cart-held}
-use Rattle.carts.proofs.OperationLaws.{operationTests, length-acted, length-act, fields-cart}
+use Rattle.carts.proofs.OperationLaws.{operationTests, length-acted, length-act, length-actAll, fields-cart, Operations}
 use Rattle.carts.proofs.PartLaws.{length-part, length-over, part-over, over-before, over-after, part-in, byte-in, u16-in, u32-in}
-use Rattle.carts.proofs.RecordLaws.{each-at, each-of}
+use Rattle.carts.proofs.EachLaws.{from-one, to-one}
+pub use Rattle.carts.proofs.EachLaws.{record-other}
 use Rattle.carts.proofs.ScanLaws.{and-left, and-right, all-at, zero-part, zero-zeros}
-
--- one of several records of one size replaced: the others are unchanged
-apart : (size k i : ℕ) → k < i → size * k + size ≤ size * i
-apart size k i h = rw (← mul-suc size k) (mul-le-mul-left size h)
-
-pub record-other : (s ys : List ℕ) (size i k : ℕ) → size * i ≤ length s → length ys ≡ size → (k ≡ i → ⊥) → part (over s (size * i) size ys) (size * k) size ≡ part s (size * k) size
-record-other s ys size i k h e ne = pick (ltb k i) refl
-  where
-    pick : (b : Bool) → ltb k i ≡ b → part (over s (size * i) size ys) (size * k) size ≡ part s (size * k) size
-    pick true l = over-before s (size * i) size ys (size * k) size h (apart size k i (ltb-true k i l))
-    pick false l =
-        let g : i ≤ k = ltb-false k i l in
-        let d : i < k = ⊎-elim (λ e. absurd (ne (sym e))) (λ l. l) (eq-or-lt-of-le g) in
-        over-after s (size * i) size ys (size * k) size h e (apart size i k d)
 
 -- the carts of a copy after an operation
 module _ (copy op : List ℕ) (l : length copy ≡ 10240) (o : length op ≡ 80) (low : 1 ≤ u16 op 2) (high : u16 op 2 ≤ 128) where
@@ -46,11 +31,11 @@ module _ (copy op : List ℕ) (l : length copy ≡ 10240) (o : length op ≡ 80)
 -- a copy is of its form where each of its carts is
 pub copy-cart : (copy : List ℕ) (c : ℕ) → copyForm copy ≡ true → 1 ≤ c → c ≤ 128 → cartForm c (cartAt copy c) ≡ true
 unfolding copyForm cartAt
-copy-cart copy c e h k = let q : 1 + (c - 1) ≡ c = omega arith in rw q at (each-at cartForm 80 128 1 copy e (c - 1) (omega arith))
+copy-cart copy c e h k = from-one cartForm 80 128 copy e c h k
 
 pub copy-of : (copy : List ℕ) → ((c : ℕ) → 1 ≤ c → c ≤ 128 → cartForm c (cartAt copy c) ≡ true) → copyForm copy ≡ true
 unfolding copyForm cartAt
-copy-of copy f = each-of cartForm 80 128 1 copy (λ k h. rw add-sub-cancel-left at (f (1 + k) (omega arith) (omega arith)))
+copy-of copy f = to-one cartForm 80 128 copy f
 
 -- a held cart's form, test by test
 module _ (c : ℕ) (s : List ℕ) where
@@ -199,3 +184,14 @@ copy-kept-all (op ∷ ops) copy l s f e =
     let o = eqb-true (length op) 80 (and-left (eqb (length op) 80) (every (λ r. eqb (length r) 80) ops) s) in
     let g = and-left (operationFields op) (every operationFields ops) f in
     copy-kept-all ops (act copy op) (length-act copy op l o (fields-cart op g .1)) (and-right (eqb (length op) 80) (every (λ r. eqb (length r) 80) ops) s) (and-right (operationFields op) (every operationFields ops) f) (copy-kept copy op l o g e)
+
+-- a copy: its length and its form; operations of their form leave one
+pub record Copy (copy : List ℕ) : Type 0 where
+  pub size : length copy ≡ 10240
+  pub form : copyForm copy ≡ true
+
+pub actAll-copy : (copy : List ℕ) (ops : List (List ℕ)) → Copy copy → Operations ops → Copy (actAll copy ops)
+actAll-copy copy ops h o = record {
+  size = length-actAll ops copy (h .size) (o .sizes) (o .fields);
+  form = copy-kept-all ops copy (h .size) (o .sizes) (o .fields) (h .form);
+}

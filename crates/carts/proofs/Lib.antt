@@ -1,7 +1,9 @@
 -- Sample data, worked examples, and laws on the definitions of specs/ for the proofs of this crate and of its callers.
 pub mod CartLaws
+pub mod CellLaws
 pub mod EachLaws
 pub mod Examples
+pub mod FieldLaws
 pub mod KeepLaws
 pub mod OperationLaws
 pub mod OverLaws
@@ -12,3 +14,4 @@ pub mod ScanLaws
 pub mod TestLaws
 pub mod TitleKept
 pub mod TitleLaws
+pub mod ZeroLaws

@@ -1,7 +1,7 @@
 -- Laws of operations.
 use Prim.Native.Nat.{ℕ, _+_, _-_, _*_, _/_, _<_, _≤_}
 use mathlib.Core.Path.{_≡_, ap, _∙_}
-use mathlib.Core.Bool.{Bool, true, false, _&&_, _||_, cond}
+use mathlib.Core.Bool.{Bool, true, _&&_, _||_, cond}
 use mathlib.Core.List.{List, [], _∷_}
 use native.Mathlib.Nat.{mul-div-le}
 use native.Mathlib.Omega.{arith}
@@ -11,6 +11,7 @@ use borrow.Author.Tests.{eqb-true}
 use Rattle.carts.specs.Bytes.{byte, u16, zeros, part, over, parts, within, every, allZero}
 use Rattle.carts.specs.Cart.{cartAt, hasTitle, noTitle, hasAudio, noAudio}
 use Rattle.carts.specs.Operation.{isNew, isRetitle, isRecut, isWithdraw, operationFields, operationForm, operationsOf, made, retitled, recut, withdrawn, meetsCart, effect, actedOn, meets, act, meetsAll, actAll}
+use Rattle.carts.proofs.TestLaws.{by-cond}
 use Rattle.carts.proofs.ScanLaws.{and-left, and-right, all-at, within-true, every-implied}
 use Rattle.carts.proofs.CartLaws.{length-cart}
 use Rattle.carts.proofs.PartLaws.{length-part, length-over, part-in, byte-in, u16-in, u32-in}
@@ -101,13 +102,10 @@ module _ (a b : List ℕ) (front : take 12 a ≡ take 12 b) (back : drop 16 a �
   )
 
 -- a cart and a copy keep their length
-either-length : (b : Bool) (x y : List ℕ) (n : ℕ) → length x ≡ n → length y ≡ n → length (cond b x y) ≡ n
-either-length true x y n p q = p
-either-length false x y n p q = q
-
 pub length-acted : (op cart : List ℕ) → length op ≡ 80 → length cart ≡ 80 → length (actedOn op cart) ≡ 80
 unfolding actedOn effect made retitled recut withdrawn zeros
 length-acted op cart p q =
+    let either : (b : Bool) (x y : List ℕ) → length x ≡ 80 → length y ≡ 80 → length (cond b x y) ≡ 80 = λ b x y p q. by-cond (λ (z : List ℕ). length z ≡ 80) b x y (λ e. p) (λ e. q) in
     let title = length-part op 16 64 (omega arith) in
     let kept : (i x : ℕ) → length (set cart i x) ≡ 80 = λ i x. length-set cart i x ∙ q in
     let fields = length-over (set cart 0 1) 1 11 (part op 1 11) (omega (arith, kept 0 1)) (length-part op 1 11 (omega arith)) ∙ kept 0 1 in
@@ -115,8 +113,8 @@ length-acted op cart p q =
     let r = length-over (set cart 1 (byte op 1)) 16 64 (part op 16 64) (omega (arith, kept 1 (byte op 1))) title ∙ kept 1 (byte op 1) in
     let u = length-over cart 4 8 (part op 4 8) (omega arith) (length-part op 4 8 (omega arith)) ∙ q in
     let w = length-replicate {A = ℕ} 80 0 in
-    let other = either-length (isRetitle (byte op 0)) _ _ 80 r (either-length (isRecut (byte op 0)) _ _ 80 u (either-length (isWithdraw (byte op 0)) _ _ 80 w q)) in
-    either-length (meetsCart op cart) _ _ 80 (either-length (isNew (byte op 0)) _ _ 80 m other) q
+    let other = either (isRetitle (byte op 0)) _ _ r (either (isRecut (byte op 0)) _ _ u (either (isWithdraw (byte op 0)) _ _ w q)) in
+    either (meetsCart op cart) _ _ (either (isNew (byte op 0)) _ _ m other) q
 
 pub length-act : (copy op : List ℕ) → length copy ≡ 10240 → length op ≡ 80 → u16 op 2 ≤ 128 → length (act copy op) ≡ 10240
 unfolding act
@@ -133,11 +131,22 @@ length-actAll (op ∷ ops) copy p s f =
     let c = fields-cart op (and-left (operationFields op) (every operationFields ops) f) in
     length-actAll ops (act copy op) (length-act copy op p l (c .1)) (and-right (eqb (length op) 80) (every (λ o. eqb (length o) 80) ops) s) (and-right (operationFields op) (every operationFields ops) f)
 
-pub length-actAll-of : (bytes copy : List ℕ) → length copy ≡ 10240 → every operationFields (operationsOf bytes) ≡ true → length (actAll copy (operationsOf bytes)) ≡ 10240
+sized-operations : (bytes : List ℕ) → every (λ op. eqb (length op) 80) (operationsOf bytes) ≡ true
 unfolding operationsOf
-length-actAll-of bytes copy p f = length-actAll (operationsOf bytes) copy p (sized-parts 80 (length bytes / 80) bytes (mul-div-le (length bytes) 80)) f
+sized-operations bytes = sized-parts 80 (length bytes / 80) bytes (mul-div-le (length bytes) 80)
+
+pub length-actAll-of : (bytes copy : List ℕ) → length copy ≡ 10240 → every operationFields (operationsOf bytes) ≡ true → length (actAll copy (operationsOf bytes)) ≡ 10240
+length-actAll-of bytes copy p f = length-actAll (operationsOf bytes) copy p (sized-operations bytes) f
 
 -- operations that are of their form are of their fields
 pub forms-fields : (ops : List (List ℕ)) → every operationForm ops ≡ true → every operationFields ops ≡ true
 unfolding operationForm
 forms-fields ops e = every-implied operationForm operationFields ops (λ op h. all-at (operationFields op ∷ allZero (part op 12 4) ∷ []) 0 h) e
+
+-- operations of 80 bytes each, of their fields; those of a commit that are of their form
+pub record Operations (ops : List (List ℕ)) : Type 0 where
+  pub sizes : every (λ op. eqb (length op) 80) ops ≡ true
+  pub fields : every operationFields ops ≡ true
+
+pub operations-of : (bytes : List ℕ) → every operationForm (operationsOf bytes) ≡ true → Operations (operationsOf bytes)
+operations-of bytes e = record { sizes = sized-operations bytes; fields = forms-fields (operationsOf bytes) e }

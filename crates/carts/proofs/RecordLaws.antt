@@ -1,17 +1,18 @@
 -- Laws for loops over records of one size that stand one after the other: i of n records have been passed.
 use Prim.Native.Nat.{ℕ, zero, suc, _+_, _-_, _*_, _<_, _≤_}
-use mathlib.Core.Path.{_≡_, refl, sym, ap, _∙_}
+use mathlib.Core.Path.{_≡_, refl, ap}
 use mathlib.Core.Bool.{Bool, true, _&&_}
 use mathlib.Core.List.{List, [], _∷_}
-use native.Mathlib.Nat.{add-zero, add-comm, mul-zero, mul-suc}
+use native.Mathlib.Nat.{mul-suc}
 use native.Mathlib.Numerals.{add-one}
 use native.Mathlib.Omega.{arith}
 use lib.Dec.{eqb}
 use lib.ListN.{length, take, drop, length-drop}
 use borrow.Author.Tests.{eq-eqb}
 use lib.Seq.{drop-drop, length-take-le}
-use Rattle.carts.specs.Bytes.{every, part, parts, eachPart}
-use Rattle.carts.proofs.ScanLaws.{and-left, and-right, test-more, test-end}
+use Rattle.carts.specs.Bytes.{every, parts, eachPart}
+use Rattle.carts.proofs.ScanLaws.{test-more, test-end}
+pub use Rattle.carts.proofs.EachLaws.{each-at, at-each as each-of}
 
 -- past one record more
 pub drop-next : (size i : ℕ) (s : List ℕ) → drop size (drop (size * i) s) ≡ drop (size * (i + 1)) s
@@ -51,26 +52,6 @@ pub every-parts : (p : List ℕ → Bool) (size n m : ℕ) (s : List ℕ) → ev
 unfolding every parts eachPart
 every-parts p size zero m s = refl
 every-parts p size (suc n) m s = ap (λ b. p (take size s) && b) (every-parts p size n (m + 1) (drop size s))
-
--- one record's test out of the test of all, and back
-drop-first : (size k : ℕ) (s : List ℕ) → drop (size * k) (drop size s) ≡ drop (size * suc k) s
-drop-first size k s = drop-drop (size * k) size s ∙ ap (λ j. drop j s) (add-comm size (size * k) ∙ sym (mul-suc size k))
-
-pub each-at : (test : ℕ → List ℕ → Bool) (size n m : ℕ) (s : List ℕ) → eachPart test size n m s ≡ true → (k : ℕ) → k < n → test (m + k) (part s (size * k) size) ≡ true
-unfolding eachPart
-each-at test size zero m s e k h = absurd (omega arith)
-each-at test size (suc n) m s e zero h = rw (add-zero, mul-zero) (and-left (test m (take size s)) (eachPart test size n (m + 1) (drop size s)) e)
-each-at test size (suc n) m s e (suc k) h =
-    let q : m + 1 + k ≡ m + suc k = omega arith in
-    rw (← q, ← drop-first size k s) (each-at test size n (m + 1) (drop size s) (and-right (test m (take size s)) (eachPart test size n (m + 1) (drop size s)) e) k (omega arith))
-
-pub each-of : (test : ℕ → List ℕ → Bool) (size n m : ℕ) (s : List ℕ) → ((k : ℕ) → k < n → test (m + k) (part s (size * k) size) ≡ true) → eachPart test size n m s ≡ true
-unfolding eachPart
-each-of test size zero m s f = refl
-each-of test size (suc n) m s f =
-    let first : test m (take size s) ≡ true = rw (add-zero, mul-zero) at (f 0 (omega arith)) in
-    let rest = each-of test size n (m + 1) (drop size s) (λ k h. let q : m + 1 + k ≡ m + suc k = omega arith in rw (q, drop-first size k s) (f (suc k) (omega arith))) in
-    rw (first, rest)
 
 -- each part has its size
 pub sized-parts : (size n : ℕ) (s : List ℕ) → size * n ≤ length s → every (λ r. eqb (length r) size) (parts size n s) ≡ true

@@ -1,16 +1,19 @@
 -- Laws of list tests, for loops that walk a list from its front: the whole test is the tests so far and the test of what is left.
-use Prim.Native.Nat.{ℕ, zero, suc, _+_, _-_, _<_, _≤_}
+use Prim.Native.Nat.{ℕ, zero, suc, _+_, _<_, _≤_}
 use mathlib.Core.Path.{_≡_, refl, sym, ap, _∙_}
-use mathlib.Core.Bool.{Bool, true, false, _&&_, and-assoc, and-true, true≢false}
+use mathlib.Core.Bool.{Bool, true, _&&_, and-assoc, and-true}
 use mathlib.Core.List.{List, [], _∷_}
 use native.Mathlib.Numerals.{add-one}
 use native.Mathlib.Omega.{arith}
-use lib.ListN.{length, getD, take, drop, drop-of-length-le}
+use lib.ListN.{length, getD, drop, drop-of-length-le}
 use lib.Seq.{drop-cons}
 use lib.Bits.{bitOr, or-zero-l, or-add-and, and-le-r}
-use borrow.Author.Tests.{ne-eqb, eqb-true, leb-true, le-leb}
-use lib.Dec.{eqb, leb, eqb·suc-zero}
-use Rattle.carts.specs.Bytes.{zeros, part, within, all, every, isZero, allZero, pairwise}
+use borrow.Author.Tests.{ne-eqb}
+use lib.Dec.{eqb, eqb·suc-zero}
+use Rattle.carts.specs.Bytes.{within, all, every, pairwise}
+use Rattle.carts.proofs.TestLaws.{all-at as test-at, within-low, within-high}
+pub use Rattle.carts.proofs.TestLaws.{and-left, and-right, within-of, pairwise-eq as pairwise-equal}
+pub use Rattle.carts.proofs.ZeroLaws.{zero-part, zero-zeros, zeros-of}
 
 -- a turn of a loop that joins tests, and its end
 pub test-more : (ok t next : Bool) {new whole left : Bool} → whole ≡ (ok && left) → left ≡ (t && next) → new ≡ (ok && t) → whole ≡ (new && next)
@@ -20,27 +23,11 @@ pub test-end : (ok : Bool) {whole left : Bool} → whole ≡ (ok && left) → le
 test-end ok p q = sym (p ∙ ap (λ b. ok && b) q ∙ and-true ok)
 
 -- from a joint test to its parts
-pub and-left : (a b : Bool) → (a && b) ≡ true → a ≡ true
-and-left true b e = refl
-and-left false b e = e
-
-pub and-right : (a b : Bool) → (a && b) ≡ true → b ≡ true
-and-right true b e = e
-and-right false b e = absurd (true≢false (sym e))
-
 pub all-at : (bs : List Bool) (i : ℕ) → all bs ≡ true → getD bs i true ≡ true
-unfolding all
-all-at [] i e = refl
-all-at (b ∷ bs) zero e = and-left b (all bs) e
-all-at (b ∷ bs) (suc i) e = all-at bs i (and-right b (all bs) e)
+all-at bs i e = test-at i bs e
 
 pub within-true : (low high n : ℕ) → within low high n ≡ true → (low ≤ n) × (n ≤ high)
-unfolding within
-within-true low high n e = (leb-true low n (and-left (leb low n) (leb n high) e), leb-true n high (and-right (leb low n) (leb n high) e))
-
-pub within-of : (low high n : ℕ) → low ≤ n → n ≤ high → within low high n ≡ true
-unfolding within
-within-of low high n p q = rw (le-leb low n p, le-leb n high q)
+within-true low high n e = (within-low low high n e, within-high low high n e)
 
 -- a test that another one implies
 pub every-implied : {A : Type 0} (p q : A → Bool) (xs : List A) → ((x : A) → p x ≡ true → q x ≡ true) → every p xs ≡ true → every q xs ≡ true
@@ -96,43 +83,3 @@ pairwise-more r a b i ok l h inv e = test-more ok (r (getD a i 0) (getD b i 0)) 
 
 pub pairwise-done : (r : ℕ → ℕ → Bool) (a b : List ℕ) (i : ℕ) (ok : Bool) → length a ≡ length b → length a ≤ i → pairwise r a b ≡ (ok && pairwise r (drop i a) (drop i b)) → ok ≡ pairwise r a b
 pairwise-done r a b i ok l h inv = test-end ok inv (pairwise-end r a b i h (omega arith))
-
--- bytes that are equal one by one are equal
-pub pairwise-equal : (a b : List ℕ) → pairwise eqb a b ≡ true → a ≡ b
-unfolding pairwise
-pairwise-equal [] [] e = refl
-pairwise-equal [] (y ∷ b) e = absurd (true≢false (sym e))
-pairwise-equal (x ∷ a) [] e = absurd (true≢false (sym e))
-pairwise-equal (x ∷ a) (y ∷ b) e =
-    let p = eqb-true x y (and-left (eqb x y) (pairwise eqb a b) e) in
-    let q = pairwise-equal a b (and-right (eqb x y) (pairwise eqb a b) e) in
-    cc
-
--- a part of zeros is zeros
-zero-take : (n : ℕ) (s : List ℕ) → allZero s ≡ true → allZero (take n s) ≡ true
-unfolding allZero every
-zero-take zero s e = refl
-zero-take (suc n) [] e = refl
-zero-take (suc n) (x ∷ s) e = rw (and-left (isZero x) (every isZero s) e) (zero-take n s (and-right (isZero x) (every isZero s) e))
-
-zero-drop : (n : ℕ) (s : List ℕ) → allZero s ≡ true → allZero (drop n s) ≡ true
-unfolding allZero every
-zero-drop zero s e = e
-zero-drop (suc n) [] e = refl
-zero-drop (suc n) (x ∷ s) e = zero-drop n s (and-right (isZero x) (every isZero s) e)
-
-pub zero-part : (s : List ℕ) (at n : ℕ) → allZero s ≡ true → allZero (part s at n) ≡ true
-zero-part s at n e = zero-take n (drop at s) (zero-drop at s e)
-
-pub zero-zeros : (n : ℕ) → allZero (zeros n) ≡ true
-unfolding allZero every zeros
-zero-zeros zero = refl
-zero-zeros (suc n) = zero-zeros n
-
-pub zeros-of : (s : List ℕ) → allZero s ≡ true → s ≡ zeros (length s)
-unfolding allZero every zeros
-zeros-of [] e = refl
-zeros-of (x ∷ s) e =
-    let p = eqb-true x 0 (and-left (isZero x) (every isZero s) e) in
-    let q = zeros-of s (and-right (isZero x) (every isZero s) e) in
-    ap (λ y. y ∷ s) p ∙ ap (λ r. 0 ∷ r) q

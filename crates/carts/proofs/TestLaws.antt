@@ -1,7 +1,7 @@
 -- Laws of Bool tests: lists of tests, ranges, and tests of each element.
-use mathlib.Core.Path.{_≡_, refl}
+use mathlib.Core.Path.{_≡_, refl, ap}
 use mathlib.Core.Bool.{Bool, true, false, cond, _&&_, and-false, and-eq-true-iff}
-use mathlib.Core.List.{List, [], _∷_}
+use mathlib.Core.List.{List, [], _∷_, map}
 use Prim.Native.Nat.{ℕ, zero, suc, _≤_, _<_}
 use native.Mathlib.Omega.{arith}
 use borrow.Author.Tests.{leb-true, le-leb, eqb-true, eq-eqb}
@@ -70,6 +70,12 @@ pub at-every : {A : Type 0} (p : A → Bool) (l : List A) (d : A) → ((i : ℕ)
 unfolding every
 at-every p [] d f = refl
 at-every p (x ∷ xs) d f = rw (f 0 (omega arith)) (at-every p xs d (λ i l. f (suc i) (omega arith)))
+
+-- a test of what a function makes of each element
+pub every-map : {A B : Type 0} (p : B → Bool) (f : A → B) (l : List A) → every p (map f l) ≡ every (λ x. p (f x)) l
+unfolding every
+every-map p f [] = refl
+every-map p f (x ∷ xs) = ap (λ b. p (f x) && b) (every-map p f xs)
 
 -- two lists that are equal number by number
 pub pairwise-eq : (xs ys : List ℕ) → pairwise eqb xs ys ≡ true → xs ≡ ys

@@ -1,17 +1,16 @@
 -- Demand 2: "A title is kept whole or refused."
-use Prim.Native.Nat.{ℕ, _+_, _-_, _*_, _<_, _≤_}
-use mathlib.Core.Path.{_≡_, refl, sym, ap, _∙_}
+use Prim.Native.Nat.{ℕ, _-_, _*_, _<_, _≤_}
+use mathlib.Core.Path.{_≡_, refl, _∙_}
 use mathlib.Core.Bool.{Bool, true, false, _||_, and-false}
-use mathlib.Core.List.{List, [], _∷_, _++_}
+use mathlib.Core.List.{List}
 use native.Mathlib.Omega.{arith}
-use lib.ListN.{length, take, drop, getD, set, length-set}
-use lib.Seq.{getD-take, getD-drop, getD-set-same}
+use lib.ListN.{length, set, length-set}
+use lib.Seq.{getD-set-same}
 use borrow.Author.Tests.{lt-leb}
-use Rattle.carts.specs.Bytes.{zeros, over, part, byte, u16, within, all}
+use Rattle.carts.specs.Bytes.{over, part, byte, u16, within, all}
 use Rattle.carts.specs.Cart.{cartAt, titleForm, hasTitle}
-use Rattle.carts.specs.Operation.{isNew, isRetitle, made, retitled, effect, meetsCart, actedOn, meets, act, operationFields}
-use Rattle.carts.proofs.OverLaws.{length-over, part-over, part-over-before}
-use Rattle.carts.proofs.PartLaws.{length-part}
+use Rattle.carts.specs.Operation.{isNew, isRetitle, made, retitled, effect, actedOn, meets, act, operationFields}
+use Rattle.carts.proofs.PartLaws.{length-part, length-over, part-over, over-before, byte-in}
 use Rattle.carts.proofs.CartLaws.{length-cart}
 
 -- the cart has the operation's title: its length and its 64 bytes
@@ -19,17 +18,12 @@ pub record SameTitle (op cart : List ℕ) : Type 0 where
   pub length-kept : byte cart 1 ≡ byte op 1
   pub letters-kept : part cart 16 64 ≡ part op 16 64
 
--- a byte of two equal parts
-byte-in : (s t : List ℕ) (a n i : ℕ) → i < n → part s a n ≡ part t a n → byte s (a + i) ≡ byte t (a + i)
-byte-in s t a n i h e =
-    sym (getD-take n (drop a s) i 0 h ∙ getD-drop a s i 0) ∙ ap (λ (z : List ℕ). getD z i 0) e ∙ (getD-take n (drop a t) i 0 h ∙ getD-drop a t i 0)
-
 -- a title written over a cart that already has the title's length in byte 1
 over-title : (op x : List ℕ) → length op ≡ 80 → length x ≡ 80 → byte x 1 ≡ byte op 1 → SameTitle op (over x 16 64 (part op 16 64)) × (length (over x 16 64 (part op 16 64)) ≡ 80)
 over-title op x o l e =
     let t : length (part op 16 64) ≡ 64 = length-part op 16 64 (omega arith) in (
       record {
-        length-kept = byte-in (over x 16 64 (part op 16 64)) x 1 1 0 (omega arith) (part-over-before x 16 64 (part op 16 64) 1 1 (omega arith) (omega arith)) ∙ e;
+        length-kept = byte-in (over x 16 64 (part op 16 64)) x 1 1 (over-before x 16 64 (part op 16 64) 1 1 (omega arith) (omega arith)) 1 (omega arith) (omega arith) ∙ e;
         letters-kept = part-over x 16 64 (part op 16 64) (omega arith) t;
       },
       length-over x 16 64 (part op 16 64) (omega arith) t ∙ l,
@@ -42,7 +36,7 @@ made-title op cart o l =
     let k : length x ≡ 80 = length-set cart 0 1 ∙ l in
     let f : length (part op 1 11) ≡ 11 = length-part op 1 11 (omega arith) in
     over-title op (over x 1 11 (part op 1 11)) o (length-over x 1 11 (part op 1 11) (omega arith) f ∙ k)
-    (byte-in (over x 1 11 (part op 1 11)) op 1 11 0 (omega arith) (part-over x 1 11 (part op 1 11) (omega arith) f))
+    (byte-in (over x 1 11 (part op 1 11)) op 1 11 (part-over x 1 11 (part op 1 11) (omega arith) f) 1 (omega arith) (omega arith))
 
 retitled-title : (op cart : List ℕ) → length op ≡ 80 → length cart ≡ 80 → SameTitle op (retitled op cart) × (length (retitled op cart) ≡ 80)
 unfolding retitled

@@ -11,12 +11,14 @@ use lib.ListN.{length, take, drop, replicate, length-append, length-replicate}
 use Rattle.carts.specs.Bytes.{zeros, within, every}
 use Rattle.carts.specs.Cart.{cartAt}
 use Rattle.carts.specs.Fields.{foundCount}
-use Rattle.carts.specs.Title.{titled, titledFrom, titledIn, foundByTitle, theOne, shownByTitle, searchAnswer}
+use Rattle.carts.specs.Title.{shownByNumbers, titled, titledFrom, titledIn, foundByTitle, theOne, shownByTitle, searchAnswer}
 use Rattle.carts.specs.declared.titles.Found.{Found}
 use Rattle.carts.specs.declared.titles.Found.the-variants.{One, None, Several}
 use Rattle.carts.proofs.titles.Found.{the-type}
 use Rattle.carts.proofs.RecordLaws.{left-suc, drop-next}
-use Rattle.carts.proofs.ScanLaws.{and-left, within-true, within-of}
+use Rattle.carts.proofs.ScanLaws.{and-left, and-right, within-true, within-of}
+use Rattle.carts.proofs.ZeroLaws.{length-zeros}
+use Rattle.carts.proofs.CartLaws.{length-cart}
 
 -- the carts left of n, of which i have been passed: the first, and the others; m is the first's number
 titled-next : (title : List ℕ) (n i m : ℕ) (s : List ℕ) (b : Bool) → i < n → titled title (take 80 (drop (80 * i) s)) ≡ b
@@ -117,3 +119,20 @@ pub not-one : (found : Found) → OneOf (1 ∷ 2 ∷ []) (tagOf the-type found) 
 not-one (One x) k c e = ⊎-elim (λ q. omega arith) (λ q. omega arith) k
 not-one None k c e = let z : _≡_ {A = ℕ} 0 1 = cc in omega arith
 not-one (Several n) k c e = let z : _≡_ {A = ℕ} 0 1 = cc in omega arith
+
+-- how much a read shows
+pub length-by-numbers : (copy cs : List ℕ) → length copy ≡ 10240 → every (within 1 128) cs ≡ true → length (shownByNumbers copy cs) ≡ 80 * length cs
+unfolding shownByNumbers every
+length-by-numbers copy [] l e = refl
+length-by-numbers copy (c ∷ cs) l e =
+    let r = within-true 1 128 c (and-left (within 1 128 c) (every (within 1 128) cs) e) in
+    simp (length-append, length-cart copy c l (r .1), length-by-numbers copy cs l (and-right (within 1 128 c) (every (within 1 128) cs) e)) (omega arith)
+
+pub length-by-title : (copy title : List ℕ) → length copy ≡ 10240 → length (shownByTitle copy title) ≡ 80
+unfolding shownByTitle titledIn theOne every
+length-by-title copy title l = pick (titledIn title copy) (titled-range title 1 128 128 1 copy (omega arith) (omega arith))
+  where
+    pick : (xs : List ℕ) → every (within 1 128) xs ≡ true → length (theOne copy xs) ≡ 80
+    pick [] e = length-zeros 80
+    pick (c ∷ []) e = length-cart copy c l (within-true 1 128 c (and-left (within 1 128 c) true e) .1)
+    pick (c ∷ d ∷ xs) e = length-zeros 80

@@ -1,25 +1,13 @@
--- What a test, the rows and the Block method leave, case by case.
-use Prim.Native.Nat.{ℕ, zero, suc, _≤_, _<_}
+-- What the Block method leaves, case by case.
+use Prim.Native.Nat.{ℕ, _≤_, _<_}
 use mathlib.Core.Path.{_≡_, refl}
-use mathlib.Core.Bool.{Bool, true, false, cond}
+use mathlib.Core.Bool.{Bool, true, false}
 use mathlib.Core.List.{List}
 use lib.Dec.{leb}
 use borrow.Author.Tests.{leb-true, leb-false, le-leb, lt-leb}
 use Rattle.replication.specs.Memory.{nth}
 use Rattle.replication.specs.Request.{Request}
-use Rattle.replication.specs.Rows.{unless}
 use Rattle.machine.specs.Machine.{Machine, Step, sessionOf, answerFrom, block}
-
-pub cond-case : {A : Type 0} (P : A → Type 0) (b : Bool) (x y : A) → (b ≡ true → P x) → (b ≡ false → P y) → P (cond b x y)
-cond-case P true x y first second = first refl
-cond-case P false x y first second = second refl
-
--- a call that a row stops, by the row's number, or accepted
-pub unless-case : {A : Type 0} (P : A → Type 0) (n : ℕ) (refused : ℕ → A) (accepted : A)
-    → ((k : ℕ) → n ≡ suc k → P (refused (suc k))) → (n ≡ 0 → P accepted) → P (unless n refused accepted)
-unfolding unless
-unless-case P zero refused accepted stops goes = goes refl
-unless-case P (suc n) refused accepted stops goes = stops n refl
 
 -- what session s's studio has applied
 abbrev pub stateFor : Machine → ℕ → ℕ

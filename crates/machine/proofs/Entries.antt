@@ -5,11 +5,16 @@ use native.Mathlib.Omega.{arith}
 use mathlib.Core.Path.{_≡_, refl, subst}
 use mathlib.Core.Bool.{true, false≢true}
 use mathlib.Core.List.{List, [], _∷_, _++_}
-use lib.ListN.{length}
+use lib.ListN.{length, take}
+use Rattle.carts.specs.Bytes.{over}
 use Rattle.carts.specs.Operation.{operationsOf, meetsAll, actAll}
+use Rattle.carts.proofs.PartLaws.{part-over}
 use Rattle.replication.specs.Request.{Request, nothing, requestOf, isWaiting, needed, shownFrom}
 use Rattle.replication.specs.Call as Call
 use Rattle.replication.specs.Calls.{numberAfter}
+use Rattle.replication.proofs.RowLaws.{unless-case}
+use Rattle.replication.proofs.ShownLaws.{Askable, length-shown, request-askable}
+use Rattle.replication.proofs.Accepted.{KnownSession, commit-passed, read-passed, collect-passed}
 use Rattle.machine.specs.Machine.{Machine, session, Transaction, Step, refusal, sessionOf, L, recordsUsed, refusedCommit, commit, send, refresh, answerFrom, wait, read, collect, call}
 use Rattle.machine.specs.Library.{Reply, request}
 use Rattle.machine.specs.OneCopy.{commitEntry, readEntry, entryOf, hasWaited, waitedAfter, entries}
@@ -17,9 +22,8 @@ use Rattle.machine.proofs.Events.{events}
 use Rattle.machine.proofs.Sort.{length-snoc}
 use Rattle.machine.proofs.History.{History, ended, made, seen, entry}
 use Rattle.machine.proofs.Updates.{put}
-use Rattle.machine.proofs.Cases.{unless-case, block-case, stateFor}
-use Rattle.machine.proofs.Lengths.{Askable, take-over, length-L, length-shown, request-askable}
-use Rattle.machine.proofs.Accepted.{KnownSession, commit-accepted, read-accepted, collect-accepted}
+use Rattle.machine.proofs.Cases.{block-case, stateFor}
+use Rattle.machine.proofs.Libraries.{length-L}
 use Rattle.machine.proofs.Sound.{Sound, applied-commits}
 use Rattle.machine.proofs.Kept.{keeps}
 use Rattle.machine.proofs.Follows.{level, WaitsFor, Follows, appended, refreshed, shown-to, stored-for, left-so}
@@ -53,7 +57,7 @@ module _ (H : List Call.Call) (go-on : Goes H) (m : Machine) (copies : ℕ → L
   when-commit : (s : ℕ) (bytes : List ℕ) → Fits (Call.commit s bytes) (commit m s bytes)
   unfolding commit refusedCommit entryOf commitEntry waitedAfter
   when-commit s bytes = unless-case (Fits (Call.commit s bytes)) _ _ _ (λ k e. when-refused (Call.commit s bytes) [] (suc k)) (λ e kept.
-      let a = commit-accepted s (sessionOf m s .studio) (sessionOf m s .waiting) (recordsUsed (m .log)) (L (m .log) n) bytes e in
+      let a = commit-passed s (sessionOf m s .studio) (sessionOf m s .waiting) (recordsUsed (m .log)) (L (m .log) n) bytes e in
       let ops : Transaction = operationsOf bytes in
       let copies′ : ℕ → List ℕ = put copies (n + 1) (actAll (copies n) ops) in
       let meets : meetsAll (copies n) ops ≡ true = rw (f .libraries n (omega arith)) (a .meets) in
@@ -82,7 +86,7 @@ module _ (H : List Call.Call) (go-on : Goes H) (m : Machine) (copies : ℕ → L
       when-shown bytes q out e askable kept =
           let r : Step = answerFrom k q m s out in
           let carts : List ℕ = L (m .log) k in
-          let written = take-over out (needed q) (shownFrom carts q) (length-shown carts q (length-L (m .log) k (sound .formed)) (subst Askable e askable)) in
+          let written : take (needed q) (over out 0 (needed q) (shownFrom carts q)) ≡ shownFrom carts q = part-over out 0 (needed q) (shownFrom carts q) (omega arith) (length-shown carts q (length-L (m .log) k (sound .formed)) (subst Askable e askable)) in
           subst (λ (y : Reply). History n copies floor (entry i s (request bytes) y ∷ entries (i + 1) waited (events (r .next) H))) (cc (written, f .libraries k high))
           (seen i s bytes k (omega (arith, f .floors s (who .low))) high (go-on (r .next) n copies (put floor s k) waited (i + 1) refl kept
           (shown-to m copies floor waited f s _ who (sound .sixteen) k top (λ w. absurd (false≢true w)))))
@@ -109,7 +113,7 @@ module _ (H : List Call.Call) (go-on : Goes H) (m : Machine) (copies : ℕ → L
   when-read : (s : ℕ) (bytes out : List ℕ) → Fits (Call.read s bytes out) (read m s bytes out)
   unfolding read
   when-read s bytes out = unless-case (Fits (Call.read s bytes out)) _ _ _ (λ k e. when-refused (Call.read s bytes out) out (suc k)) (λ e.
-      let a = read-accepted s (sessionOf m s .studio) (sessionOf m s .waiting) bytes (length out) e in
+      let a = read-passed s (sessionOf m s .studio) (sessionOf m s .waiting) bytes (length out) e in
       block-case (Fits (Call.read s bytes out)) m s _ _ out
       (λ u. read-shown s (a .who) (stateFor m s) (omega arith) (applied-commits m sound _) (omega arith) bytes out (request-askable bytes (a .form)))
       (λ u. read-waits s (a .who) bytes out))
@@ -117,7 +121,7 @@ module _ (H : List Call.Call) (go-on : Goes H) (m : Machine) (copies : ℕ → L
   when-collect : (s : ℕ) (out : List ℕ) → Fits (Call.collect s out) (collect m s out)
   unfolding collect
   when-collect s out = unless-case (Fits (Call.collect s out)) _ _ _ (λ k e. when-refused (Call.collect s out) out (suc k)) (λ e.
-      let a = collect-accepted s (sessionOf m s .studio) (sessionOf m s .waiting) (length out) e in
+      let a = collect-passed s (sessionOf m s .studio) (sessionOf m s .waiting) (length out) e in
       let asked : requestOf (waited s) ≡ sessionOf m s .waiting = f .waits-for s (a .who .low) (a .waits) in
       block-case (Fits (Call.collect s out)) m s _ _ out
       (λ u. collect-shown s (a .who) (stateFor m s) (omega arith) (applied-commits m sound _) (omega arith) _ out (cc asked) (rw asked (sound .askable (s - 1))))

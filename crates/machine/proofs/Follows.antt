@@ -12,7 +12,7 @@ use Rattle.replication.specs.Request.{requestOf, isWaiting}
 use Rattle.machine.specs.Machine.{Machine, Session, Transaction, sessionOf, withSession, L}
 use Rattle.machine.proofs.Sort.{length-snoc}
 use Rattle.machine.proofs.Updates.{put, put-case, both-case, set-either, each-set}
-use Rattle.machine.proofs.Accepted.{KnownSession}
+use Rattle.replication.proofs.Accepted.{KnownSession}
 use Rattle.machine.proofs.Libraries.{L-before, L-after}
 
 -- what a session can have been shown: its own commits, and what its studio has applied

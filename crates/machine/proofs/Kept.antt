@@ -4,15 +4,17 @@ use native.Mathlib.Omega.{arith}
 use mathlib.Core.List.{List}
 use lib.ListN.{length}
 use Rattle.carts.specs.Operation.{operationsOf}
+use Rattle.carts.proofs.OperationLaws.{operations-of}
 use Rattle.replication.specs.Memory.{nth}
 use Rattle.replication.specs.Request.{Request, requestOf}
 use Rattle.replication.specs.Call as Call
 use Rattle.replication.specs.Calls.{numberAfter}
+use Rattle.replication.proofs.RowLaws.{unless-case}
+use Rattle.replication.proofs.ShownLaws.{Askable, request-askable}
+use Rattle.replication.proofs.Accepted.{commit-passed, send-passed, refresh-passed, read-passed}
 use Rattle.machine.specs.Machine.{Machine, Step, sessionOf, L, recordsUsed, refusedCommit, commit, send, refresh, answerFrom, block, wait, read, collect, call}
 use Rattle.machine.proofs.Sort.{length-snoc}
-use Rattle.machine.proofs.Cases.{unless-case, block-case}
-use Rattle.machine.proofs.Lengths.{Askable, operations-formed, request-askable}
-use Rattle.machine.proofs.Accepted.{commit-accepted, send-accepted, refresh-accepted, read-accepted}
+use Rattle.machine.proofs.Cases.{block-case}
 use Rattle.machine.proofs.Sound.{Sound, applied-commits, with-session, with-transaction, with-sent, with-applied}
 
 -- an answered read leaves no number above both the old one and the state that it showed
@@ -27,21 +29,21 @@ module _ (m : Machine) (f : Sound m) where
   keeps-commit : (s : ℕ) (bytes : List ℕ) → Keeps (commit m s bytes)
   unfolding commit refusedCommit
   keeps-commit s bytes = unless-case Keeps _ _ _ (λ k e. f) (λ e.
-      let a = commit-accepted s (sessionOf m s .studio) (sessionOf m s .waiting) (recordsUsed (m .log)) (L (m .log) (length (m .log))) bytes e in
-      with-session _ (with-transaction m f (operationsOf bytes) (operations-formed bytes (a .form))) s _
+      let a = commit-passed s (sessionOf m s .studio) (sessionOf m s .waiting) (recordsUsed (m .log)) (L (m .log) (length (m .log))) bytes e in
+      with-session _ (with-transaction m f (operationsOf bytes) (operations-of bytes (a .form))) s _
       (rw (length-snoc (m .log) (operationsOf bytes)) (omega (arith, f .number-le (s - 1))))
       (f .askable (s - 1)))
 
   keeps-send : (i : ℕ) → Keeps (send m i)
   unfolding send
   keeps-send i = unless-case Keeps _ _ _ (λ k e. f) (λ e.
-      let a = send-accepted (m .studios) i (nth (m .sent) i) (nth (m .applied) i) (length (m .log)) e in
+      let a = send-passed (m .studios) i (nth (m .sent) i) (nth (m .applied) i) (length (m .log)) e in
       with-sent m f (i - 1) _ (omega (arith, f .applied-le (i - 1))) (omega (arith, f .sent-le (i - 1), a .unsent)))
 
   keeps-refresh : (i : ℕ) → Keeps (refresh m i)
   unfolding refresh
   keeps-refresh i = unless-case Keeps _ _ _ (λ k e. f) (λ e.
-      let a = refresh-accepted (m .studios) i (nth (m .sent) i) (nth (m .applied) i) e in
+      let a = refresh-passed (m .studios) i (nth (m .sent) i) (nth (m .applied) i) e in
       with-applied m f (i - 1) _ (omega (arith, f .applied-le (i - 1), a .behind)))
 
   -- a read answered with a state not above commits, one that waits, and the choice between them
@@ -59,7 +61,7 @@ module _ (m : Machine) (f : Sound m) where
   keeps-read : (s : ℕ) (request out : List ℕ) → Keeps (read m s request out)
   unfolding read
   keeps-read s request out = unless-case Keeps _ _ _ (λ k e. f) (λ e.
-      let a = read-accepted s (sessionOf m s .studio) (sessionOf m s .waiting) request (length out) e in
+      let a = read-passed s (sessionOf m s .studio) (sessionOf m s .waiting) request (length out) e in
       keeps-block s _ _ out (keeps-wait (requestOf request) s out (request-askable request (a .form))))
 
   keeps-collect : (s : ℕ) (out : List ℕ) → Keeps (collect m s out)

@@ -3,10 +3,7 @@ pub mod Chain
 pub mod Updates
 pub mod History
 pub mod Ordered
-pub mod Tests
 pub mod Cases
-pub mod Lengths
-pub mod Accepted
 pub mod Sound
 pub mod Kept
 pub mod Libraries

@@ -1,5 +1,5 @@
--- L(n): the library of a log that grows, and of one transaction more.
-use Prim.Native.Nat.{ℕ, _+_, _≤_, _<_}
+-- L(n): its length, and the library of a log that grows and of one transaction more.
+use Prim.Native.Nat.{ℕ, zero, suc, _+_, _≤_, _<_}
 use native.Mathlib.Omega.{arith}
 use native.Mathlib.Numerals.{add-one}
 use mathlib.Core.Path.{_≡_, refl, ap, _∙_}
@@ -9,8 +9,21 @@ use lib.Seq.{take-append-le, take-suc, getD-append-seam}
 use Rattle.carts.specs.Bytes.{zeros}
 use Rattle.carts.specs.Cart.{copySize}
 use Rattle.carts.specs.Operation.{actAll}
+use Rattle.carts.proofs.ZeroLaws.{length-zeros}
+use Rattle.carts.proofs.OperationLaws.{Operations, length-actAll}
 use Rattle.machine.specs.Machine.{Transaction, replay, L}
-use Rattle.machine.proofs.Sort.{length-snoc}
+use Rattle.machine.proofs.Sort.{All, length-snoc}
+
+length-replay : (copy : List ℕ) (log : List Transaction) (n : ℕ) → All Operations log → length copy ≡ copySize → length (replay copy (take n log)) ≡ copySize
+unfolding replay
+length-replay copy log zero f e = e
+length-replay copy [] (suc n) f e = e
+length-replay copy (t ∷ log) (suc n) f e = length-replay (actAll copy t) log n (f .1) (length-actAll t copy e (f .0 .sizes) (f .0 .fields))
+
+-- a copy that stands for L(n) is a copy's bytes
+pub length-L : (log : List Transaction) (n : ℕ) → All Operations log → length (L log n) ≡ copySize
+unfolding L
+length-L log n f = length-replay (zeros copySize) log n f (length-zeros copySize)
 
 replay-snoc : (copy : List ℕ) (log : List Transaction) (t : Transaction) → replay copy (log ++ (t ∷ [])) ≡ actAll (replay copy log) t
 unfolding replay

@@ -1,16 +1,17 @@
 -- What is true of the machine after every list of calls, and the changes that keep it so.
-use Prim.Native.Nat.{ℕ, zero, suc, _-_, _≤_}
+use Prim.Native.Nat.{ℕ, _-_, _≤_}
 use native.Mathlib.Omega.{arith}
-use mathlib.Core.Path.{_≡_, refl, _∙_}
+use mathlib.Core.Path.{_≡_, _∙_}
 use mathlib.Core.List.{List, [], _∷_, _++_, map}
 use lib.ListN.{length, getD, set, length-set, length-map, List·getD-map}
-use Rattle.carts.specs.Bytes.{zeros}
 use Rattle.replication.specs.Memory.{sessionCount, studioCount}
 use Rattle.replication.specs.Request.{nothing}
+use Rattle.carts.proofs.ZeroLaws.{zeros-at}
+use Rattle.carts.proofs.OperationLaws.{Operations}
+use Rattle.replication.proofs.ShownLaws.{Askable}
 use Rattle.machine.specs.Machine.{Machine, Session, session, Transaction, withSession, fresh}
 use Rattle.machine.proofs.Sort.{All, all-snoc, length-snoc}
 use Rattle.machine.proofs.Updates.{set-either}
-use Rattle.machine.proofs.Lengths.{Formed, Askable}
 
 -- a session by its place in the list, counted from 0
 abbrev pub sessionAt : List Session → ℕ → Session
@@ -23,7 +24,7 @@ pub record Sound (m : Machine) : Type 0 where
   pub sent-le : (k : ℕ) → getD (m .sent) k 0 ≤ length (m .log)
   pub number-le : (k : ℕ) → sessionAt (m .sessions) k .number ≤ length (m .log)
   -- the log and the waiting reads are of form
-  pub formed : All (All Formed) (m .log)
+  pub formed : All Operations (m .log)
   pub askable : (k : ℕ) → Askable (sessionAt (m .sessions) k .waiting)
 
 pub applied-commits : (m : Machine) → Sound m → (k : ℕ) → getD (m .applied) k 0 ≤ length (m .log)
@@ -42,14 +43,14 @@ module _ (m : Machine) (f : Sound m) where
   }
 
   -- a transaction appended
-  pub with-transaction : (t : Transaction) → All Formed t
+  pub with-transaction : (t : Transaction) → Operations t
       → Sound (record { studios = m .studios; log = m .log ++ (t ∷ []); sent = m .sent; applied = m .applied; sessions = m .sessions })
   with-transaction t h = record {
     sixteen = f .sixteen;
     applied-le = f .applied-le;
     sent-le = λ k. rw (length-snoc (m .log) t) (omega (arith, f .sent-le k));
     number-le = λ k. rw (length-snoc (m .log) t) (omega (arith, f .number-le k));
-    formed = all-snoc (All Formed) (m .log) t (f .formed) h;
+    formed = all-snoc Operations (m .log) t (f .formed) h;
     askable = f .askable;
   }
 
@@ -75,12 +76,6 @@ module _ (m : Machine) (f : Sound m) where
     formed = f .formed;
     askable = f .askable;
   }
-
-zeros-at : (n k : ℕ) → getD (zeros n) k 0 ≡ 0
-unfolding zeros
-zeros-at zero k = refl
-zeros-at (suc n) zero = refl
-zeros-at (suc n) (suc k) = zeros-at n k
 
 -- each session of a fresh system has number 0 and no waiting read
 pub fresh-session : (bytes : List ℕ) (k : ℕ) → sessionAt (map (λ i. session i 0 nothing) bytes) k ≡ session (getD bytes k 0) 0 nothing

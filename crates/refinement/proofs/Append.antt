@@ -8,12 +8,12 @@ use native.Mathlib.Decide.{ℕ-discrete}
 use lib.ListN.{length, drop, getD}
 use Rattle.carts.specs.Bytes.{part, allZero}
 use Rattle.carts.specs.Operation.{operationFields}
+use Rattle.carts.proofs.CellLaws.{length-cells, cell-same, cell-other, cells-past}
 use Rattle.replication.specs.Memory.{recordAt, withRecord}
 use Rattle.replication.specs.Log.{nextOperation, nextTransaction, upFrom, front, writeAll}
+use Rattle.replication.proofs.Chains.{Linked}
 use Rattle.refinement.specs.Represents.{handedIn}
-use Rattle.refinement.proofs.Cells.{length-cells, cell-same, cell-other, cells-past}
 use Rattle.refinement.proofs.Links.{linkedTo, length-linked, linked-next, linked-fields, linked-last, linked-handed}
-use Rattle.refinement.proofs.Chains.{Linked}
 
 -- an operation as handed in
 pub record Given (op : List ℕ) : Type 0 where

@@ -1,5 +1,5 @@
 -- Commit: it keeps the layout, and does what the plain machine's commit does.
-use mathlib.Core.Path.{_≡_, refl, sym, ap, _∙_}
+use mathlib.Core.Path.{_≡_, refl, sym, ap, _∙_, subst}
 use mathlib.Core.Logic.{_≢_}
 use mathlib.Core.Bool.{true, false, cond}
 use mathlib.Core.List.{List, [], _∷_, _++_}
@@ -7,12 +7,18 @@ use Prim.Native.Nat.{ℕ, _+_, _*_, _-_, _≤_, _<_, _/_, _%_}
 use native.Mathlib.Omega.{arith}
 use native.Mathlib.Numerals.{add-one}
 use native.Mathlib.Decide.{ℕ-discrete}
-use borrow.Author.Tests.{ne-eqb}
+use borrow.Author.Tests.{eq-eqb, ne-eqb}
 use lib.Dec.{eqb}
-use lib.ListN.{length, drop, getD, set, length-append, length-set}
-use lib.Seq.{drop-drop, getD-append-seam}
+use lib.ListN.{length, drop, getD, set, length-set}
+use lib.Seq.{drop-drop}
 use Rattle.carts.specs.Bytes.{part, within, all, every, allZero}
 use Rattle.carts.specs.Operation.{operationFields, operationForm, operationsOf, actAll}
+use Rattle.carts.proofs.TestLaws.{all-at, every-at, at-every, within-low, within-high}
+use Rattle.carts.proofs.PartLaws.{length-part}
+use Rattle.carts.proofs.EachLaws.{length-parts, parts-at}
+use Rattle.carts.proofs.ZeroLaws.{zero-drop}
+use Rattle.carts.proofs.OperationLaws.{Operations}
+use Rattle.carts.proofs.KeepLaws.{Copy, actAll-copy}
 use Rattle.replication.specs.Memory.{Memory, copyAt, withCopy, sessionAt, withSession, withSequence, nth, studioOf}
 use Rattle.replication.specs.Log.{firstRecord, chainForm, appended}
 use Rattle.replication.specs.Request.{requestOf}
@@ -21,22 +27,20 @@ use Rattle.replication.specs.Rows.{Row, stopped, sizeForm, commitRows}
 use Rattle.replication.specs.Calls as Bytes
 use Rattle.replication.specs.Calls.{After, committed}
 use Rattle.replication.specs.declared.control.Control.{Control}
+use Rattle.replication.proofs.CopyLaws.{length-copyAt, length-withCopy, copy-same, copy-other}
+use Rattle.replication.proofs.Formed.{Formed, applied-known, counts-more, studio-copy, copy-in-use}
+use Rattle.replication.proofs.RowLaws.{memory-passes, unless-case, unless-both}
+use Rattle.replication.proofs.Accepted.{KnownSession, commit-passed}
 use Rattle.machine.specs.Machine as Plain
 use Rattle.machine.specs.Machine.{Transaction, Session, session, L, recordsUsed}
+use Rattle.machine.proofs.Libraries.{L-before, L-after}
 use Rattle.refinement.specs.Represents.{OfLayout, transactionsFrom, Represents, Simulates}
-use Rattle.refinement.proofs.Tests.{all-at, every-at, within-low, within-high}
-use Rattle.refinement.proofs.Parts.{length-part, length-parts, parts-at}
-use Rattle.refinement.proofs.Zeros.{zero-drop}
-use Rattle.refinement.proofs.Effect.{Operations, Copy, actAll-copy}
-use Rattle.refinement.proofs.Copies.{length-copyAt, length-withCopy, copy-same, copy-other}
-use Rattle.refinement.proofs.Chains.{records-used}
 use Rattle.refinement.proofs.Append.{Givens}
 use Rattle.refinement.proofs.Grown.{Grown, grown}
-use Rattle.refinement.proofs.Transactions.{L-step, L-append}
+use Rattle.refinement.proofs.Transactions.{records-used}
 use Rattle.refinement.proofs.Represented.{machineOf, log-length}
-use Rattle.refinement.proofs.Formed.{Formed, formed, of-layout, applied-known, counts-more, studio-copy, copy-in-use}
-use Rattle.refinement.proofs.Rows.{memory-passes, unless-by, unless-both, UsedSession, commit-passed}
 use Rattle.refinement.proofs.Sessions.{SessionBytes, session-more, own-bytes, length-sessions, sessions-form, sessions-shown, session-of}
+use Rattle.refinement.proofs.Arrays.{Arrays, arrays, formed, of-layout}
 
 -- the operations in the bytes of a commit that rows 5 and 6 let pass
 operations-count : (bytes : List ℕ) → length (operationsOf bytes) ≡ length bytes / 80
@@ -64,8 +68,11 @@ givens bytes h i l =
     }
 
 given-operations : (ops : List (List ℕ)) → Givens ops → Operations ops
-unfolding Givens Operations
-given-operations ops g i l = let o = g i l in record { size = o .size; fields = o .fields }
+unfolding Givens
+given-operations ops g = record {
+  sizes = at-every (λ op. eqb (length op) 80) ops [] (λ i l. eq-eqb _ 80 (g i l .size));
+  fields = at-every operationFields ops [] (λ i l. g i l .fields);
+}
 
 -- memory after a commit
 abbrev left : Control → Memory → ℕ → List (List ℕ) → Memory
@@ -76,7 +83,7 @@ left c m s ops = record {
 }
 
 -- a commit that no row stops
-module _ (c : Control) (m : Memory) (s : ℕ) (ops : List (List ℕ)) (f : Formed c m) (w : UsedSession s (studioOf c s)) (g : Givens ops)
+module _ (c : Control) (m : Memory) (s : ℕ) (ops : List (List ℕ)) (a : Arrays c) (f : Formed c m) (w : KnownSession s (studioOf c s)) (g : Givens ops)
     (k1 : 1 ≤ length ops) (k8 : length ops ≤ 8) (room : c .used + length ops ≤ 512) where
   log-grown : Grown (c .commits) (c .used) (firstRecord c) (m .log) (appended c (m .log) ops) ops
   log-grown = grown c (m .log) ops (f .log .size) g k1 k8 room (f .log .records) (f .log .chain)
@@ -98,6 +105,10 @@ module _ (c : Control) (m : Memory) (s : ℕ) (ops : List (List ℕ)) (f : Forme
 
   own : SessionBytes (sessionAt (m .sessions) s)
   own = own-bytes c (m .sessions) (f .sessions) s w
+
+  commit-arrays : Arrays (committed c (length ops))
+  unfolding committed
+  commit-arrays = record { sessionStudios = a .sessionStudios; sent = a .sent; applied = a .applied }
 
   commit-formed : Formed (committed c (length ops)) (left c m s ops)
   unfolding committed firstRecord studioOf
@@ -138,7 +149,7 @@ module _ (c : Control) (m : Memory) (s : ℕ) (ops : List (List ℕ)) (f : Forme
       (machineOf c (log ++ (ops ∷ [])) (set sessions (s - 1) (session (studioOf c s) (c .commits + 1) (requestOf (sessionAt (m .sessions) s)))))
   unfolding committed firstRecord studioOf
   commit-represents log sessions h = record {
-    form = of-layout _ _ commit-formed;
+    form = of-layout _ _ commit-arrays commit-formed;
     studios = refl;
     log = grown-log;
     sent = refl;
@@ -147,7 +158,7 @@ module _ (c : Control) (m : Memory) (s : ℕ) (ops : List (List ℕ)) (f : Forme
     sessions = sessions-shown (committed c (length ops)) (m .sessions) (f .sessions .size) s w _ _ own sessions _ (h .count) (h .sessions);
     primary = same-copy ∙ ap (λ (z : List ℕ). actAll z ops) (h .primary) ∙ level;
     replicas = λ j a b. other-copy j (omega arith) ∙ h .replicas j a b
-        ∙ sym (L-append log (ops ∷ []) (nth (c .applied) j) (rw (log-length c m _ h) (applied-known c j (f .counts j a b))));
+        ∙ sym (L-before log ops (nth (c .applied) j) (rw (log-length c m _ h) (applied-known c j (f .counts j a b))));
   }
     where
       n : length log ≡ c .commits
@@ -159,12 +170,7 @@ module _ (c : Control) (m : Memory) (s : ℕ) (ops : List (List ℕ)) (f : Forme
           rw (nz, add-one (c .commits)) (ap (λ (z : List Transaction). z ++ (ops ∷ [])) (h .log) ∙ sym (log-grown .shown))
 
       level : actAll (L log (c .commits)) ops ≡ L (log ++ (ops ∷ [])) (c .commits + 1)
-      level =
-          let k : c .commits < length (log ++ (ops ∷ [])) = rw (length-append log (ops ∷ [])) (omega (arith, n)) in
-          let e : getD (log ++ (ops ∷ [])) (c .commits) [] ≡ ops = ap (λ (z : ℕ). getD (log ++ (ops ∷ [])) z []) (sym n) ∙ getD-append-seam log ops [] [] in
-          sym (L-step (log ++ (ops ∷ [])) (c .commits) k
-          ∙ ap (actAll (L (log ++ (ops ∷ [])) (c .commits))) e
-          ∙ ap (λ (z : List ℕ). actAll z ops) (L-append log (ops ∷ []) (c .commits) (omega (arith, n))))
+      level = subst (λ k. actAll (L log k) ops ≡ L (log ++ (ops ∷ [])) (k + 1)) n (sym (L-after log ops))
 
 module _ (c : Control) (m : Memory) (s : ℕ) (bytes : List ℕ) where
   rows : List Row
@@ -173,17 +179,20 @@ module _ (c : Control) (m : Memory) (s : ℕ) (bytes : List ℕ) where
   pub commit-keeps : OfLayout c m → OfLayout (Bytes.commit c m s bytes .control) (Bytes.commit c m s bytes .memory)
   unfolding Bytes.commit Bytes.refusedCommit rows
   commit-keeps h =
-      rw (memory-passes c m rows h)
-      (unless-by (λ (r : After). OfLayout (r .control) (r .memory)) (stopped rows) _ _ (λ _. h)
+      rw (memory-passes c m rows (h .lengths) (h .layout))
+      (unless-case (λ (r : After). OfLayout (r .control) (r .memory)) (stopped rows) _ _ (λ _ _. h)
       (λ e. let p = commit-passed _ _ _ _ _ _ e in
       let k = size-count bytes (p .size) in
-      of-layout _ _ (commit-formed c m s (operationsOf bytes) (formed c m h) (p .who) (givens bytes (p .forms)) (k .0) (k .1) (p .room))))
+      let a = arrays c m h in
+      let f = formed c m h in
+      let g = givens bytes (p .form) in
+      of-layout _ _ (commit-arrays c m s (operationsOf bytes) a f (p .who) g (k .0) (k .1) (p .room)) (commit-formed c m s (operationsOf bytes) a f (p .who) g (k .0) (k .1) (p .room))))
 
   pub commit-simulates : (log : List Transaction) (sessions : List Session) → Represents c m (machineOf c log sessions)
       → Simulates (Bytes.commit c m s bytes) (Plain.commit (machineOf c log sessions) s bytes)
   unfolding Bytes.commit Bytes.refusedCommit Plain.commit Plain.refusedCommit rows
   commit-simulates log sessions h =
-      rw (memory-passes c m rows (h .form), session-of c m _ h s, log-length c m _ h, ← h .primary, used)
+      rw (memory-passes c m rows (h .form .lengths) (h .form .layout), session-of c m _ h s, log-length c m _ h, ← h .primary, used)
       (unless-both Simulates (stopped rows) _ _ _ _
       (λ _. record { answer = refl; output = refl; next = h })
       (λ e. let p = commit-passed _ _ _ _ _ _ e in
@@ -191,7 +200,7 @@ module _ (c : Control) (m : Memory) (s : ℕ) (bytes : List ℕ) where
       record {
         answer = refl;
         output = refl;
-        next = commit-represents c m s (operationsOf bytes) (formed c m (h .form)) (p .who) (givens bytes (p .forms)) (k .0) (k .1) (p .room) log sessions h;
+        next = commit-represents c m s (operationsOf bytes) (arrays c m (h .form)) (formed c m (h .form)) (p .who) (givens bytes (p .form)) (k .0) (k .1) (p .room) log sessions h;
       }))
     where
       used : recordsUsed log ≡ c .used

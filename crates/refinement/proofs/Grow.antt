@@ -8,9 +8,9 @@ use native.Mathlib.Omega.{arith}
 use lib.ListN.{length}
 use Rattle.replication.specs.Memory.{recordAt}
 use Rattle.replication.specs.Log.{nextOperation, nextTransaction, recordsOf, transactionAt, walk, upFrom, chainForm}
+use Rattle.replication.proofs.Chains.{chain-end, end-chain, front-upFrom, Linked, linked-chain, linked-kept, Chained, chained, of-chained, chained-links, placed}
 use Rattle.machine.specs.Machine.{Transaction}
 use Rattle.refinement.specs.Represents.{handedIn, transactionsFrom}
-use Rattle.refinement.proofs.Chains.{chain-end, end-chain, front-upFrom, Linked, linked-chain, linked-kept, Chained, chained, of-chained, chained-links, placed}
 use Rattle.refinement.proofs.Append.{Givens, Written, holds, holds-last, written-linked, written-handed}
 
 -- a chain of records that follow one another

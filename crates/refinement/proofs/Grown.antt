@@ -11,12 +11,12 @@ use lib.Dec.{eqb}
 use lib.ListN.{length, drop}
 use Rattle.carts.specs.Bytes.{u16}
 use Rattle.carts.specs.Operation.{operationFields}
+use Rattle.carts.proofs.CellLaws.{length-cell, length-cells, cell-same, cell-other, cells-past}
 use Rattle.replication.specs.Memory.{recordAt, withRecord}
 use Rattle.replication.specs.Log.{nextOperation, nextTransaction, walk, firstRecord, upFrom, chainForm, freeRecords, front, writeAll, linked, appended}
 use Rattle.replication.specs.declared.control.Control.{Control}
+use Rattle.replication.proofs.Chains.{chain-end, front-upFrom, Placed, placed}
 use Rattle.refinement.specs.Represents.{handedIn, transactionsFrom}
-use Rattle.refinement.proofs.Cells.{length-cell, length-cells, cell-same, cell-other, cells-past}
-use Rattle.refinement.proofs.Chains.{chain-end, front-upFrom, Placed, placed}
 use Rattle.refinement.proofs.Grow.{Kept, grows, new-form, new-shown}
 use Rattle.refinement.proofs.Links.{followedBy, length-followed, followed-next, followed-last, followed-fields, followed-handed}
 use Rattle.refinement.proofs.Append.{Givens, Written, written-kept, Wrote, wrote, holds, holds-fields}

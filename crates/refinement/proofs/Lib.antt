@@ -1,17 +1,7 @@
--- laws about carts' definitions alone
-pub mod Tests
-pub mod Parts
-pub mod Zeros
-pub mod Fields
-pub mod Cells
-pub mod Effect
--- the layout and the rows, taken apart
-pub mod Formed
-pub mod Rows
-pub mod Copies
+-- the layout, with the lengths of control's arrays
+pub mod Arrays
 -- the log
 pub mod Transactions
-pub mod Chains
 pub mod Links
 pub mod Append
 pub mod Grow

@@ -5,13 +5,13 @@ use mathlib.Core.List.{List, [], _∷_}
 use Prim.Native.Nat.{ℕ, _/_, _%_}
 use native.Mathlib.Omega.{arith}
 use lib.ListN.{length}
-use Rattle.carts.specs.Bytes.{zeros, part, over, u16, u32, u16Bytes, allZero}
-use Rattle.carts.specs.Cart.{hasTitle, noTitle, hasAudio, noAudio}
+use Rattle.carts.specs.Bytes.{zeros, part, over, u16, u16Bytes, allZero}
 use Rattle.carts.specs.Operation.{operationFields}
+use Rattle.carts.proofs.PartLaws.{length-over, take-over, drop-over-after}
+use Rattle.carts.proofs.OperationLaws.{fields-links}
+use Rattle.carts.proofs.ZeroLaws.{zero-first}
+use Rattle.carts.proofs.FieldLaws.{Head, bytes, by-fields}
 use Rattle.refinement.specs.Represents.{handedIn}
-use Rattle.refinement.proofs.Parts.{length-over}
-use Rattle.refinement.proofs.Zeros.{zero-first}
-use Rattle.refinement.proofs.Fields.{Head, bytes, by-fields}
 
 -- the next operation, and the next transaction
 abbrev pub linkedTo : ℕ → List ℕ → List ℕ
@@ -31,15 +31,15 @@ no-links h t z =
 module _ (n : ℕ) (x : List ℕ) (l : length x ≡ 80) where
   pub length-linked : length (linkedTo n x) ≡ 80
   unfolding u16Bytes
-  length-linked = length-over x 12 2 (n % 256 ∷ n / 256 ∷ []) refl (omega arith) ∙ l
+  length-linked = length-over x 12 2 (n % 256 ∷ n / 256 ∷ []) (omega arith) refl ∙ l
 
   pub linked-next : u16 (linkedTo n x) 12 ≡ n
   unfolding u16 u16Bytes
   linked-next = by-fields (λ x. u16 (linkedTo n x) 12 ≡ n) 0 (λ h t _. omega arith) x (omega arith)
 
   pub linked-fields : operationFields (linkedTo n x) ≡ operationFields x
-  unfolding operationFields hasTitle noTitle hasAudio noAudio u16 u32 u16Bytes
-  linked-fields = by-fields (λ x. operationFields (linkedTo n x) ≡ operationFields x) 0 (λ h t _. refl) x (omega arith)
+  unfolding u16Bytes
+  linked-fields = fields-links (linkedTo n x) x (take-over x 12 2 (u16Bytes n) 12 (omega arith) (omega arith)) (drop-over-after x 12 2 (u16Bytes n) 16 (omega arith) refl (omega arith))
 
   pub linked-last : allZero (part x 12 4) ≡ true → u16 (linkedTo n x) 14 ≡ 0
   unfolding u16 u16Bytes
@@ -53,7 +53,7 @@ module _ (n : ℕ) (x : List ℕ) (l : length x ≡ 80) where
 
   pub length-followed : length (followedBy n x) ≡ 80
   unfolding u16Bytes
-  length-followed = length-over x 14 2 (n % 256 ∷ n / 256 ∷ []) refl (omega arith) ∙ l
+  length-followed = length-over x 14 2 (n % 256 ∷ n / 256 ∷ []) (omega arith) refl ∙ l
 
   pub followed-next : u16 (followedBy n x) 12 ≡ u16 x 12
   unfolding u16 u16Bytes
@@ -64,8 +64,8 @@ module _ (n : ℕ) (x : List ℕ) (l : length x ≡ 80) where
   followed-last = by-fields (λ x. u16 (followedBy n x) 14 ≡ n) 0 (λ h t _. omega arith) x (omega arith)
 
   pub followed-fields : operationFields (followedBy n x) ≡ operationFields x
-  unfolding operationFields hasTitle noTitle hasAudio noAudio u16 u32 u16Bytes
-  followed-fields = by-fields (λ x. operationFields (followedBy n x) ≡ operationFields x) 0 (λ h t _. refl) x (omega arith)
+  unfolding u16Bytes
+  followed-fields = fields-links (followedBy n x) x (take-over x 14 2 (u16Bytes n) 12 (omega arith) (omega arith)) (drop-over-after x 14 2 (u16Bytes n) 16 (omega arith) refl (omega arith))
 
   pub followed-handed : handedIn (followedBy n x) ≡ handedIn x
   unfolding handedIn u16Bytes zeros

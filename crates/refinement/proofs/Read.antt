@@ -7,6 +7,7 @@ use lib.Dec.{leb}
 use lib.ListN.{length, set, length-set}
 use lib.Seq.{set-getD}
 use Rattle.carts.specs.Bytes.{zeros, over}
+use Rattle.carts.proofs.TestLaws.{by-cond, cond-both}
 use Rattle.replication.specs.Answer.{answered}
 use Rattle.replication.specs.Memory.{Memory, copyAt, sessionAt, withSession, sequenceOf, withSequence, nth, studioOf}
 use Rattle.replication.specs.Request.{Request, nothing, requestOf, needed, foundIn, shownFrom}
@@ -14,20 +15,21 @@ use Rattle.replication.specs.Rows.{Row, stopped, readRows, collectRows}
 use Rattle.replication.specs.Calls as Bytes
 use Rattle.replication.specs.Calls.{After, withSessions, numberAfter}
 use Rattle.replication.specs.declared.control.Control.{Control}
+use Rattle.replication.proofs.Formed.{Formed, few, studio-known}
+use Rattle.replication.proofs.RowLaws.{memory-passes, unless-case, unless-both}
+use Rattle.replication.proofs.Accepted.{KnownSession, read-passed, collect-passed}
 use Rattle.machine.specs.Machine as Plain
 use Rattle.machine.specs.Machine.{Transaction, Session, session, L, Step}
 use Rattle.refinement.specs.Represents.{OfLayout, Represents, Simulates}
-use Rattle.refinement.proofs.Tests.{by-cond, cond-both}
 use Rattle.refinement.proofs.Represented.{machineOf}
-use Rattle.refinement.proofs.Formed.{Formed, formed, of-layout, few, studio-known}
-use Rattle.refinement.proofs.Rows.{memory-passes, unless-by, unless-both, UsedSession, read-passed, collect-passed}
 use Rattle.refinement.proofs.Sessions.{SessionBytes, request-bytes, empty-bytes, empty-request, own-bytes, own-sequence, length-sessions, sessions-form, shown, sessions-shown, session-of}
+use Rattle.refinement.proofs.Arrays.{Arrays, arrays, formed, of-layout}
 
 -- memory with other bytes of session s
 abbrev with : Memory → ℕ → ℕ → List ℕ → Memory
 with m s n x = withSessions m (withSession (m .sessions) s (withSequence n x))
 
-module _ (c : Control) (m : Memory) (s : ℕ) (w : UsedSession s (studioOf c s)) (f : Formed c m) where
+module _ (c : Control) (m : Memory) (s : ℕ) (w : KnownSession s (studioOf c s)) (a : Arrays c) (f : Formed c m) where
   module _ (n : ℕ) (x : List ℕ) (b : SessionBytes x) (l : n ≤ c .commits) where
     session-formed : Formed c (with m s n x)
     session-formed = record {
@@ -44,7 +46,7 @@ module _ (c : Control) (m : Memory) (s : ℕ) (w : UsedSession s (studioOf c s))
     session-represents : (log : List Transaction) (sessions : List Session) → Represents c m (machineOf c log sessions)
         → Represents c (with m s n x) (machineOf c log (set sessions (s - 1) (session (studioOf c s) n (requestOf x))))
     session-represents log sessions h = record {
-      form = of-layout _ _ session-formed;
+      form = of-layout _ _ a session-formed;
       studios = refl;
       log = h .log;
       sent = refl;
@@ -62,7 +64,7 @@ module _ (c : Control) (m : Memory) (s : ℕ) (w : UsedSession s (studioOf c s))
     unfolding Bytes.block Bytes.answerFrom numberAfter
     block-keeps behind h =
         by-cond (λ (r : After). OfLayout (r .control) (r .memory)) (leb (sequenceOf (sessionAt (m .sessions) s)) (nth (c .applied) (studioOf c s))) _ _
-        (λ _. of-layout _ _ (session-formed _ x b (own-sequence c (m .sessions) (f .sessions) s w))) (λ _. h)
+        (λ _. of-layout _ _ a (session-formed _ x b (own-sequence c (m .sessions) (f .sessions) s w))) (λ _. h)
 
     block-simulates : requestOf x ≡ nothing → (log : List Transaction) (sessions : List Session) → Represents c m (machineOf c log sessions)
         → (behind : After) (waits : Step) → Simulates behind waits
@@ -80,8 +82,8 @@ module _ (c : Control) (m : Memory) (s : ℕ) (w : UsedSession s (studioOf c s))
         copy : copyAt (m .library) (studioOf c s) ≡ L log (nth (c .applied) (studioOf c s))
         copy =
             let n = w .used in
-            let a = few c m f in
-            let d = studio-known c m f s (w .high) in
+            let k = few c m f in
+            let d = studio-known c m f s (a .sessionStudios) (w .high) in
             h .replicas (studioOf c s) (omega arith) (omega arith)
 
 module _ (c : Control) (m : Memory) (s : ℕ) (request out : List ℕ) where
@@ -91,11 +93,11 @@ module _ (c : Control) (m : Memory) (s : ℕ) (request out : List ℕ) where
   pub read-keeps : OfLayout c m → OfLayout (Bytes.read c m s request out .control) (Bytes.read c m s request out .memory)
   unfolding Bytes.read readRowsOf
   read-keeps h =
-      rw (memory-passes c m readRowsOf h)
-      (unless-by (λ (r : After). OfLayout (r .control) (r .memory)) (stopped readRowsOf) _ _ (λ _. h)
+      rw (memory-passes c m readRowsOf (h .lengths) (h .layout))
+      (unless-case (λ (r : After). OfLayout (r .control) (r .memory)) (stopped readRowsOf) _ _ (λ _ _. h)
       (λ e. let p = read-passed _ _ _ _ _ e in
-      block-keeps c m s (p .who) f (requestOf request) _ (own-bytes c (m .sessions) (f .sessions) s (p .who)) out _
-      (of-layout _ _ (session-formed c m s (p .who) f _ request (request-bytes request (p .form))
+      block-keeps c m s (p .who) (arrays c m h) f (requestOf request) _ (own-bytes c (m .sessions) (f .sessions) s (p .who)) out _
+      (of-layout _ _ (arrays c m h) (session-formed c m s (p .who) (arrays c m h) f _ request (request-bytes request (p .form))
       (own-sequence c (m .sessions) (f .sessions) s (p .who))))))
     where
       f : Formed c m
@@ -105,15 +107,15 @@ module _ (c : Control) (m : Memory) (s : ℕ) (request out : List ℕ) where
       → Simulates (Bytes.read c m s request out) (Plain.read (machineOf c log sessions) s request out)
   unfolding Bytes.read Plain.read Plain.wait readRowsOf
   read-simulates log sessions h =
-      rw (memory-passes c m readRowsOf (h .form), session-of c m _ h s)
+      rw (memory-passes c m readRowsOf (h .form .lengths) (h .form .layout), session-of c m _ h s)
       (unless-both Simulates (stopped readRowsOf) _ _ _ _
       (λ _. record { answer = refl; output = refl; next = h })
       (λ e. let p = read-passed _ _ _ _ _ e in
-      block-simulates c m s (p .who) f (requestOf request) _ (own-bytes c (m .sessions) (f .sessions) s (p .who)) out (p .idle) log sessions h _ _
+      block-simulates c m s (p .who) (arrays c m (h .form)) f (requestOf request) _ (own-bytes c (m .sessions) (f .sessions) s (p .who)) out (p .idle) log sessions h _ _
       (record {
         answer = refl;
         output = refl;
-        next = session-represents c m s (p .who) f _ request (request-bytes request (p .form))
+        next = session-represents c m s (p .who) (arrays c m (h .form)) f _ request (request-bytes request (p .form))
             (own-sequence c (m .sessions) (f .sessions) s (p .who)) log sessions h;
       })))
     where
@@ -127,18 +129,18 @@ module _ (c : Control) (m : Memory) (s : ℕ) (out : List ℕ) where
   pub collect-keeps : OfLayout c m → OfLayout (Bytes.collect c m s out .control) (Bytes.collect c m s out .memory)
   unfolding Bytes.collect collectRowsOf
   collect-keeps h =
-      rw (memory-passes c m collectRowsOf h)
-      (unless-by (λ (r : After). OfLayout (r .control) (r .memory)) (stopped collectRowsOf) _ _ (λ _. h)
-      (λ e. block-keeps c m s (collect-passed _ _ _ _ e) (formed c m h) _ (zeros 80) empty-bytes out _ h))
+      rw (memory-passes c m collectRowsOf (h .lengths) (h .layout))
+      (unless-case (λ (r : After). OfLayout (r .control) (r .memory)) (stopped collectRowsOf) _ _ (λ _ _. h)
+      (λ e. block-keeps c m s (collect-passed _ _ _ _ e .who) (arrays c m h) (formed c m h) _ (zeros 80) empty-bytes out _ h))
 
   pub collect-simulates : (log : List Transaction) (sessions : List Session) → Represents c m (machineOf c log sessions)
       → Simulates (Bytes.collect c m s out) (Plain.collect (machineOf c log sessions) s out)
   unfolding Bytes.collect Plain.collect Plain.wait collectRowsOf
   collect-simulates log sessions h =
-      rw (memory-passes c m collectRowsOf (h .form), session-of c m _ h s)
+      rw (memory-passes c m collectRowsOf (h .form .lengths) (h .form .layout), session-of c m _ h s)
       (unless-both Simulates (stopped collectRowsOf) _ _ _ _
       (λ _. record { answer = refl; output = refl; next = h })
-      (λ e. block-simulates c m s (collect-passed _ _ _ _ e) (formed c m (h .form)) _ (zeros 80) empty-bytes out empty-request log sessions h _ _
+      (λ e. block-simulates c m s (collect-passed _ _ _ _ e .who) (arrays c m (h .form)) (formed c m (h .form)) _ (zeros 80) empty-bytes out empty-request log sessions h _ _
       (record { answer = refl; output = refl; next = rw same h })))
     where
       -- a collect that waits again stores what is stored

@@ -9,6 +9,8 @@ use native.Mathlib.Decide.{ℕ-discrete}
 use lib.ListN.{length, getD, length-set}
 use lib.Seq.{getD-set-same, getD-set-other}
 use Rattle.carts.specs.Operation.{actAll}
+use Rattle.carts.proofs.OperationLaws.{Operations}
+use Rattle.carts.proofs.KeepLaws.{Copy, actAll-copy}
 use Rattle.replication.specs.Memory.{Memory, copyAt, withCopy, nth, studioOf}
 use Rattle.replication.specs.Log.{firstRecord, transactionAt, walk}
 use Rattle.replication.specs.Layout.{replicaForm, sessionForm, countsForm}
@@ -16,16 +18,18 @@ use Rattle.replication.specs.Rows.{Row, stopped, refreshRows}
 use Rattle.replication.specs.Calls as Bytes
 use Rattle.replication.specs.Calls.{After, withApplied, withLibrary, transactionAfter}
 use Rattle.replication.specs.declared.control.Control.{Control}
+use Rattle.replication.proofs.CopyLaws.{length-copyAt, length-withCopy, copy-same, copy-other}
+use Rattle.replication.proofs.Chains.{placed, placed-operations}
+use Rattle.replication.proofs.Formed.{Formed, Counts, counts-of, of-counts, few, studio-copy, copy-in-use}
+use Rattle.replication.proofs.RowLaws.{memory-passes, unless-case, unless-both}
+use Rattle.replication.proofs.Accepted.{RefreshAccepted, refresh-passed}
 use Rattle.machine.specs.Machine as Plain
 use Rattle.machine.specs.Machine.{Transaction, Session, L}
+use Rattle.machine.proofs.Libraries.{L-next}
 use Rattle.refinement.specs.Represents.{OfLayout, handedIn, transactionsFrom, Represents, Simulates}
-use Rattle.refinement.proofs.Effect.{Operations, sizes, Copy, actAll-copy}
-use Rattle.refinement.proofs.Copies.{length-copyAt, length-withCopy, copy-same, copy-other}
-use Rattle.refinement.proofs.Chains.{placed, placed-operations}
-use Rattle.refinement.proofs.Transactions.{length-transactions, transactions-at, handed-actAll, L-step}
+use Rattle.refinement.proofs.Transactions.{length-transactions, transactions-at, handed-actAll}
 use Rattle.refinement.proofs.Represented.{machineOf}
-use Rattle.refinement.proofs.Formed.{Formed, formed, of-layout, Counts, counts-of, of-counts, few, studio-copy, copy-in-use}
-use Rattle.refinement.proofs.Rows.{memory-passes, unless-by, unless-both, Refreshable, refresh-passed}
+use Rattle.refinement.proofs.Arrays.{Arrays, arrays, formed, of-layout}
 
 -- the copy of studio i, and the library with it, after transaction applied + 1
 abbrev refreshedCopy : Control → Memory → ℕ → List ℕ
@@ -39,7 +43,7 @@ module _ (c : Control) (m : Memory) (i : ℕ) where
   rows = refreshRows (c .studios) i (nth (c .sent) i) (nth (c .applied) i)
 
   -- a refresh that no row stops
-  module _ (f : Formed c m) (p : Refreshable (c .studios) i (nth (c .sent) i) (nth (c .applied) i)) where
+  module _ (a : Arrays c) (f : Formed c m) (p : RefreshAccepted (c .studios) i (nth (c .sent) i) (nth (c .applied) i)) where
     four : i ≤ 4
     four = let n = few c m f in let w = p .who in omega arith
 
@@ -69,22 +73,20 @@ module _ (c : Control) (m : Memory) (i : ℕ) where
 
     same-applied : nth (withApplied c i (nth (c .applied) i + 1) .applied) i ≡ nth (c .applied) i + 1
     unfolding withApplied
-    same-applied = let n = f .control .applied in let k = four in let w = p .who in getD-set-same (c .applied) (i - 1) _ 0 (omega arith)
+    same-applied = let n = a .applied in let k = four in let w = p .who in getD-set-same (c .applied) (i - 1) _ 0 (omega arith)
 
     other-applied : (j : ℕ) → 1 ≤ j → j ≢ i → nth (withApplied c i (nth (c .applied) i + 1) .applied) j ≡ nth (c .applied) j
     unfolding withApplied
     other-applied j l ne = let w = p .who in getD-set-other (c .applied) (i - 1) (j - 1) _ 0 (omega arith)
 
+    refreshed-arrays : Arrays (withApplied c i (nth (c .applied) i + 1))
+    unfolding withApplied
+    refreshed-arrays = record { sessionStudios = a .sessionStudios; sent = a .sent; applied = length-set (c .applied) (i - 1) (nth (c .applied) i + 1) ∙ a .applied }
+
     refreshed-formed : Formed (withApplied c i (nth (c .applied) i + 1)) (refreshed c m i)
     unfolding withApplied firstRecord sessionForm studioOf countsForm
     refreshed-formed = record {
-      control = record {
-        sessionStudios = f .control .sessionStudios;
-        sent = f .control .sent;
-        applied = length-set (c .applied) (i - 1) _ ∙ f .control .applied;
-        studios = f .control .studios;
-        places = f .control .places;
-      };
+      control = f .control;
       library = record { size = length-withCopy (m .library) (f .library .size) i four _ (copy .size); copies = λ j g. copies j g (ℕ-discrete j i) };
       log = f .log;
       sessions = f .sessions;
@@ -99,11 +101,11 @@ module _ (c : Control) (m : Memory) (i : ℕ) where
         count j l g (yes e) =
             let k = counted in
             let n = p .behind in
-            let a : nth (c .applied) i + 1 ≤ nth (c .sent) i = omega arith in
+            let o : nth (c .applied) i + 1 ≤ nth (c .sent) i = omega arith in
             let b : nth (c .sent) i - (nth (c .applied) i + 1) ≤ 32 = omega arith in
             rw e
             (of-counts (withApplied c i (nth (c .applied) i + 1)) i (p .who .high)
-            (record { order = rw same-applied a; known = k .known; near = rw same-applied b }))
+            (record { order = rw same-applied o; known = k .known; near = rw same-applied b }))
         count j l g (no ne) = rw (other-applied j l ne) (f .counts j l g)
 
     -- the copy stands for one transaction more
@@ -116,41 +118,41 @@ module _ (c : Control) (m : Memory) (i : ℕ) where
         let t : getD log k [] ≡ map handedIn (transactionAt (m .log) (walk k (m .log) (firstRecord c)))
         = ap (λ (z : List Transaction). getD z k []) e ∙ transactions-at (c .commits) (m .log) (firstRecord c) k ready in
         ap (λ (z : List ℕ). actAll z (transactionAfter c (m .log) k)) h
-        ∙ sym (L-step log k n ∙ ap (actAll (L log k)) t ∙ handed-actAll (L log k) (transactionAfter c (m .log) k) (sizes _ operations))
+        ∙ sym (L-next log k n ∙ ap (actAll (L log k)) t ∙ handed-actAll (L log k) (transactionAfter c (m .log) k) (operations .sizes))
 
   pub refresh-keeps : OfLayout c m → OfLayout (Bytes.refresh c m i .control) (Bytes.refresh c m i .memory)
   unfolding Bytes.refresh rows
   refresh-keeps h =
-      rw (memory-passes c m rows h)
-      (unless-by (λ (r : After). OfLayout (r .control) (r .memory)) (stopped rows) _ _ (λ _. h)
-      (λ e. of-layout _ _ (refreshed-formed (formed c m h) (refresh-passed _ _ _ _ e))))
+      rw (memory-passes c m rows (h .lengths) (h .layout))
+      (unless-case (λ (r : After). OfLayout (r .control) (r .memory)) (stopped rows) _ _ (λ _ _. h)
+      (λ e. let p = refresh-passed _ _ _ _ e in of-layout _ _ (refreshed-arrays (arrays c m h) (formed c m h) p) (refreshed-formed (arrays c m h) (formed c m h) p)))
 
   pub refresh-simulates : (log : List Transaction) (sessions : List Session) → Represents c m (machineOf c log sessions)
       → Simulates (Bytes.refresh c m i) (Plain.refresh (machineOf c log sessions) i)
   unfolding Bytes.refresh Plain.refresh rows withApplied firstRecord studioOf
   refresh-simulates log sessions h =
-      rw (memory-passes c m rows (h .form))
+      rw (memory-passes c m rows (h .form .lengths) (h .form .layout))
       (unless-both Simulates (stopped rows) _ _ _ _
       (λ _. record { answer = refl; output = refl; next = h })
-      (λ e. record { answer = refl; output = refl; next = next (formed c m (h .form)) (refresh-passed _ _ _ _ e) }))
+      (λ e. record { answer = refl; output = refl; next = next (arrays c m (h .form)) (formed c m (h .form)) (refresh-passed _ _ _ _ e) }))
     where
       n : ℕ
       n = nth (c .applied) i + 1
 
-      next : Formed c m → Refreshable (c .studios) i (nth (c .sent) i) (nth (c .applied) i)
+      next : Arrays c → Formed c m → RefreshAccepted (c .studios) i (nth (c .sent) i) (nth (c .applied) i)
           → Represents (withApplied c i n) (refreshed c m i) (machineOf (withApplied c i n) log sessions)
-      next f p = record {
-        form = of-layout _ _ (refreshed-formed f p);
+      next a f p = record {
+        form = of-layout _ _ (refreshed-arrays a f p) (refreshed-formed a f p);
         studios = refl;
         log = h .log;
         sent = refl;
         applied = refl;
         count = h .count;
         sessions = h .sessions;
-        primary = other-copy f p 0 (let w = p .who in omega arith) ∙ h .primary;
+        primary = other-copy a f p 0 (let w = p .who in omega arith) ∙ h .primary;
         replicas = λ j l g. replica j l g (ℕ-discrete j i);
       }
         where
           replica : (j : ℕ) → 1 ≤ j → j ≤ 4 → Dec (j ≡ i) → copyAt (refreshed c m i .library) j ≡ L log (nth (withApplied c i n .applied) j)
-          replica j l g (yes e) = rw (e, same-applied f p) (same-copy f p ∙ level f p log (h .log) (h .replicas i (p .who .low) (four f p)))
-          replica j l g (no ne) = rw (other-applied f p j l ne) (other-copy f p j ne ∙ h .replicas j l g)
+          replica j l g (yes e) = rw (e, same-applied a f p) (same-copy a f p ∙ level a f p log (h .log) (h .replicas i (p .who .low) (four a f p)))
+          replica j l g (no ne) = rw (other-applied a f p j l ne) (other-copy a f p j ne ∙ h .replicas j l g)

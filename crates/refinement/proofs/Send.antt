@@ -14,29 +14,29 @@ use Rattle.replication.specs.Rows.{Row, stopped, sendRows}
 use Rattle.replication.specs.Calls as Bytes
 use Rattle.replication.specs.Calls.{After, withSent}
 use Rattle.replication.specs.declared.control.Control.{Control}
+use Rattle.replication.proofs.Formed.{Formed, counts-of, of-counts, few}
+use Rattle.replication.proofs.RowLaws.{memory-passes, unless-case, unless-both}
+use Rattle.replication.proofs.Accepted.{SendAccepted, send-passed}
 use Rattle.machine.specs.Machine as Plain
 use Rattle.machine.specs.Machine.{Transaction, Session}
 use Rattle.refinement.specs.Represents.{OfLayout, Represents, Simulates}
 use Rattle.refinement.proofs.Represented.{machineOf, log-length}
-use Rattle.refinement.proofs.Formed.{Formed, formed, of-layout, counts-of, of-counts, few}
-use Rattle.refinement.proofs.Rows.{memory-passes, unless-by, unless-both, Sendable, send-passed}
+use Rattle.refinement.proofs.Arrays.{Arrays, arrays, formed, of-layout}
 
 module _ (c : Control) (m : Memory) (i : ℕ) where
   rows : List Row
   rows = sendRows (c .studios) i (nth (c .sent) i) (nth (c .applied) i) (c .commits)
 
   -- control after a send that no row stops
-  sent-formed : Formed c m → Sendable (c .studios) i (nth (c .sent) i) (nth (c .applied) i) (c .commits)
+  sent-arrays : Arrays c → Arrays (withSent c i (nth (c .sent) i + 1))
+  unfolding withSent
+  sent-arrays a = record { sessionStudios = a .sessionStudios; sent = length-set (c .sent) (i - 1) (nth (c .sent) i + 1) ∙ a .sent; applied = a .applied }
+
+  sent-formed : Arrays c → Formed c m → SendAccepted (c .studios) i (nth (c .sent) i) (nth (c .applied) i) (c .commits)
       → Formed (withSent c i (nth (c .sent) i + 1)) m
   unfolding withSent firstRecord sessionForm studioOf countsForm
-  sent-formed f p = record {
-    control = record {
-      sessionStudios = f .control .sessionStudios;
-      sent = length-set (c .sent) (i - 1) (nth (c .sent) i + 1) ∙ f .control .sent;
-      applied = f .control .applied;
-      studios = f .control .studios;
-      places = f .control .places;
-    };
+  sent-formed a f p = record {
+    control = f .control;
     library = f .library;
     log = f .log;
     sessions = f .sessions;
@@ -51,11 +51,11 @@ module _ (c : Control) (m : Memory) (i : ℕ) where
           let w = p .who in
           let q = few c m f in
           let k = counts-of c i (w .high) (f .counts i (w .low) (omega arith)) in
-          let same : getD (set (c .sent) (i - 1) n) (i - 1) 0 ≡ n = getD-set-same (c .sent) (i - 1) n 0 (let k = f .control .sent in omega arith) in
-          let a : nth (c .applied) i ≤ n = omega arith in
-          let b : n ≤ c .commits = let x = p .more in omega arith in
+          let same : getD (set (c .sent) (i - 1) n) (i - 1) 0 ≡ n = getD-set-same (c .sent) (i - 1) n 0 (let k = a .sent in omega arith) in
+          let o : nth (c .applied) i ≤ n = omega arith in
+          let b : n ≤ c .commits = let x = p .unsent in omega arith in
           let d : n - nth (c .applied) i ≤ 32 = let x = p .near in omega arith in
-          rw e (of-counts (withSent c i n) i (w .high) (record { order = rw same a; known = rw same b; near = rw same d }))
+          rw e (of-counts (withSent c i n) i (w .high) (record { order = rw same o; known = rw same b; near = rw same d }))
       count j l g (no ne) =
           let w = p .who in
           let other : getD (set (c .sent) (i - 1) n) (j - 1) 0 ≡ getD (c .sent) (j - 1) 0 = getD-set-other (c .sent) (i - 1) (j - 1) n 0 (omega arith) in
@@ -64,22 +64,22 @@ module _ (c : Control) (m : Memory) (i : ℕ) where
   pub send-keeps : OfLayout c m → OfLayout (Bytes.send c m i .control) (Bytes.send c m i .memory)
   unfolding Bytes.send rows
   send-keeps h =
-      rw (memory-passes c m rows h)
-      (unless-by (λ (r : After). OfLayout (r .control) (r .memory)) (stopped rows) _ _ (λ _. h)
-      (λ e. of-layout _ _ (sent-formed (formed c m h) (send-passed _ _ _ _ _ e))))
+      rw (memory-passes c m rows (h .lengths) (h .layout))
+      (unless-case (λ (r : After). OfLayout (r .control) (r .memory)) (stopped rows) _ _ (λ _ _. h)
+      (λ e. of-layout _ _ (sent-arrays (arrays c m h)) (sent-formed (arrays c m h) (formed c m h) (send-passed _ _ _ _ _ e))))
 
   pub send-simulates : (log : List Transaction) (sessions : List Session) → Represents c m (machineOf c log sessions)
       → Simulates (Bytes.send c m i) (Plain.send (machineOf c log sessions) i)
   unfolding Bytes.send Plain.send rows withSent firstRecord studioOf
   send-simulates log sessions h =
-      rw (memory-passes c m rows (h .form), log-length c m _ h)
+      rw (memory-passes c m rows (h .form .lengths) (h .form .layout), log-length c m _ h)
       (unless-both Simulates (stopped rows) _ _ _ _
       (λ _. record { answer = refl; output = refl; next = h })
       (λ e. record {
         answer = refl;
         output = refl;
         next = record {
-          form = of-layout _ _ (sent-formed (formed c m (h .form)) (send-passed _ _ _ _ _ e));
+          form = of-layout _ _ (sent-arrays (arrays c m (h .form))) (sent-formed (arrays c m (h .form)) (formed c m (h .form)) (send-passed _ _ _ _ _ e));
           studios = refl;
           log = h .log;
           sent = refl;

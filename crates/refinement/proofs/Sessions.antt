@@ -11,20 +11,21 @@ use lib.Dec.{leb, eqb}
 use lib.ListN.{length, getD, set, List·getD-eq-default, drop-of-length-le}
 use lib.Seq.{getD-set-same, getD-set-other}
 use Rattle.carts.specs.Bytes.{zeros, part, byte, u16, u16Bytes, all, every, allZero}
+use Rattle.carts.proofs.TestLaws.{all-at, all-set, all-cons, all-nil}
+use Rattle.carts.proofs.PartLaws.{length-over}
+use Rattle.carts.proofs.ZeroLaws.{zero-part}
+use Rattle.carts.proofs.FieldLaws.{bytes, by-fields}
+use Rattle.carts.proofs.CellLaws.{length-cell, length-cells, cell-same, cell-other}
 use Rattle.replication.specs.Memory.{Memory, sessionAt, withSession, sequenceOf, withSequence, studioOf}
 use Rattle.replication.specs.Request.{nothing, numbersIn, requestOf, numbersForm, requestFields, requestForm}
 use Rattle.replication.specs.Layout.{waitingForm, sessionForm}
 use Rattle.replication.specs.Calls.{committed}
 use Rattle.replication.specs.declared.control.Control.{Control}
+use Rattle.replication.proofs.Accepted.{KnownSession}
+use Rattle.replication.proofs.Formed.{SessionsFormed}
 use Rattle.machine.specs.Machine.{Session, session, Machine, sessionOf}
 use Rattle.refinement.specs.Represents.{Represents}
-use Rattle.refinement.proofs.Tests.{all-at, all-set, all-cons, all-nil}
-use Rattle.refinement.proofs.Parts.{length-over}
-use Rattle.refinement.proofs.Zeros.{zero-part}
-use Rattle.refinement.proofs.Fields.{bytes, by-fields}
-use Rattle.refinement.proofs.Cells.{length-cell, length-cells, cell-same, cell-other}
-use Rattle.refinement.proofs.Rows.{UsedSession}
-use Rattle.refinement.proofs.Formed.{SessionsFormed, formed}
+use Rattle.refinement.proofs.Arrays.{formed}
 
 -- 80 bytes of a session in use, but for their sequence number
 pub record SessionBytes (x : List ℕ) : Type 0 where
@@ -52,7 +53,7 @@ module _ (n : ℕ) (x : List ℕ) (l : 16 ≤ length x) where
 
 length-withSequence : (n : ℕ) (x : List ℕ) → length x ≡ 80 → length (withSequence n x) ≡ 80
 unfolding withSequence u16Bytes
-length-withSequence n x e = length-over x 2 2 (n % 256 ∷ n / 256 ∷ []) refl (omega arith) ∙ e
+length-withSequence n x e = length-over x 2 2 (n % 256 ∷ n / 256 ∷ []) (omega arith) refl ∙ e
 
 -- the form of a session that is in use
 tests : Control → List ℕ → List Bool
@@ -121,7 +122,7 @@ abbrev pub shown : Control → List ℕ → ℕ → Session
 shown c memory s = session (studioOf c s) (sequenceOf (sessionAt memory s)) (requestOf (sessionAt memory s))
 
 -- the bytes of session s, in use
-module _ (c : Control) (memory : List ℕ) (f : SessionsFormed c memory) (s : ℕ) (w : UsedSession s (studioOf c s)) where
+module _ (c : Control) (memory : List ℕ) (f : SessionsFormed c memory) (s : ℕ) (w : KnownSession s (studioOf c s)) where
   pub own-bytes : SessionBytes (sessionAt memory s)
   unfolding sessionAt
   own-bytes = session-bytes c s (w .used) _ (length-cell 16 memory (f .size) s (w .low) (w .high)) (f .forms s (w .low) (w .high))
@@ -130,7 +131,7 @@ module _ (c : Control) (memory : List ℕ) (f : SessionsFormed c memory) (s : �
   own-sequence = sequence-known c s (w .used) _ (f .forms s (w .low) (w .high))
 
 -- session s replaced
-module _ (c : Control) (memory : List ℕ) (k : length memory ≡ 1280) (s : ℕ) (w : UsedSession s (studioOf c s)) (n : ℕ) (x : List ℕ) (b : SessionBytes x) where
+module _ (c : Control) (memory : List ℕ) (k : length memory ≡ 1280) (s : ℕ) (w : KnownSession s (studioOf c s)) (n : ℕ) (x : List ℕ) (b : SessionBytes x) where
   same : sessionAt (withSession memory s (withSequence n x)) s ≡ withSequence n x
   unfolding sessionAt withSession
   same = cell-same 16 memory k s (w .low) (w .high) (withSequence n x) (length-withSequence n x (b .size))
@@ -181,6 +182,6 @@ session-of c m M h (suc s) = go (decLe (suc s) 16)
     go (no g) =
         let f = formed c m (h .form) in
         let a : length (M .sessions) ≤ suc s - 1 = let n = h .count in omega arith in
-        let b : length (c .«session_studios») ≤ suc s - 1 = let n = f .control .sessionStudios in omega arith in
+        let b : length (c .«session_studios») ≤ suc s - 1 = let n = h .form .sessionStudios in omega arith in
         let d : length (m .sessions) ≤ 80 * (suc s - 1) = let n = f .sessions .size in omega arith in
         rw (List·getD-eq-default (M .sessions) (session 0 0 nothing) a, List·getD-eq-default (c .«session_studios») 0 b, drop-of-length-le (m .sessions) d)

@@ -1,31 +1,33 @@
 -- An accepted setup leaves bytes that stand for the plain machine's fresh state. That fresh memory is zeros is used here only.
 use mathlib.Core.Path.{_≡_, refl, sym, ap, _∙_}
-use mathlib.Core.Bool.{Bool, true, false, cond}
-use mathlib.Core.List.{List, [], _∷_}
-use Prim.Native.Nat.{ℕ, zero, _+_, _*_, _-_, _≤_}
+use mathlib.Core.Bool.{Bool, true, cond}
+use mathlib.Core.List.{List, _∷_}
+use Prim.Native.Nat.{ℕ, zero, _*_, _-_, _≤_}
 use native.Mathlib.Omega.{arith}
-use borrow.Author.Tests.{le-leb, eqb-true, eq-eqb, not-false}
+use borrow.Author.Tests.{le-leb, eq-eqb}
 use lib.Dec.{leb, eqb}
 use lib.ListN.{length, length-map, List·getD-map}
 use Rattle.carts.specs.Bytes.{zeros, u16, within, all, every}
-use Rattle.carts.specs.Cart.{cartAt}
+use Rattle.carts.proofs.TestLaws.{by-cond, all-cons, all-nil, within-low, within-high}
+use Rattle.carts.proofs.ZeroLaws.{length-zeros, zero-zeros, part-zeros, zeros-at, zero-drop}
+use Rattle.carts.proofs.KeepLaws.{copy-empty}
 use Rattle.replication.specs.Answer.{done}
 use Rattle.replication.specs.Memory.{Memory, lengthsForm, copyAt, sessionAt, sequenceOf, studioOf}
-use Rattle.replication.specs.Log.{firstRecord, chainForm, freshLog}
+use Rattle.replication.specs.Log.{firstRecord, freshLog}
 use Rattle.replication.specs.Request.{nothing, requestOf}
 use Rattle.replication.specs.Layout.{replicaForm, sessionForm, countsForm}
 use Rattle.replication.specs.Rows.{stopped, unless, lengthsRow, setupRows}
-use Rattle.replication.specs.Calls.{After, after, controlOf, freshMemory, setup}
+use Rattle.replication.specs.Calls.{After, controlOf, freshMemory, setup}
 use Rattle.replication.specs.declared.control.Control.{Control}
+use Rattle.replication.proofs.Formed.{Formed}
+use Rattle.replication.proofs.RowLaws.{unless-case}
+use Rattle.replication.proofs.Accepted.{setup-passed}
+use Rattle.replication.proofs.Chains.{end-chain}
 use Rattle.machine.specs.Machine.{session, fresh}
 use Rattle.refinement.specs.Represents.{transactionsFrom, Represents}
-use Rattle.refinement.proofs.Tests.{all-at, all-cons, all-nil, within-low, within-high}
-use Rattle.refinement.proofs.Zeros.{length-zeros, zeros-zero, part-zeros, nth-zeros, zero-drop}
-use Rattle.refinement.proofs.Effect.{Copy, copy-of, zeros-cart}
 use Rattle.refinement.proofs.Transactions.{L-nil}
-use Rattle.refinement.proofs.Formed.{Formed, of-layout}
-use Rattle.refinement.proofs.Rows.{unless-by, passed}
 use Rattle.refinement.proofs.Sessions.{empty-bytes, empty-request}
+use Rattle.refinement.proofs.Arrays.{Arrays, of-layout}
 
 -- copies, carts and sessions of zeros
 zeros-copyAt : (i : ℕ) → i ≤ 4 → copyAt (zeros 51200) i ≡ zeros 10240
@@ -36,17 +38,12 @@ zeros-sessionAt : (s : ℕ) → 1 ≤ s → s ≤ 16 → sessionAt (zeros 1280) 
 unfolding sessionAt
 zeros-sessionAt s a b = part-zeros 1280 (80 * (s - 1)) 80 (omega arith)
 
-zeros-copy : Copy (zeros 10240)
-unfolding cartAt
-zeros-copy = copy-of (zeros 10240) (length-zeros 10240) (λ c a b. rw (part-zeros 10240 (80 * (c - 1)) 80 (omega arith)) (zeros-cart c .form))
-
 both : (b x y : Bool) → x ≡ true → y ≡ true → cond b x y ≡ true
-both true x y h g = h
-both false x y h g = g
+both b x y h g = by-cond (λ z. z ≡ true) b x y (λ _. h) (λ _. g)
 
 zeros-replica : (studios i : ℕ) → replicaForm studios i (zeros 10240) ≡ true
 unfolding replicaForm
-zeros-replica studios i = both (leb i studios) _ _ (zeros-copy .form) (zeros-zero 10240)
+zeros-replica studios i = both (leb i studios) _ _ (copy-empty (zeros 10240) (zero-zeros 10240)) (zero-zeros 10240)
 
 zeros-sequence : sequenceOf (zeros 80) ≡ 0
 unfolding zeros sequenceOf u16
@@ -58,33 +55,33 @@ zeros-shown i = rw (zeros-sequence, empty-request)
 zeros-counts : (studios : ℕ) (bytes : List ℕ) (i : ℕ) → countsForm (controlOf studios bytes) i ≡ true
 unfolding countsForm controlOf
 zeros-counts studios bytes i =
-    rw (nth-zeros 4 (i - 1))
+    rw (zeros-at 4 (i - 1))
     (both (leb i studios) _ _ (all-cons _ _ refl (all-cons _ _ refl (all-cons _ _ refl all-nil))) (all-cons _ _ refl (all-cons _ _ refl all-nil)))
-
-no-chain : (log : List ℕ) → chainForm 0 log 0 1 (0 + 1) ≡ true
-unfolding chainForm all
-no-chain log = refl
 
 zeros-session : (c : Control) (s : ℕ) → sessionForm c s (zeros 80) ≡ true
 unfolding sessionForm
 zeros-session c s =
-    both (eqb (studioOf c s) 0) _ _ (zeros-zero 80) (all-cons _ _ sequence (all-cons _ _ (empty-bytes .zero) (all-cons _ _ (empty-bytes .form) all-nil)))
+    both (eqb (studioOf c s) 0) _ _ (zero-zeros 80) (all-cons _ _ sequence (all-cons _ _ (empty-bytes .zero) (all-cons _ _ (empty-bytes .form) all-nil)))
   where
     sequence : leb (sequenceOf (zeros 80)) (c .commits) ≡ true
     sequence = rw zeros-sequence (le-leb 0 (c .commits) (omega arith))
 
 module _ (studios : ℕ) (bytes : List ℕ) (few : within 1 4 studios ≡ true) (n : length bytes ≡ 16) (places : every (λ b. leb b studios) bytes ≡ true) where
+  fresh-arrays : Arrays (controlOf studios bytes)
+  unfolding controlOf
+  fresh-arrays = record { sessionStudios = n; sent = length-zeros 4; applied = length-zeros 4 }
+
   fresh-formed : Formed (controlOf studios bytes) freshMemory
   unfolding controlOf freshMemory freshLog firstRecord
   fresh-formed = record {
-    control = record { sessionStudios = n; sent = length-zeros 4; applied = length-zeros 4; studios = few; places = places };
+    control = record { studios = few; places = places };
     library = record { size = length-zeros 51200; copies = copies };
     log = record {
       size = length-zeros 40960;
       used = omega arith;
       records = λ r a b. let z : ⊥ = omega arith in absurd z;
-      free = zero-drop (80 * 0) (zeros 40960) (zeros-zero 40960);
-      chain = chain;
+      free = zero-drop (80 * 0) (zeros 40960) (zero-zeros 40960);
+      chain = end-chain (zeros 40960) 0 1 refl;
     };
     sessions = record { size = length-zeros 1280; forms = λ s a b. ap (sessionForm _ s) (zeros-sessionAt s a b) ∙ zeros-session _ s };
     counts = λ i a b. zeros-counts studios bytes i;
@@ -93,13 +90,10 @@ module _ (studios : ℕ) (bytes : List ℕ) (few : within 1 4 studios ≡ true) 
       copies : (i : ℕ) → i ≤ 4 → replicaForm studios i (copyAt (zeros 51200) i) ≡ true
       copies i l = ap (replicaForm studios i) (zeros-copyAt i l) ∙ zeros-replica studios i
 
-      chain : chainForm 0 (zeros 40960) 0 1 (0 + 1) ≡ true
-      chain = no-chain (zeros 40960)
-
   fresh-represents : Represents (controlOf studios bytes) freshMemory (fresh studios bytes)
   unfolding controlOf freshMemory freshLog fresh transactionsFrom studioOf
   fresh-represents = record {
-    form = of-layout _ _ fresh-formed;
+    form = of-layout _ _ fresh-arrays fresh-formed;
     studios = refl;
     log = refl;
     sent = refl;
@@ -120,25 +114,17 @@ pub record Fresh (studios : ℕ) (bytes : List ℕ) (r : After) : Type 0 where
 
 pub setup-fresh : (before : Memory) (studios : ℕ) (bytes : List ℕ) → setup before studios bytes .answer ≡ done 0
     → Fresh studios bytes (setup before studios bytes)
-unfolding setup setupRows lengthsRow
+unfolding setup
 setup-fresh before studios bytes =
-    unless-by (λ (r : After). r .answer ≡ done 0 → Fresh studios bytes r) (stopped (lengthsRow before ∷ setupRows studios bytes)) _ _
-    (λ k e. let z : _≡_ {A = ℕ} 0 1 = cc in let no : ⊥ = omega arith in absurd no)
-    (λ e _. accepted (not-false (all tests) (passed 14 _ _ (passed 0 _ _ e .1) .0)))
-  where
-    tests : List Bool
-    tests = within 1 4 studios ∷ eqb (length bytes) 16 ∷ every (λ b. leb b studios) bytes ∷ []
-
-    accepted : all tests ≡ true → Fresh studios bytes (after (done 0) (controlOf studios bytes) freshMemory [])
-    accepted t =
-        let few = all-at 0 tests t in
-        let n = eqb-true _ _ (all-at 1 tests t) in
-        record {
-          low = within-low 1 4 studios few;
-          high = within-high 1 4 studios few;
-          places = n;
-          represents = fresh-represents studios bytes few n (all-at 2 tests t);
-        }
+    unless-case (λ (r : After). r .answer ≡ done 0 → Fresh studios bytes r) (stopped (lengthsRow before ∷ setupRows studios bytes)) _ _
+    (λ k _ e. let z : _≡_ {A = ℕ} 0 1 = cc in let no : ⊥ = omega arith in absurd no)
+    (λ e _. let p = setup-passed before studios bytes e in
+    record {
+      low = within-low 1 4 studios (p .few);
+      high = within-high 1 4 studios (p .few);
+      places = p .count;
+      represents = fresh-represents studios bytes (p .few) (p .count) (p .places);
+    })
 
 -- setup accepts what rows 1 and 15 let pass
 pub setup-accepted : (before : Memory) (studios : ℕ) (bytes : List ℕ) → lengthsForm before ≡ true → within 1 4 studios ≡ true → length bytes ≡ 16

@@ -6,9 +6,9 @@ use Prim.Native.Nat.{ℕ, zero, suc, _+_, _-_, _≤_, _<_}
 use native.Mathlib.Omega.{arith}
 use native.Mathlib.Nat.{add-zero}
 use native.Mathlib.Decide.{ℕ-discrete}
-use borrow.Author.Tests.{leb-true, le-leb, eqb-true, eq-eqb, ne-eqb}
+use borrow.Author.Tests.{leb-true, le-leb, eqb-true, eq-eqb}
 use lib.Dec.{leb, eqb}
-use lib.ListN.{length, drop, getD, length-map}
+use lib.ListN.{length, drop, getD}
 use Rattle.carts.specs.Bytes.{within, all, every, pairwise}
 use Rattle.carts.specs.Operation.{operationFields}
 use Rattle.replication.specs.Memory.{recordAt}
@@ -18,7 +18,9 @@ use Rattle.replication.specs.Log.{firstRecord}
 use Rattle.replication.specs.declared.control.Control.{Control}
 use Rattle.replication.proofs.Formed.{Formed}
 use Rattle.replication.proofs.SpanLaws.{chain-cons, chain-zero}
-use Rattle.carts.proofs.TestLaws.{and-left, and-right, all-at, all-cons, all-nil, within-low, within-high, within-of, pairwise-eq, pairwise-refl}
+use Rattle.carts.proofs.CellLaws.{length-cell}
+use Rattle.carts.proofs.OperationLaws.{Operations}
+use Rattle.carts.proofs.TestLaws.{every-map, and-left, and-right, all-at, all-cons, all-nil, within-low, within-high, within-of, pairwise-eq, pairwise-refl}
 
 -- records that follow one another
 pub length-upFrom : (r n : ℕ) → length (upFrom r n) ≡ n
@@ -91,6 +93,15 @@ pub linked-kept : (log log′ : List ℕ) (r k : ℕ) → ((q : ℕ) → r ≤ q
 unfolding Linked
 linked-kept log log′ r zero f g = tt
 linked-kept log log′ r (suc k) f g = (f r (omega arith) (omega arith) ∙ g .0, linked-kept log log′ (r + 1) k (λ q a b. f q (omega arith) (omega arith)) (g .1))
+
+-- no transaction more
+pub chain-end : (log : List ℕ) (first r end : ℕ) → chainForm 0 log first r end ≡ true → r ≡ end
+unfolding chainForm
+chain-end log first r end h = eqb-true r end (all-at 1 (eqb first 0 ∷ eqb r end ∷ []) h)
+
+pub end-chain : (log : List ℕ) (first r : ℕ) → first ≡ 0 → chainForm 0 log first r r ≡ true
+unfolding chainForm
+end-chain log first r e = all-cons _ _ (eq-eqb first 0 e) (all-cons _ _ (eq-eqb r r refl) all-nil)
 
 -- what the layout says of the transaction at record r, with n more after it
 pub record Chained (n : ℕ) (log : List ℕ) (first r end : ℕ) : Type 0 where
@@ -177,10 +188,25 @@ placed (suc n) log first r end h (suc k) l =
     let p = placed n log (nextTransaction log r) (r + x .size) end (x .rest) k (omega arith) in
     rw (x .same) (record { size = p .size; after = omega arith; low = p .low; own = p .own; fits = p .fits })
 
+-- its operations are of their fields where the records are
+pub length-record : (log : List ℕ) (r : ℕ) → length log ≡ 40960 → 1 ≤ r → r ≤ 512 → length (recordAt log r) ≡ 80
+unfolding recordAt
+length-record log r n a b = length-cell 512 log n r a b
+
+pub placed-operations : (log : List ℕ) (used r : ℕ) → length log ≡ 40960 → used ≤ 512 → ((q : ℕ) → 1 ≤ q → q ≤ used → operationFields (recordAt log q) ≡ true)
+    → Placed log 1 (used + 1) r → Operations (transactionAt log r)
+unfolding transactionAt
+placed-operations log used r n u f p = rw (p .own) (record {
+  sizes = each (λ op. eqb (length op) 80) (λ q a b. eq-eqb _ 80 (length-record log q n a (omega arith)));
+  fields = each operationFields (λ q a b. f q a b);
+})
+  where
+    each : (t : List ℕ → Bool) → ((q : ℕ) → 1 ≤ q → q ≤ used → t (recordAt log q) ≡ true) → every t (map (recordAt log) (upFrom r (p .size))) ≡ true
+    each t g = every-map t (recordAt log) (upFrom r (p .size)) ∙ upFrom-every (λ q. t (recordAt log q)) r (p .size) (λ q a b. g q (omega (arith, p .after)) (omega (arith, p .fits)))
+
 -- each transaction takes a record at least
 chain-count : (n : ℕ) (log : List ℕ) (first r end : ℕ) → chainForm n log first r end ≡ true → r + n ≤ end
-unfolding chainForm
-chain-count zero log first r end h = let e : r ≡ end = eqb-true r end (all-at 1 (eqb first 0 ∷ eqb r end ∷ []) h) in omega arith
+chain-count zero log first r end h = let e = chain-end log first r end h in omega arith
 chain-count (suc n) log first r end h =
     let x = chained n log first r end h in
     let l = x .low in

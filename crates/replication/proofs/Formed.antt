@@ -7,7 +7,7 @@ use native.Mathlib.Omega.{arith}
 use borrow.Author.Tests.{leb-true, le-leb, eqb-true, eq-eqb}
 use lib.Dec.{leb, eqb}
 use lib.ListN.{length, drop, getD}
-use Rattle.carts.specs.Bytes.{part, within, all, every, allZero, eachPart}
+use Rattle.carts.specs.Bytes.{within, all, every, allZero}
 use Rattle.carts.specs.Cart.{copyForm}
 use Rattle.carts.specs.Operation.{operationFields}
 use Rattle.replication.specs.Memory.{Memory, lengthsForm, copyAt, recordAt, sessionAt, nth, studioOf}
@@ -16,7 +16,7 @@ use Rattle.replication.specs.Layout.{replicaForm, recordForm, sessionFor
 use Rattle.replication.specs.Calls.{committed}
 use Rattle.replication.specs.declared.control.Control.{Control}
 use Rattle.carts.proofs.TestLaws.{all-at, all-set, all-cons, all-nil, every-at, within-high}
-use Rattle.carts.proofs.EachLaws.{each-at, at-each}
+use Rattle.carts.proofs.EachLaws.{each-at, at-each, from-one, to-one}
 
 -- control: S, and the sessions' studios
 abbrev pub ControlFormed : Control → Type 0
@@ -55,17 +55,6 @@ pub record Formed (c : Control) (m : Memory) : Type 0 where
   pub log : LogFormed c (m .log)
   pub sessions : SessionsFormed c (m .sessions)
   pub counts : CountsFormed c
-
--- parts counted from 1
-from-one : (test : ℕ → List ℕ → Bool) (size n : ℕ) (s : List ℕ) → eachPart test size n 1 s ≡ true
-    → (i : ℕ) → 1 ≤ i → i ≤ n → test i (part s (size * (i - 1)) size) ≡ true
-from-one test size n s h i l g =
-    let e : 1 + (i - 1) ≡ i = omega arith in
-    rw e at (each-at test size n 1 s h (i - 1) (omega arith))
-
-to-one : (test : ℕ → List ℕ → Bool) (size n : ℕ) (s : List ℕ)
-    → ((i : ℕ) → 1 ≤ i → i ≤ n → test i (part s (size * (i - 1)) size) ≡ true) → eachPart test size n 1 s ≡ true
-to-one test size n s f = at-each test size n 1 s (λ j l. let e : 1 + j - 1 ≡ j = omega arith in rw e at (f (1 + j) (omega arith) (omega arith)))
 
 -- the four studios
 studio-at : (p : ℕ → Bool) → every p (1 ∷ 2 ∷ 3 ∷ 4 ∷ []) ≡ true → (i : ℕ) → 1 ≤ i → i ≤ 4 → p i ≡ true

@@ -1,8 +1,10 @@
 -- Worked examples, and laws on the definitions of specs/ for the proofs of this crate and of the crates above.
+pub mod Accepted
 pub mod AppendLaws
 pub mod Chains
 pub mod CommitLaws
 pub mod ControlLaws
+pub mod CopyLaws
 pub mod DecideLaws
 pub mod Examples
 pub mod Formed
@@ -15,6 +17,7 @@ pub mod RowLaws
 pub mod Samples
 pub mod SendLaws
 pub mod SetupLaws
+pub mod ShownLaws
 pub mod SpanLaws
 pub mod TransactionLaws
 pub mod WalkLaws

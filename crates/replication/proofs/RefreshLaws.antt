@@ -19,7 +19,7 @@ use Rattle.replication.specs.Rows.{Row, row, stopped, memoryRows, studio
 use Rattle.replication.specs.Calls.{after, refresh, withApplied, withLibrary, transactionAfter}
 use Rattle.replication.specs.Values.{usable, walkable}
 use Rattle.replication.specs.declared.control.Control.{Control}
-use Rattle.replication.proofs.RowLaws.{row-stops, row-passes, studio-numbered, unless-stopped, unless-accepted}
+use Rattle.replication.proofs.RowLaws.{row-stops, row-passes, studio-numbered, unless-stopped, unless-accepted, passed}
 use Rattle.replication.proofs.DecideLaws.{CallRows, accepted-formed, accepted-who, accepted-rest}
 use Rattle.replication.proofs.Formed.{Formed, Counts}
 use Rattle.replication.proofs.Chains.{few-commits, placed, upFrom-every}
@@ -36,10 +36,6 @@ none-left sent applied e = row-stops 11 (eqb sent applied) [] (eq-eqb sent appli
 pub some-left : (sent applied : ℕ) → (sent ≡ applied → ⊥) → 0 ≡ stopped (RefreshRest sent applied)
 unfolding stopped
 some-left sent applied n = rw (ne-eqb sent applied n)
-
-left-some : (sent applied : ℕ) → stopped (RefreshRest sent applied) ≡ 0 → sent ≡ applied → ⊥
-unfolding stopped
-left-some sent applied e f = let z : _≡_ {A = ℕ} 11 0 = rw (eq-eqb sent applied f) at e in omega arith
 
 -- every record of a transaction of the log can act on a copy
 pub transaction-usable : (c : Control) (m : Memory) → Formed c m → (k : ℕ) → k < c .commits → every (usable (m .log)) (recordsOf (m .log) (walk k (m .log) (firstRecord c))) ≡ true
@@ -75,7 +71,7 @@ module _ (c : Control) (m : Memory) (i v : ℕ) (e : v ≡ stopped (CallRows c m
   refresh-known z =
       let f = accepted-formed c m _ _ (studio-numbered (c .studios) i) (sym e ∙ z) in
       let k = studio-counts c m i f (accepted-who c m _ _ (studio-numbered (c .studios) i) (sym e ∙ z)) in
-      let n : nth (c .sent) i ≡ nth (c .applied) i → ⊥ = left-some (nth (c .sent) i) (nth (c .applied) i) (accepted-rest c m _ _ (studio-numbered (c .studios) i) (sym e ∙ z)) in
+      let n : nth (c .sent) i ≡ nth (c .applied) i → ⊥ = eqb-false _ _ (passed 10 (eqb (nth (c .sent) i) (nth (c .applied) i)) [] (accepted-rest c m _ _ (studio-numbered (c .studios) i) (sym e ∙ z)) .0) in
       let few = few-commits c m f in
       let h : nth (c .applied) i < c .commits = omega (arith, k .1 .order, k .1 .known) in
       let one : firstRecord c ≡ 1 = rw (ne-eqb (c .commits) 0 (λ y. omega arith)) in

@@ -23,6 +23,12 @@ pub row-passes : (n : ℕ) (b : Bool) (rs : List Row) → b ≡ false → stoppe
 unfolding stopped
 row-passes n b rs e = rw e
 
+-- the first row does not stop the call, nor does a later one
+pub passed : (n : ℕ) (b : Bool) (rs : List Row) → stopped (row (suc n) b ∷ rs) ≡ 0 → (b ≡ false) × (stopped rs ≡ 0)
+unfolding stopped
+passed n true rs e = absurd (omega arith)
+passed n false rs e = (refl, e)
+
 -- every row has a number of its own, not 0
 unfoldable pub numbered : List Row → Bool
 numbered rs = every (λ r. leb 1 (r .number)) rs
@@ -70,6 +76,18 @@ pub unless-accepted : {A : Type 0} (n : ℕ) (f : ℕ → A) (a : A) → n ≡ 0
 unfolding unless
 unless-accepted n f a e = rw e
 
+-- what holds of both, by the number; and of two calls that the same rows stop
+pub unless-case : {A : Type 0} (P : A → Type 0) (n : ℕ) (f : ℕ → A) (a : A) → ((k : ℕ) → n ≡ suc k → P (f (suc k))) → (n ≡ 0 → P a) → P (unless n f a)
+unfolding unless
+unless-case P zero f a stops goes = goes refl
+unless-case P (suc n) f a stops goes = stops n refl
+
+pub unless-both : {A B : Type 0} (P : A → B → Type 0) (n : ℕ) (f : ℕ → A) (a : A) (g : ℕ → B) (b : B)
+    → ((k : ℕ) → P (f (suc k)) (g (suc k))) → (n ≡ 0 → P a b) → P (unless n f a) (unless n g b)
+unfolding unless
+unless-both P zero f a g b stops goes = goes refl
+unless-both P (suc n) f a g b stops goes = stops n
+
 -- rows 1 and 2
 module _ (c : Control) (m : Memory) where
   pub memory-numbered : numbered (memoryRows c m) ≡ true
@@ -87,6 +105,9 @@ module _ (c : Control) (m : Memory) where
   pub memory-right : lengthsForm m ≡ true → ofLayout c m ≡ true → 0 ≡ stopped (memoryRows c m)
   unfolding stopped memoryRows lengthsRow
   memory-right e f = rw (e, f)
+
+  pub memory-passes : (rs : List Row) → lengthsForm m ≡ true → ofLayout c m ≡ true → stopped (memoryRows c m ++ rs) ≡ stopped rs
+  memory-passes rs e f = passes-on (memoryRows c m) rs 0 memory-numbered (memory-right e f) refl
 
   -- a call that they do not stop
   pub right-memory : stopped (memoryRows c m) ≡ 0 → (lengthsForm m ≡ true) × (ofLayout c m ≡ true)

@@ -1,21 +1,21 @@
 -- Laws of setup: its rows, and the whole call.
-use Prim.Native.Nat.{ℕ, _≤_}
-use mathlib.Core.Path.{_≡_, refl, sym, ap, _∙_}
-use mathlib.Core.Bool.{Bool, true, false, cond, not}
+use Prim.Native.Nat.{ℕ}
+use mathlib.Core.Path.{_≡_, sym, ap, _∙_}
+use mathlib.Core.Bool.{Bool, true, false}
 use mathlib.Core.List.{List, [], _∷_}
-use native.Mathlib.Omega.{arith}
 use lib.Dec.{eqb, leb}
 use lib.ListN.{length, getD}
-use borrow.Author.Tests.{eq-eqb, eqb-true}
+use borrow.Author.Tests.{eq-eqb}
 use Rattle.carts.specs.Bytes.{zeros, within, all, every}
-use Rattle.carts.proofs.TestLaws.{all-at, all-fails}
+use Rattle.carts.proofs.TestLaws.{all-fails}
 use Rattle.replication.specs.Answer.{refused, done}
 use Rattle.replication.specs.Memory.{Memory, memory, lengthsForm}
 use Rattle.replication.specs.Log.{freshLog}
-use Rattle.replication.specs.Rows.{Row, row, stopped, lengthsRow, setupRows}
+use Rattle.replication.specs.Rows.{Row, stopped, lengthsRow, setupRows}
 use Rattle.replication.specs.Calls.{after, controlOf, freshMemory, setup}
 use Rattle.replication.specs.declared.control.Control.{Control}
 use Rattle.replication.proofs.RowLaws.{lengths-are, unless-stopped, unless-accepted}
+use Rattle.replication.proofs.Accepted.{setup-passed}
 
 -- the conditions of row 15
 abbrev StudioTests : ℕ → List ℕ → List Bool
@@ -46,13 +46,7 @@ module _ (m : Memory) (studios : ℕ) (bytes : List ℕ) where
     setup-refused n next q = rw (q, e) (unless-stopped _ _ _ (λ z. n (e ∙ z)))
 
     pub setup-known : v ≡ 0 → (lengthsForm m ≡ true) × (length bytes ≡ 16)
-    unfolding stopped lengthsRow setupRows
-    setup-known z = go (lengthsForm m) (all (StudioTests studios bytes)) refl refl (sym e ∙ z)
-      where
-        go : (a b : Bool) → lengthsForm m ≡ a → all (StudioTests studios bytes) ≡ b → _≡_ {A = ℕ} (cond (not a) 1 (cond (not b) 15 0)) 0 → (lengthsForm m ≡ true) × (length bytes ≡ 16)
-        go true true f g y = (f, eqb-true _ _ (all-at 1 (StudioTests studios bytes) g))
-        go true false f g y = absurd (omega arith)
-        go false b f g y = absurd (omega arith)
+    setup-known z = let p = setup-passed m studios bytes (sym e ∙ z) in (p .lengths, p .count)
 
     pub setup-accepted : v ≡ 0 → (next : Control) (library log sessions : List ℕ) → next ≡ controlOf studios bytes
         → library ≡ zeros (length (m .library)) → log ≡ zeros (length (m .log)) → sessions ≡ zeros (length (m .sessions))

@@ -5,8 +5,9 @@ use mathlib.Core.List.{List}
 use Prim.Native.Nat.{ℕ, _*_, _-_, _≤_}
 use native.Mathlib.Omega.{arith}
 use lib.ListN.{length, drop}
 use Rattle.carts.specs.Bytes.{part, over}
-use Rattle.refinement.proofs.Parts.{length-part, length-over, over-same, drop-after, part-other}
+use Rattle.carts.proofs.PartLaws.{length-part, length-over, part-over, drop-over-after}
+use Rattle.carts.proofs.EachLaws.{record-other}
 
 -- part i of 80 bytes, and the list with x in its place: what cartAt, recordAt, sessionAt, act, withRecord and withSession unfold to
 abbrev pub cell : List ℕ → ℕ → List ℕ
@@ -21,13 +22,13 @@ module _ (count : ℕ) (s : List ℕ) (n : length s ≡ 80 * count) (i : ℕ) (l
 
   module _ (x : List ℕ) (e : length x ≡ 80) where
     pub length-cells : length (withCell s i x) ≡ 80 * count
-    length-cells = length-over s (80 * (i - 1)) 80 x e (omega arith) ∙ n
+    length-cells = length-over s (80 * (i - 1)) 80 x (omega arith) e ∙ n
 
     pub cell-same : cell (withCell s i x) i ≡ x
-    cell-same = over-same s (80 * (i - 1)) 80 x e (omega arith)
+    cell-same = part-over s (80 * (i - 1)) 80 x (omega arith) e
 
     pub cell-other : (j : ℕ) → 1 ≤ j → j ≢ i → cell (withCell s i x) j ≡ cell s j
-    cell-other j l ne = part-other 80 s (i - 1) x e (omega arith) (j - 1) (omega arith)
+    cell-other j l ne = record-other s x 80 (i - 1) (j - 1) (omega arith) e (omega arith)
 
     pub cells-past : (k : ℕ) → i ≤ k → drop (80 * k) (withCell s i x) ≡ drop (80 * k) s
-    cells-past k l = drop-after s (80 * (i - 1)) 80 x e (omega arith) (80 * k) (omega arith)
+    cells-past k l = drop-over-after s (80 * (i - 1)) 80 x (80 * k) (omega arith) e (omega arith)

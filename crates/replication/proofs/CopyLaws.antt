@@ -1,12 +1,13 @@
--- Copies of library memory, counted from 0, one of them replaced.
+-- Laws of the copies of library memory, counted from 0, one of them replaced.
+use Prim.Native.Nat.{ℕ, _*_, _≤_}
 use mathlib.Core.Path.{_≡_, _∙_}
 use mathlib.Core.Logic.{_≢_}
 use mathlib.Core.List.{List}
-use Prim.Native.Nat.{ℕ, _*_, _≤_}
 use native.Mathlib.Omega.{arith}
 use lib.ListN.{length}
+use Rattle.carts.proofs.PartLaws.{length-part, length-over, part-over}
+use Rattle.carts.proofs.EachLaws.{record-other}
 use Rattle.replication.specs.Memory.{copyAt, withCopy}
-use Rattle.refinement.proofs.Parts.{length-part, length-over, over-same, part-other}
 
 module _ (library : List ℕ) (n : length library ≡ 51200) (i : ℕ) (high : i ≤ 4) where
   pub length-copyAt : length (copyAt library i) ≡ 10240
@@ -16,12 +17,12 @@ module _ (library : List ℕ) (n : length library ≡ 51200) (i : ℕ) (high : i
   module _ (x : List ℕ) (e : length x ≡ 10240) where
     pub length-withCopy : length (withCopy library i x) ≡ 51200
     unfolding withCopy
-    length-withCopy = length-over library (10240 * i) 10240 x e (omega arith) ∙ n
+    length-withCopy = length-over library (10240 * i) 10240 x (omega arith) e ∙ n
 
     pub copy-same : copyAt (withCopy library i x) i ≡ x
     unfolding copyAt withCopy
-    copy-same = over-same library (10240 * i) 10240 x e (omega arith)
+    copy-same = part-over library (10240 * i) 10240 x (omega arith) e
 
     pub copy-other : (j : ℕ) → j ≢ i → copyAt (withCopy library i x) j ≡ copyAt library j
     unfolding copyAt withCopy
-    copy-other = part-other 10240 library i x e (omega arith)
+    copy-other j ne = record-other library x 10240 i j (omega arith) e ne
