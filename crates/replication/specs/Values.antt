@@ -6,12 +6,14 @@ use lib.ListN.{length, drop}
 use lib.Dec.{leb, eqb}
 use Rattle.carts.specs.Bytes.{part, byte, within, all, every, allZero, pairwise}
 use Rattle.replication.specs.Log.{nextOperation, nextTransaction, recordsOf, upFrom}
-use Rattle.replication.specs.Memory.{sequenceOf}
+use Rattle.replication.specs.Memory.{sessionAt, sequenceOf, nth, studioOf}
 use Rattle.replication.specs.Layout.{waitingForm}
 use Rattle.replication.specs.declared.session.Session.{Session}
 use Rattle.replication.specs.declared.session.Waiting.{Waiting}
 use Rattle.replication.specs.declared.session.Waiting.the-variants.{Nothing, Numbers, Title}
 use Rattle.replication.specs.declared.record.Record.{Record}
+use Rattle.replication.specs.declared.read.Due.{Due}
+use Rattle.replication.specs.declared.control.Control.{Control}
 
 -- a session's waiting read, or a request, as the code's case: by byte 0, with byte 1
 unfoldable pub waitingValue : List ℕ → Waiting
@@ -52,3 +54,7 @@ ownForm most log own r end =
 -- how many records the transaction at record r has; 0 where they are not of the layout
 unfoldable pub spanOf : List ℕ → ℕ → ℕ → ℕ
 spanOf log r end = cond (ownForm 8 log (recordsOf log r) r end) (length (recordsOf log r)) 0
+
+-- what an accepted read goes by: the session's number, its studio, and what that has applied
+abbrev pub dueOf : Control → List ℕ → ℕ → Due
+dueOf c sessions s = record { number = sequenceOf (sessionAt sessions s); studio = studioOf c s; state = nth (c .applied) (studioOf c s) }
