@@ -14,3 +14,5 @@ pub mod SpanLaws
 pub mod TransactionLaws
 pub mod WalkLaws
 pub mod RefreshLaws
+pub mod AppendLaws
+pub mod CommitLaws
