@@ -1,6 +1,7 @@
 // The engine for C and Rust: include/sulyobak.h says the same to C. Each function passes its arguments on and hands the answer back as
 // words; no test is left to the caller.
 use crate::words::Words;
+use replication::commit;
 use replication::control::Control;
 use replication::refresh;
 use replication::rows;
@@ -9,7 +10,7 @@ use replication::setup;
 ghost use mathlib.Core.Path.{_≡_};
 ghost use mathlib.Core.List.{[]};
 ghost use Rattle.replication.specs.Memory.{memory};
-ghost use Rattle.replication.specs.Calls.{setup, send, refresh};
+ghost use Rattle.replication.specs.Calls.{setup, commit, send, refresh};
 ghost use Rattle.sulyobak.specs.Words.{left, leftBy, layoutWords};
 
 pub mod words;
@@ -27,6 +28,22 @@ pub extern "C" fn sulyobak_setup(
         ≡ leftBy (setup (memory (now (library .entry)) (now (log .entry)) (now (sessions .entry))) studios (now (places .entry))) ⌝ }
 {
     Words::of_setup(setup::setup(library, log, sessions, studios, places))
+}
+
+// Commit of one to eight operations of 80 bytes.
+#[no_mangle]
+pub extern "C" fn sulyobak_commit(
+    library: &mut [u8],
+    log: &mut [u8],
+    sessions: &mut [u8],
+    control: Control,
+    session: u32,
+    operations: &[u8],
+) -> Words
+    ensures { λ r. ⌜ left r (memory (now (library .exit)) (now (log .exit)) (now (sessions .exit))) []
+        ≡ leftBy (commit control (memory (now (library .entry)) (now (log .entry)) (now (sessions .entry))) session (now (operations .entry))) ⌝ }
+{
+    Words::of_count(commit::commit(control, library, log, sessions, session, operations))
 }
 
 // Send. Memory is only read.
