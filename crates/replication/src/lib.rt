@@ -2,8 +2,8 @@
 pub mod answer;
 pub mod append;
 pub mod chain;
-pub mod commit;
 pub mod collect;
+pub mod commit;
 pub mod control;
 pub mod layout;
 pub mod output;
