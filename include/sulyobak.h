@@ -6,16 +6,15 @@
  * once the copy has reached the session's own last commit, and waits until then. So nobody is handed an old cut that they have just
  * replaced.
  *
- * Link with libsulyobak.a (the command `rt staticlib sulyobak` writes it to target/staticlib). It needs no other library, allocates
- * nothing, keeps nothing between calls, and runs on x86-64 Linux.
+ * Link with libsulyobak.a (the command `rt staticlib sulyobak` writes it to target/staticlib). It needs memcpy and memset and no other
+ * function, allocates nothing, keeps nothing between calls, and runs on x86-64 Linux.
  *
  * WHAT THE ENGINE LOOKS AFTER. Every byte and every number passed in is tested: any control, any bytes and any argument have their
  * answer. A refused call returns its number and changes no byte of your memory. Every call ends. Each function here is proved to
  * answer, and to leave in memory, exactly what the specification gives (crates/sulyobak/src/lib.rt has the contracts).
  *
  * WHAT REMAINS THE CALLER'S. No library can test these:
- *   - every pointer is valid for as many bytes as its length says (where a length is 0, the pointer is not used); what is not const
- *     is writable;
+ *   - every pointer is valid for as many bytes as its length says, and not null where the length is 0; what is not const is writable;
  *   - the buffers of one call do not overlap: the three memories, output, and what is read (operations, request, session_studios);
  *   - one call at a time on the same memory, and nobody else reads or writes it while a call runs;
  *   - the control that the last call handed back goes into the next one, and memory is kept as that call left it. (Where control

@@ -1,11 +1,9 @@
 -- The words that stand for an answer, and what a call leaves through them.
-use mathlib.Core.Path.{_≡_, sym, ap, _∙_}
-use mathlib.Core.Bool.{cond}
+use mathlib.Core.Path.{_≡_, refl, sym, ap, _∙_}
 use mathlib.Core.List.{List}
 use Prim.Native.Nat.{ℕ}
-use lib.Dec.{eqb}
 use borrow.Author.Tests.{eq-eqb, ne-eqb}
-use Rattle.replication.specs.Answer.{Answer, countAnswer, setupAnswer, readAnswer}
+use Rattle.replication.specs.Answer.{Answer, refused, done, waits, answered, countAnswer, setupAnswer, readAnswer}
 use Rattle.replication.specs.Memory.{Memory}
 use Rattle.replication.specs.Calls.{After, after}
 use Rattle.replication.specs.Rows.{stopped, memoryRows}
@@ -13,8 +11,15 @@ use Rattle.replication.specs.declared.control.Control.{Control}
 use Rattle.replication.specs.declared.answer.SetupAnswer.{SetupAnswer}
 use Rattle.replication.specs.declared.answer.CountAnswer.{CountAnswer}
 use Rattle.replication.specs.declared.answer.ReadAnswer.{ReadAnswer}
-use Rattle.sulyobak.specs.Words.{words, wordsOf, left, leftBy, layoutWords}
+use Rattle.sulyobak.specs.Words.{words, wordsOf, answerBy, left, leftBy, layoutWords}
 use Rattle.sulyobak.specs.declared.words.Words.{Words}
+
+-- every answer is read back from its words
+pub words-tell : (a : Answer) (c : Control) → answerBy (wordsOf a c) ≡ a
+words-tell (refused n) c = refl
+words-tell (done n) c = refl
+words-tell (answered state found) c = refl
+words-tell (waits n) c = refl
 
 -- a call's contract, its answer in words
 pub crosses : (w : Words) (a : Answer) (c : Control) (m : Memory) (out : List ℕ) (x : After) → after a c m out ≡ x → w ≡ wordsOf a c → left w m out ≡ leftBy x

@@ -1,6 +1,6 @@
--- An answer of document 01 as three words for C: kind, value, found. "words that have no meaning are 0".
-use mathlib.Core.Bool.{Bool, cond}
-use mathlib.Core.List.{List, []}
+-- An answer of document 01 as three words for C: kind, value, found. Words that have no meaning are 0.
+use mathlib.Core.Bool.{cond}
+use mathlib.Core.List.{List}
 use Prim.Native.Nat.{ℕ}
 use lib.Dec.{eqb}
 use Rattle.replication.specs.Answer.{Answer, refused, done, waits, answered}
@@ -20,6 +20,12 @@ wordsOf (refused n) c = words 0 n 0 c
 wordsOf (done n) c = words 1 n 0 c
 wordsOf (answered state found) c = words 2 state found c
 wordsOf (waits n) c = words 3 n 0 c
+
+-- the answer that words stand for: C's way back, by which nothing is lost (proofs/WordLaws.antt, `words-tell`)
+abbrev pub answerBy : Words → Answer
+answerBy w =
+    cond (eqb (w .kind) 0) (refused (w .value))
+    (cond (eqb (w .kind) 1) (done (w .value)) (cond (eqb (w .kind) 2) (answered (w .value) (w .found)) (waits (w .value))))
 
 -- what a call hands back to C, and the bytes it leaves
 pub record Left : Type 0 where
