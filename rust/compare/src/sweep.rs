@@ -1,0 +1,138 @@
+//! Sweeps: every byte of one unit, every control word, every byte of an
+//! input, and every memory's length, each with a row of values.
+
+use crate::arguments::{self, Taste};
+use crate::asides::{self, WORDS};
+use crate::call::Call;
+use crate::direct;
+use crate::make::Maker;
+use crate::places::{self, Place};
+use crate::player::{Mismatch, Player};
+use crate::random::Random;
+use crate::wall::Wall;
+use simulator::UNIT;
+
+const EVEN: Taste = Taste { weights: [1, 1, 1, 1, 1], sizes: (1, 8), fitting: 92 };
+
+const BYTES: [u8; 15] = [0, 1, 2, 3, 4, 5, 31, 32, 33, 64, 65, 126, 127, 128, 255];
+
+/// The values that a byte is given in turn.
+fn values(old: u8) -> impl Iterator<Item = u8> {
+    let near = [old.wrapping_add(1), old.wrapping_sub(1), old ^ 128];
+    BYTES.into_iter().chain(near).filter(move |value| *value != old)
+}
+
+/// Every byte of one unit of memory.
+pub fn memory(player: &mut Player<'_>, seed: u64) -> Result<(), Mismatch> {
+    let mut random = Random::new(seed);
+    let maker = Maker::new(&mut random, 10);
+    let (wall, place, unit) = loop {
+        let mut wall = direct::wall(&mut random, &maker);
+        let place = *random.pick(&Place::ALL);
+        let units = places::find(place, &mut wall.played, &wall.control);
+        if !units.is_empty() {
+            break (wall, place, *random.pick(&units));
+        }
+    };
+    for byte in 0..UNIT {
+        let at = UNIT * unit + byte;
+        let old = places::memory(place, &mut wall.clone().played).byte(at);
+        for value in values(old) {
+            let call = arguments::call(&mut random, &maker, &EVEN, &wall);
+            player.play_aside(&wall, &call, |wall| {
+                places::memory(place, &mut wall.played).lent_mut()[at] = value;
+            })?;
+        }
+    }
+    Ok(())
+}
+
+/// Every word of the control.
+pub fn control(player: &mut Player<'_>, seed: u64) -> Result<(), Mismatch> {
+    let mut random = Random::new(seed);
+    let maker = Maker::new(&mut random, 10);
+    let wall = direct::wall(&mut random, &maker);
+    for at in 0..WORDS {
+        let old = *asides::word(&mut wall.control.clone(), at);
+        let near = [old.wrapping_add(1), old.wrapping_sub(1), old + 256, old + 65_536];
+        let ends = [0, 1, 2, 3, 4, 5, 31, 32, 33, 511, 512, 513, 1 << 31, u32::MAX];
+        for value in near.into_iter().chain(ends) {
+            let call = arguments::call(&mut random, &maker, &EVEN, &wall);
+            let change = |wall: &mut Wall| *asides::word(&mut wall.control, at) = value;
+            player.play_aside(&wall, &call, change)?;
+        }
+    }
+    Ok(())
+}
+
+/// Every byte of an operation or of a request.
+pub fn input(player: &mut Player<'_>, seed: u64) -> Result<(), Mismatch> {
+    let mut random = Random::new(seed);
+    let maker = Maker::new(&mut random, 10);
+    let wall = loop {
+        let wall = direct::wall(&mut random, &maker);
+        let free = wall.used_sessions().into_iter().any(|session| !wall.waiting(session));
+        if free && wall.control.used < 500 {
+            break wall;
+        }
+    };
+    let taste = Taste { weights: [3, 0, 0, 2, 0], sizes: (1, 3), fitting: 100 };
+    let call = arguments::call(&mut random, &maker, &taste, &wall);
+    let unit = UNIT * random.below(call.input().len() / UNIT);
+    for at in unit..unit + UNIT {
+        for value in values(call.input()[at]) {
+            let changed = with_input_byte(&call, at, value);
+            player.play_aside(&wall, &changed, |_| ())?;
+        }
+    }
+    Ok(())
+}
+
+fn with_input_byte(call: &Call, at: usize, value: u8) -> Call {
+    let mut call = call.clone();
+    match &mut call {
+        Call::Commit { operations: input, .. } | Call::Read { request: input, .. } => {
+            input[at] = value;
+        }
+        _ => unreachable!("only commits and reads are swept"),
+    }
+    call
+}
+
+/// Every memory at every telling length, under every call.
+pub fn lengths(player: &mut Player<'_>, seed: u64) -> Result<(), Mismatch> {
+    let mut random = Random::new(seed);
+    let maker = Maker::new(&mut random, 10);
+    let wall = direct::wall(&mut random, &maker);
+    for kind in 0..6 {
+        for memory in 0..3 {
+            for length in 0..8 {
+                let call = call_of_kind(&mut random, &maker, &wall, kind);
+                player.play_aside(&wall, &call, |wall| set_length(wall, memory, length))?;
+            }
+        }
+    }
+    Ok(())
+}
+
+fn call_of_kind(random: &mut Random, maker: &Maker, wall: &Wall, kind: usize) -> Call {
+    if kind == 5 {
+        return arguments::setup(random, 80);
+    }
+    let mut weights = [0; 5];
+    weights[kind] = 1;
+    let taste = Taste { weights, ..EVEN };
+    arguments::call(random, maker, &taste, wall)
+}
+
+fn set_length(wall: &mut Wall, memory: usize, length: usize) {
+    let lent = &mut wall.played;
+    let part = match memory {
+        0 => &mut lent.library,
+        1 => &mut lent.log,
+        _ => &mut lent.sessions,
+    };
+    let right = part.len();
+    let lengths = [0, 1, 80, right - 80, right - 1, right + 1, right + 80, 2 * right];
+    asides::resize(part, lengths[length]);
+}
