@@ -18,13 +18,23 @@ pub struct Taste {
 }
 
 pub fn call(random: &mut Random, maker: &Maker, taste: &Taste, wall: &Wall) -> Call {
-    match random.weighted(&taste.weights) {
+    let mut kind = random.weighted(&taste.weights);
+    if matches!(kind, 0 | 3) && all_waiting(wall) && random.percent(90) {
+        kind = *random.pick(&[1, 2, 2, 4]);
+    }
+    match kind {
         0 => commit(random, maker, taste, wall),
         1 => Call::Send { studio: studio(random, taste, wall) },
         2 => Call::Refresh { studio: studio(random, taste, wall) },
         3 => read(random, maker, taste, wall),
         _ => collect(random, taste, wall),
     }
+}
+
+/// Whether every used session has a read waiting, so that only sends,
+/// refreshes and collects lead on.
+fn all_waiting(wall: &Wall) -> bool {
+    wall.used_sessions().into_iter().all(|session| wall.waiting(session))
 }
 
 pub fn commit(random: &mut Random, maker: &Maker, taste: &Taste, wall: &Wall) -> Call {

@@ -108,9 +108,21 @@ impl Guide<'_, '_> {
             }
             self.step(&filling)?;
         }
-        self.steps(60, &taste([60, 12, 12, 10, 6], (1, 2), 90))?;
+        for _ in 0..60 {
+            self.overfill()?;
+            self.step(&taste([50, 15, 15, 10, 10], (1, 2), 90))?;
+        }
         self.steps(40, &taste([60, 12, 12, 10, 6], (1, 8), 80))?;
         self.steps(150, &taste([5, 40, 40, 10, 5], (1, 1), 95))
+    }
+
+    /// A commit that just fits the log, or is one operation too large, aside.
+    fn overfill(&mut self) -> Result<(), Mismatch> {
+        let space = 512 - self.wall.control.used as usize;
+        let size = self.random.within(space, space + 1).clamp(1, 8);
+        let taste = taste([1, 0, 0, 0, 0], (size, size), 97);
+        let call = arguments::call(&mut self.random, &self.maker, &taste, &self.wall);
+        self.player.play_aside(&self.wall, &call, |_| ()).map(|_| ())
     }
 
     /// Sends ahead of refreshes until the window is full, again and again.

@@ -13,6 +13,7 @@ mod lent;
 mod lists;
 mod make;
 mod one_copy;
+mod options;
 mod places;
 mod player;
 mod random;
@@ -21,25 +22,80 @@ mod real;
 mod required;
 mod rows;
 mod run;
+mod self_check;
 mod single;
 mod sweep;
 mod wall;
+mod wrong;
 
 use engine::{Engine, Simulated};
+use options::{Mode, Options};
+use std::process::ExitCode;
+
+/// Makes an engine for one thread.
+type Make = fn() -> Box<dyn Engine>;
 
 fn simulated() -> Box<dyn Engine> {
     Box::new(Simulated)
 }
 
-fn main() {
-    let start = std::time::Instant::now();
-    let calls = std::env::args().nth(1).and_then(|n| n.parse().ok()).unwrap_or(20_000);
-    match run::play_on_threads(simulated, 1, calls, 2) {
-        Ok((coverage, calls)) => {
-            coverage.report();
-            println!("{calls} calls");
+#[cfg(real_engine)]
+fn real() -> Option<Make> {
+    Some(|| Box::new(real::Real))
+}
+
+#[cfg(not(real_engine))]
+fn real() -> Option<Make> {
+    None
+}
+
+fn main() -> ExitCode {
+    let options = match options::parse(std::env::args().skip(1)) {
+        Ok(options) => options,
+        Err(words) => {
+            eprintln!("{words}\n{}", options::USAGE);
+            return ExitCode::from(2);
         }
-        Err(found) => run::print_mismatch(&found),
+    };
+    if options.mode == Mode::SelfCheck {
+        return exit(self_check::run() == 0);
     }
-    println!("{:?}", start.elapsed());
+    let engine: Option<Make> = if options.simulator { Some(simulated) } else { real() };
+    let Some(make) = engine else {
+        eprintln!("built without the real engine: set SULYOBAK_LIB_DIR, or use --simulator");
+        return ExitCode::from(2);
+    };
+    match options.mode {
+        Mode::List(seed) => exit(one_list(make, seed)),
+        _ => exit(compare(make, &options)),
+    }
+}
+
+fn exit(passed: bool) -> ExitCode {
+    if passed { ExitCode::SUCCESS } else { ExitCode::FAILURE }
+}
+
+fn one_list(make: Make, seed: u64) -> bool {
+    match run::play_lists(&mut *make(), (seed, 1), 1) {
+        Ok((_, calls)) => println!("list {seed} ({}): {calls} calls, no mismatch", lists::kind(seed)),
+        Err(found) => {
+            run::print_mismatch(&found);
+            return false;
+        }
+    }
+    true
+}
+
+fn compare(make: Make, options: &Options) -> bool {
+    match run::play_on_threads(make, options.seed, options.calls, options.threads) {
+        Ok((coverage, calls)) => {
+            let missing = coverage.report();
+            println!("{calls} calls compared, no mismatch");
+            missing == 0
+        }
+        Err(found) => {
+            run::print_mismatch(&found);
+            false
+        }
+    }
 }
