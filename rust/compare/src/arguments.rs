@@ -1,7 +1,7 @@
 //! Calls with chosen arguments: mostly fitting the wall, sometimes anything.
 
 use crate::call::Call;
-use crate::make::{Maker, spoil};
+use crate::make::{Maker, spoil, spoil_request};
 use crate::random::Random;
 use crate::rows;
 use crate::wall::Wall;
@@ -79,14 +79,11 @@ fn unsettle(random: &mut Random, maker: &Maker, operations: &mut Vec<u8>) {
 fn read(random: &mut Random, maker: &Maker, taste: &Taste, wall: &Wall) -> Call {
     let session = session(random, taste, wall, false);
     let mut request = maker.request(random).to_vec();
-    let mut output = rows::output_asked(&request);
+    let asked = rows::output_asked(&request);
     if !random.percent(taste.fitting) {
-        match random.below(4) {
-            0 => request.resize(*random.pick(&[0, 1, 2, 79, 81, 160]), 0),
-            _ => spoil(random, &mut request),
-        }
+        spoil_request(random, &mut request);
     }
-    output = output_near(random, taste, output);
+    let output = output_near(random, taste, asked);
     Call::Read { session, request, output }
 }
 

@@ -74,10 +74,13 @@ pub fn damaged(
     wall: &Wall,
     call: &Call,
 ) -> Result<(), Mismatch> {
-    let mut kind = None;
-    let answer = player.play_aside(wall, call, |wall| kind = damage::damage(random, wall))?;
-    if let (Some(kind), REFUSED, 2) = (kind, answer.kind, answer.value) {
-        player.coverage.count((kind, 0, 2));
+    let mut made = None;
+    let answer = player.play_aside(wall, call, |wall| made = damage::damage(random, wall))?;
+    if let (Some(made), REFUSED, 2) = (made, answer.kind, answer.value) {
+        player.coverage.count((made.name, 0, 2));
+        if let Some(copy) = made.copy {
+            player.coverage.count((damage::COPIES, copy, 2));
+        }
     }
     Ok(())
 }
@@ -112,7 +115,7 @@ fn twisted(
     player.play_aside(wall, call, change).map(|_| ())
 }
 
-fn any_word(random: &mut Random) -> u32 {
+pub fn any_word(random: &mut Random) -> u32 {
     let any = random.word();
     *random.pick(&[0, 1, 2, 4, 5, 31, 32, 33, 511, 512, 513, 65_536, 1 << 31, u32::MAX, any])
 }

@@ -5,39 +5,46 @@ use crate::lent::Lent;
 use crate::places::{self, Place};
 use crate::random::Random;
 use crate::wall::Wall;
-use simulator::{Control, UNIT};
+use simulator::{CARTS, Control, LIBRARY, UNIT};
 
 type Change = fn(&mut Random, &mut [u8]);
 type Twist = fn(&mut Random, &mut Control) -> bool;
 
-/// Puts one field of a wall of the layout out of its rule. Returns the kind
-/// of damage, or `None` when this wall has no place for the one chosen.
-pub fn damage(random: &mut Random, wall: &mut Wall) -> Option<&'static str> {
+/// The subject under which the copies of damaged carts are counted.
+pub const COPIES: &str = "damage to a cart of copy";
+
+/// What was put out of its rule.
+#[derive(Clone, Copy)]
+pub struct Damage {
+    pub name: &'static str,
+    /// The copy of a cart: 0 the head end's, else its studio's.
+    pub copy: Option<u32>,
+}
+
+/// Puts one field of a wall of the layout out of its rule; `None` when this
+/// wall has no place for the kind of damage chosen.
+pub fn damage(random: &mut Random, wall: &mut Wall) -> Option<Damage> {
     let chosen = random.below(UNITS.len() + CONTROLS.len());
     if chosen < UNITS.len() {
         let (name, place, change) = UNITS[chosen];
-        let unit = find(random, place, &mut wall.played, &wall.control)?;
-        change(random, unit);
-        Some(name)
+        let at = find(random, place, &mut wall.played, &wall.control)?;
+        let part = places::memory(place, &mut wall.played);
+        change(random, &mut part.lent_mut()[UNIT * at..UNIT * (at + 1)]);
+        let cart = part.len() == LIBRARY;
+        Some(Damage { name, copy: cart.then_some((at / CARTS) as u32) })
     } else {
         let (name, twist) = CONTROLS[chosen - UNITS.len()];
-        twist(random, &mut wall.control).then_some(name)
+        twist(random, &mut wall.control).then_some(Damage { name, copy: None })
     }
 }
 
-fn find<'a>(
-    random: &mut Random,
-    place: Place,
-    lent: &'a mut Lent,
-    control: &Control,
-) -> Option<&'a mut [u8]> {
+/// One unit of a kind, counted from 0 in its memory.
+fn find(random: &mut Random, place: Place, lent: &mut Lent, control: &Control) -> Option<usize> {
     let units = places::find(place, lent, control);
     if units.is_empty() {
         return None;
     }
-    let at = UNIT * *random.pick(&units);
-    let part = places::memory(place, lent);
-    Some(&mut part.lent_mut()[at..at + UNIT])
+    Some(*random.pick(&units))
 }
 
 pub fn names() -> impl Iterator<Item = &'static str> {

@@ -54,8 +54,10 @@ impl Guide<'_, '_> {
     /// Refused setups now and then, on memory of any bytes, then one that is
     /// accepted.
     fn begin(&mut self, aim: Aim) -> Result<(), Mismatch> {
-        let mark = self.random.byte();
-        self.wall.played.library.lent_mut().fill(mark);
+        let lent = &mut self.wall.played;
+        for part in [&mut lent.library, &mut lent.log, &mut lent.sessions] {
+            part.lent_mut().fill(self.random.byte());
+        }
         self.wall.mirror();
         for _ in 0..self.random.below(3) {
             let call = arguments::setup(&mut self.random, 30);

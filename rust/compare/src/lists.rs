@@ -2,6 +2,7 @@
 
 use crate::arguments::{self, Taste};
 use crate::asides;
+use crate::chaos;
 use crate::direct;
 use crate::guided::{self, Aim};
 use crate::make::Maker;
@@ -9,9 +10,9 @@ use crate::player::{Mismatch, Player};
 use crate::random::Random;
 use crate::sweep;
 
-const KINDS: [&str; 16] = [
+const KINDS: [&str; 17] = [
     "mixed", "direct", "waits", "damage", "window", "memory sweep", "titles", "input sweep",
-    "eights", "direct", "varied", "damage", "mixed", "control sweep", "ones", "lengths",
+    "eights", "direct", "varied", "damage", "mixed", "control sweep", "ones", "lengths", "chaos",
 ];
 
 pub fn kind(seed: u64) -> &'static str {
@@ -19,7 +20,8 @@ pub fn kind(seed: u64) -> &'static str {
 }
 
 pub fn play(player: &mut Player<'_>, seed: u64) -> Result<(), Mismatch> {
-    player.call_number = 0;
+    player.begin_list(seed);
+    let turn = (seed / KINDS.len() as u64 % 1_000) as usize;
     match kind(seed) {
         "mixed" => guided::play(player, seed, Aim::Mixed),
         "waits" => guided::play(player, seed, Aim::Waits),
@@ -30,16 +32,17 @@ pub fn play(player: &mut Player<'_>, seed: u64) -> Result<(), Mismatch> {
         "ones" => guided::play(player, seed, Aim::Ones),
         "direct" => unreached(player, seed),
         "damage" => damage(player, seed),
-        "memory sweep" => sweep::memory(player, seed),
+        "memory sweep" => sweep::memory(player, seed, turn),
         "control sweep" => sweep::control(player, seed),
-        "input sweep" => sweep::input(player, seed),
-        _ => sweep::lengths(player, seed),
+        "input sweep" => sweep::input(player, seed, turn),
+        "lengths" => sweep::lengths(player, seed),
+        _ => chaos::play(player, seed),
     }
 }
 
 /// Only lists from fresh systems, for the one-copy order alone.
 pub fn play_fresh(player: &mut Player<'_>, seed: u64) -> Result<(), Mismatch> {
-    player.call_number = 0;
+    player.begin_list(seed);
     let aims = [Aim::Waits, Aim::Titles, Aim::Mixed, Aim::Window];
     guided::play(player, seed, aims[(seed % 4) as usize])
 }

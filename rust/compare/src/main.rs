@@ -3,6 +3,7 @@
 mod arguments;
 mod asides;
 mod call;
+mod chaos;
 mod coverage;
 mod damage;
 mod differ;
@@ -26,6 +27,7 @@ mod self_check;
 mod single;
 mod sweep;
 mod wall;
+mod watch;
 mod wrong;
 
 use engine::{Engine, Simulated};
@@ -60,6 +62,7 @@ fn main() -> ExitCode {
     if options.mode == Mode::SelfCheck {
         return exit(self_check::run() == 0);
     }
+    watch::start(options.trace, options.trace && matches!(options.mode, Mode::List(_)));
     let engine: Option<Make> = if options.simulator { Some(simulated) } else { real() };
     let Some(make) = engine else {
         eprintln!("built without the real engine: set SULYOBAK_LIB_DIR, or use --simulator");

@@ -131,9 +131,9 @@ fn titles(random: &mut Random) -> Vec<Vec<u8>> {
 
 const BYTES: [u8; 14] = [0, 1, 2, 3, 4, 5, 31, 32, 33, 64, 65, 126, 127, 255];
 
-/// Changes one field of an operation or request; it may stay in form.
+/// Changes one field of an operation; it may stay in form.
 pub fn spoil(random: &mut Random, unit: &mut [u8]) {
-    match random.below(12) {
+    match random.below(11) {
         0 => unit[0] = *random.pick(&[0, 1, 2, 3, 4, 5, 255]),
         1 => unit[1] = *random.pick(&[0, 1, 32, 33, 64, 65, 255]),
         2 => {
@@ -150,11 +150,27 @@ pub fn spoil(random: &mut Random, unit: &mut [u8]) {
             unit[1] = 65;
             unit[16..].fill(b'x');
         }
-        10 => {
-            let place = 16 + 2 * random.below(32);
-            let number = random.pick(&[0u16, 1, 128, 129, 257, 65_535]).to_le_bytes();
-            unit[place..place + 2].copy_from_slice(&number);
-        }
         _ => unit[random.below(UNIT)] = random.byte(),
+    }
+}
+
+/// Changes one field of a request, or its size; it may stay in form.
+pub fn spoil_request(random: &mut Random, request: &mut Vec<u8>) {
+    match random.below(8) {
+        0 => request[0] = *random.pick(&[0, 1, 2, 3, 255]),
+        1 => request[1] = *random.pick(&[0, 1, 32, 33, 64, 65, 255]),
+        2 => {
+            let past = request[1].wrapping_add(1);
+            request[1] = *random.pick(&[past, past.wrapping_sub(2)]);
+        }
+        3 => request[random.within(2, 15)] = random.nonzero_byte(),
+        4 => {
+            let place = 16 + 2 * random.below(usize::from(request[1]).clamp(1, 32));
+            let number = random.pick(&[0u16, 129, 129, 257, 65_535]).to_le_bytes();
+            request[place..place + 2].copy_from_slice(&number);
+        }
+        5 => request[16 + random.below(64)] = *random.pick(&BYTES),
+        6 => request.resize(*random.pick(&[0, 1, 2, 79, 81, 160]), 0),
+        _ => request[random.below(UNIT)] = random.byte(),
     }
 }

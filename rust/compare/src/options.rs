@@ -4,7 +4,8 @@ pub const USAGE: &str = "compare [--seed N] [--calls N] [--threads N] [--simulat
 compare --gate [--simulator]      fixed seeds, the run of the gate
 compare --list SEED [--simulator] one list again
 compare --self-check              every wrong engine must be caught
---simulator plays the simulator against itself, without the real engine.";
+--simulator plays the simulator against itself, without the real engine.
+--trace names every list, and with --list every call, before it is played.";
 
 #[derive(Debug, PartialEq, Eq)]
 pub enum Mode {
@@ -21,14 +22,22 @@ pub struct Options {
     pub threads: u64,
     /// The simulator stands in for the real engine.
     pub simulator: bool,
+    /// Lists, or one list's calls, are named before they are played.
+    pub trace: bool,
 }
 
 pub const GATE_SEED: u64 = 20_240_000;
 pub const GATE_CALLS: u64 = 400_000;
 
 pub fn parse(mut words: impl Iterator<Item = String>) -> Result<Options, String> {
-    let mut options =
-        Options { mode: Mode::Run, seed: 1, calls: GATE_CALLS, threads: 2, simulator: false };
+    let mut options = Options {
+        mode: Mode::Run,
+        seed: 1,
+        calls: GATE_CALLS,
+        threads: 2,
+        simulator: false,
+        trace: false,
+    };
     while let Some(word) = words.next() {
         match word.as_str() {
             "--seed" => options.seed = number(&word, words.next())?,
@@ -36,6 +45,7 @@ pub fn parse(mut words: impl Iterator<Item = String>) -> Result<Options, String>
             "--threads" => options.threads = number(&word, words.next())?.clamp(1, 64),
             "--list" => options.mode = Mode::List(number(&word, words.next())?),
             "--self-check" => options.mode = Mode::SelfCheck,
+            "--trace" => options.trace = true,
             "--simulator" => options.simulator = true,
             "--gate" => {
                 options.seed = GATE_SEED;

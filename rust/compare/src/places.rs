@@ -23,26 +23,25 @@ pub enum Place {
     UnusedSession,
 }
 
-impl Place {
-    pub const ALL: [Place; 16] = [
-        Place::HeldCart,
-        Place::EmptyCart,
-        Place::CartAboveS,
-        Place::Record,
-        Place::TitledRecord,
-        Place::UntitledRecord,
-        Place::CutRecord,
-        Place::UncutRecord,
-        Place::FirstRecord,
-        Place::LaterRecord,
-        Place::UnusedRecord,
-        Place::Session,
-        Place::IdleSession,
-        Place::NumbersSession,
-        Place::TitleSession,
-        Place::UnusedSession,
-    ];
-}
+/// Every kind, with the name of its sweep.
+pub const ALL: [(Place, &str); 16] = [
+    (Place::HeldCart, "sweep of a held cart"),
+    (Place::EmptyCart, "sweep of an empty cart"),
+    (Place::CartAboveS, "sweep of a cart above S"),
+    (Place::Record, "sweep of a record"),
+    (Place::TitledRecord, "sweep of a record with a title"),
+    (Place::UntitledRecord, "sweep of a record without title"),
+    (Place::CutRecord, "sweep of a record with a cut"),
+    (Place::UncutRecord, "sweep of a record without cut"),
+    (Place::FirstRecord, "sweep of a first record"),
+    (Place::LaterRecord, "sweep of a later record"),
+    (Place::UnusedRecord, "sweep of an unused record"),
+    (Place::Session, "sweep of a session"),
+    (Place::IdleSession, "sweep of an idle session"),
+    (Place::NumbersSession, "sweep of a session with numbers waiting"),
+    (Place::TitleSession, "sweep of a session with a title waiting"),
+    (Place::UnusedSession, "sweep of an unused session"),
+];
 
 /// The memory that a kind of unit is in.
 pub fn memory(place: Place, lent: &mut Lent) -> &mut Part {

@@ -7,6 +7,7 @@ use crate::engine::{Engine, simulate};
 use crate::one_copy::History;
 use crate::rows;
 use crate::wall::Wall;
+use crate::watch;
 use simulator::{Answer, REFUSED};
 
 /// Where and how engine and simulator parted.
@@ -34,11 +35,18 @@ impl<'e> Player<'e> {
         Player { engine, compares, coverage, call_number: 0, calls: 0, scratch: None }
     }
 
+    /// Begins the list of a seed.
+    pub fn begin_list(&mut self, seed: u64) {
+        self.call_number = 0;
+        watch::list_begins(seed);
+    }
+
     /// Plays one call; the wall holds what it left and handed back.
     pub fn play(&mut self, wall: &mut Wall, call: &Call) -> Result<Answer, Mismatch> {
         self.call_number += 1;
         self.calls += 1;
         wall.lend(call, self.call_number);
+        watch::call_begins(self.call_number, call);
         let control = wall.control;
         if !self.compares {
             let answer = self.engine.play(call, control, &mut wall.played);

@@ -2,6 +2,8 @@
 
 use crate::coverage::{DONE, Key, READ, WAITED};
 use crate::damage;
+use crate::places;
+use crate::sweep;
 use std::fmt;
 
 pub enum Line {
@@ -221,6 +223,9 @@ pub fn lines() -> Vec<Line> {
             lines.extend([0, right - 1, right + 1].map(|length| Line::Met((subject, length, 1))));
         }
     }
+    lines.extend((0..5).map(|copy| Line::Met((damage::COPIES, copy, 2))));
+    let sweeps = places::ALL.iter().map(|(_, name)| *name).chain(sweep::INPUTS);
+    lines.extend(sweeps.map(|name| Line::Ended((name, 0, DONE))));
     lines.extend(damage::names().map(|name| Line::Ended((name, 0, 2))));
     lines
 }

@@ -38,10 +38,10 @@ fn row_holds(row: u32, call: &Call, control: &Control, lent: &Lent) -> bool {
         (3, _) => session_studio(call, control) == 0,
         (4, _) => waiting(call, lent),
         (14, _) => !waiting(call, lent),
-        (5 | 6 | 7 | 8, Call::Commit { operations, .. }) => {
+        (5..=8, Call::Commit { operations, .. }) => {
             commit_row_holds(row, operations, control, lent)
         }
-        (9 | 10 | 11, Call::Send { studio } | Call::Refresh { studio }) => {
+        (9..=11, Call::Send { studio } | Call::Refresh { studio }) => {
             studio_row_holds(row, *studio, control)
         }
         (12, Call::Read { request, .. }) => !simulator::request_in_form(request),

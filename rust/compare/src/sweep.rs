@@ -4,9 +4,10 @@
 use crate::arguments::{self, Taste};
 use crate::asides::{self, WORDS};
 use crate::call::Call;
+use crate::coverage::DONE;
 use crate::direct;
 use crate::make::Maker;
-use crate::places::{self, Place};
+use crate::places;
 use crate::player::{Mismatch, Player};
 use crate::random::Random;
 use crate::wall::Wall;
@@ -22,21 +23,21 @@ fn values(old: u8) -> impl Iterator<Item = u8> {
     BYTES.into_iter().chain(near).filter(move |value| *value != old)
 }
 
-/// Every byte of one unit of memory.
-pub fn memory(player: &mut Player<'_>, seed: u64) -> Result<(), Mismatch> {
+/// Every byte of one unit of memory; `turn` says of which kind.
+pub fn memory(player: &mut Player<'_>, seed: u64, turn: usize) -> Result<(), Mismatch> {
     let mut random = Random::new(seed);
     let maker = Maker::new(&mut random, 10);
-    let (wall, place, unit) = loop {
+    let (place, name) = places::ALL[turn % places::ALL.len()];
+    let (mut wall, unit) = loop {
         let mut wall = direct::wall(&mut random, &maker);
-        let place = *random.pick(&Place::ALL);
         let units = places::find(place, &mut wall.played, &wall.control);
         if !units.is_empty() {
-            break (wall, place, *random.pick(&units));
+            break (wall, *random.pick(&units));
         }
     };
     for byte in 0..UNIT {
         let at = UNIT * unit + byte;
-        let old = places::memory(place, &mut wall.clone().played).byte(at);
+        let old = places::memory(place, &mut wall.played).byte(at);
         for value in values(old) {
             let call = arguments::call(&mut random, &maker, &EVEN, &wall);
             player.play_aside(&wall, &call, |wall| {
@@ -44,6 +45,7 @@ pub fn memory(player: &mut Player<'_>, seed: u64) -> Result<(), Mismatch> {
             })?;
         }
     }
+    player.coverage.count((name, 0, DONE));
     Ok(())
 }
 
@@ -65,27 +67,51 @@ pub fn control(player: &mut Player<'_>, seed: u64) -> Result<(), Mismatch> {
     Ok(())
 }
 
-/// Every byte of an operation or of a request.
-pub fn input(player: &mut Player<'_>, seed: u64) -> Result<(), Mismatch> {
+/// The inputs that are swept: four kinds of operation, two of request.
+pub const INPUTS: [&str; 6] = [
+    "sweep of a new",
+    "sweep of a retitle",
+    "sweep of a re-cut",
+    "sweep of a withdraw",
+    "sweep of a request by numbers",
+    "sweep of a request by title",
+];
+
+/// Every byte of an operation or of a request; `turn` says of which kind.
+pub fn input(player: &mut Player<'_>, seed: u64, turn: usize) -> Result<(), Mismatch> {
     let mut random = Random::new(seed);
     let maker = Maker::new(&mut random, 10);
-    let wall = loop {
+    let kind = turn % INPUTS.len();
+    let (wall, call, unit) = loop {
         let wall = direct::wall(&mut random, &maker);
         let free = wall.used_sessions().into_iter().any(|session| !wall.waiting(session));
         if free && wall.control.used < 500 {
-            break wall;
+            let call = input_call(&mut random, &maker, &wall, kind);
+            if let Some(unit) = unit_of_kind(&call, kind) {
+                break (wall, call, unit);
+            }
         }
     };
-    let taste = Taste { weights: [3, 0, 0, 2, 0], sizes: (1, 3), fitting: 100 };
-    let call = arguments::call(&mut random, &maker, &taste, &wall);
-    let unit = UNIT * random.below(call.input().len() / UNIT);
-    for at in unit..unit + UNIT {
+    for at in UNIT * unit..UNIT * (unit + 1) {
         for value in values(call.input()[at]) {
             let changed = with_input_byte(&call, at, value);
             player.play_aside(&wall, &changed, |_| ())?;
         }
     }
+    player.coverage.count((INPUTS[kind], 0, DONE));
     Ok(())
+}
+
+fn input_call(random: &mut Random, maker: &Maker, wall: &Wall, kind: usize) -> Call {
+    let weights = if kind < 4 { [1, 0, 0, 0, 0] } else { [0, 0, 0, 1, 0] };
+    let taste = Taste { weights, sizes: (1, 3), fitting: 100 };
+    arguments::call(random, maker, &taste, wall)
+}
+
+/// The unit of the call's input that is of the kind asked for.
+fn unit_of_kind(call: &Call, kind: usize) -> Option<usize> {
+    let wanted = if kind < 4 { kind + 1 } else { kind - 3 };
+    call.input().chunks_exact(UNIT).position(|unit| usize::from(unit[0]) == wanted)
 }
 
 fn with_input_byte(call: &Call, at: usize, value: u8) -> Call {
@@ -121,7 +147,7 @@ fn call_of_kind(random: &mut Random, maker: &Maker, wall: &Wall, kind: usize) ->
     }
     let mut weights = [0; 5];
     weights[kind] = 1;
-    let taste = Taste { weights, ..EVEN };
+    let taste = Taste { weights, fitting: 60, ..EVEN };
     arguments::call(random, maker, &taste, wall)
 }
 

@@ -29,9 +29,11 @@ fn refreshed(call: &Call, answer: &Answer) -> Option<u32> {
     }
 }
 
-fn play_on(copy: &mut [u8], operations: &[Vec<u8>]) {
+fn play_on(copy: &mut [u8], operations: &Operations) {
     operations.iter().for_each(|operation| single::act(copy, operation));
 }
+
+type Operations = [Vec<u8>];
 
 /// Plays the call; after a refresh its studio's copy is made anew by `remake`
 /// from the copy before, the transaction, and the one before that.
@@ -39,7 +41,7 @@ fn remade(
     call: &Call,
     control: Control,
     lent: &mut Lent,
-    remake: fn(&mut [u8], &[Vec<u8>], &[Vec<u8>]),
+    remake: fn(&mut [u8], &Operations, &Operations),
 ) -> Answer {
     let before = lent.library.clone();
     let answer = right(call, control, lent);
