@@ -73,8 +73,12 @@ impl Coverage {
                 self.count(("commit, session", *session, end));
                 self.note_commit(operations, control, answer, end);
             }
-            Call::Send { studio } => self.note_send(*studio, control, end),
+            Call::Send { studio } => {
+                self.count(("send, number", answer.value, end));
+                self.note_send(*studio, control, end);
+            }
             Call::Refresh { studio } => {
+                self.count(("refresh, number", answer.value, end));
                 self.count(("refresh, studio", *studio, end));
                 self.count(("refresh, studio − S", studio.wrapping_sub(control.studios), end));
             }
@@ -194,6 +198,8 @@ impl Coverage {
             let number = u32::from(before.session[2]) | u32::from(before.session[3]) << 8;
             let behind = i64::from(number) - i64::from(control.applied[studio as usize - 1]);
             self.count((subject, behind.clamp(-2, 2) as u32, end));
+            self.count(("read or collect, session number", number, end));
+            self.count(("read or collect, studio", studio, end));
         }
     }
 

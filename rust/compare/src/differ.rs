@@ -5,10 +5,7 @@ use simulator::{Answer, COPY, Control, UNIT};
 
 /// The first difference between the simulator's end of a call and the
 /// engine's, in words.
-pub fn first_difference(
-    simulated: (&Answer, &Lent),
-    played: (&Answer, &Lent),
-) -> Option<String> {
+pub fn first_difference(simulated: (&Answer, &Lent), played: (&Answer, &Lent)) -> Option<String> {
     let (answer, lent) = simulated;
     let (other_answer, other) = played;
     answer_difference(answer, other_answer)

@@ -11,8 +11,23 @@ use crate::random::Random;
 use crate::sweep;
 
 const KINDS: [&str; 17] = [
-    "mixed", "direct", "waits", "damage", "window", "memory sweep", "titles", "input sweep",
-    "eights", "direct", "varied", "damage", "mixed", "control sweep", "ones", "lengths", "chaos",
+    "mixed",
+    "direct",
+    "waits",
+    "damage",
+    "window",
+    "memory sweep",
+    "titles",
+    "input sweep",
+    "eights",
+    "direct",
+    "varied",
+    "damage",
+    "mixed",
+    "control sweep",
+    "ones",
+    "lengths",
+    "chaos",
 ];
 
 pub fn kind(seed: u64) -> &'static str {
@@ -75,4 +90,23 @@ fn damage(player: &mut Player<'_>, seed: u64) -> Result<(), Mismatch> {
         }
     }
     Ok(())
+}
+
+#[cfg(test)]
+mod tests {
+    use super::*;
+    use crate::engine::Simulated;
+
+    #[test]
+    fn every_kind_of_list_passes_and_is_repeatable() {
+        for seed in 0..KINDS.len() as u64 {
+            let calls = [0, 1].map(|_| {
+                let mut engine = Simulated;
+                let mut player = Player::new(&mut engine, true);
+                play(&mut player, seed).expect("the simulator agrees with itself");
+                player.calls
+            });
+            assert_eq!(calls[0], calls[1]);
+        }
+    }
 }

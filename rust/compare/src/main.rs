@@ -80,7 +80,9 @@ fn exit(passed: bool) -> ExitCode {
 
 fn one_list(make: Make, seed: u64) -> bool {
     match run::play_lists(&mut *make(), (seed, 1), 1) {
-        Ok((_, calls)) => println!("list {seed} ({}): {calls} calls, no mismatch", lists::kind(seed)),
+        Ok((_, calls)) => {
+            println!("list {seed} ({}): {calls} calls, no mismatch", lists::kind(seed))
+        }
         Err(found) => {
             run::print_mismatch(&found);
             return false;

@@ -59,7 +59,14 @@ impl History {
         }
     }
 
-    fn push_read(&mut self, call: u64, session: u32, request: Vec<u8>, answer: &Answer, output: &[u8]) {
+    fn push_read(
+        &mut self,
+        call: u64,
+        session: u32,
+        request: Vec<u8>,
+        answer: &Answer,
+        output: &[u8],
+    ) {
         let numbers = if request[0] == 1 { usize::from(request[1]) } else { 1 };
         let written = output[..output.len().min(80 * numbers)].to_vec();
         let what = What::Read { request, state: answer.value, found: answer.found, written };
@@ -110,5 +117,65 @@ fn replay(library: &mut SingleLibrary, entry: &Entry) -> Result<(), String> {
                 false => Err("one-copy order: the library gives other carts".to_string()),
             }
         }
+    }
+}
+
+#[cfg(test)]
+mod tests {
+    use super::*;
+    use simulator::Control;
+
+    fn answer(kind: u32, value: u32, found: u32) -> Answer {
+        Answer { kind, value, found, control: Control::default() }
+    }
+
+    fn new_cart_1() -> Vec<u8> {
+        let mut operation = vec![0; 80];
+        operation[..9].copy_from_slice(&[1, 1, 1, 0, 5, 0, 0, 0, 6]);
+        operation[16] = b'A';
+        operation
+    }
+
+    fn read_cart_1(session: u32) -> Call {
+        let mut request = vec![0; 80];
+        request[..2].copy_from_slice(&[1, 1]);
+        request[16] = 1;
+        Call::Read { session, request, output: 80 }
+    }
+
+    /// Session 1 commits and reads; the read's answer is given.
+    fn history(read: Answer, output: &[u8]) -> History {
+        let mut history = History::new();
+        let commit = Call::Commit { session: 1, operations: new_cart_1() };
+        history.note(1, &commit, &answer(DONE, 1, 0), &[]);
+        history.note(2, &read_cart_1(1), &read, output);
+        history
+    }
+
+    #[test]
+    fn a_read_of_what_was_committed_stands() {
+        assert_eq!(history(answer(ANSWERED, 1, 1), &new_cart_1()).check(), Ok(()));
+    }
+
+    #[test]
+    fn a_read_before_its_own_commit_does_not() {
+        let early = history(answer(ANSWERED, 0, 0), &[0; 80]).check();
+        assert!(early.unwrap_err().1.contains("session 1 out of its order"));
+    }
+
+    #[test]
+    fn other_carts_found_or_state_do_not() {
+        assert!(history(answer(ANSWERED, 1, 1), &[0; 80]).check().is_err());
+        assert!(history(answer(ANSWERED, 1, 0), &new_cart_1()).check().is_err());
+        assert!(history(answer(ANSWERED, 2, 1), &new_cart_1()).check().is_err());
+    }
+
+    #[test]
+    fn a_collect_has_the_request_of_the_read_that_waited() {
+        let mut history = history(answer(WAITS, 1, 0), &[]);
+        let collect = Call::Collect { session: 1, output: 80 };
+        history.note(3, &collect, &answer(WAITS, 1, 0), &[7; 80]);
+        history.note(4, &collect, &answer(ANSWERED, 1, 1), &new_cart_1());
+        assert_eq!((history.len(), history.check()), (2, Ok(())));
     }
 }

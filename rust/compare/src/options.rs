@@ -27,7 +27,7 @@ pub struct Options {
 }
 
 pub const GATE_SEED: u64 = 20_240_000;
-pub const GATE_CALLS: u64 = 400_000;
+pub const GATE_CALLS: u64 = 600_000;
 
 pub fn parse(mut words: impl Iterator<Item = String>) -> Result<Options, String> {
     let mut options = Options {
@@ -59,4 +59,23 @@ pub fn parse(mut words: impl Iterator<Item = String>) -> Result<Options, String>
 
 fn number(name: &str, word: Option<String>) -> Result<u64, String> {
     word.and_then(|word| word.parse().ok()).ok_or(format!("{name} takes a number"))
+}
+
+#[cfg(test)]
+mod tests {
+    use super::*;
+
+    fn parsed(words: &str) -> Result<Options, String> {
+        parse(words.split_whitespace().map(str::to_string))
+    }
+
+    #[test]
+    fn words_are_taken_apart() {
+        let options = parsed("--seed 7 --calls 9").unwrap();
+        assert_eq!((options.seed, options.calls, options.mode), (7, 9, Mode::Run));
+        assert_eq!(parsed("--list 5").unwrap().mode, Mode::List(5));
+        let gate = parsed("--gate").unwrap();
+        assert!(gate.seed == GATE_SEED && gate.calls >= 300_000);
+        assert!(parsed("--seed").is_err() && parsed("--calls x").is_err() && parsed("x").is_err());
+    }
 }

@@ -57,8 +57,7 @@ impl<'e> Player<'e> {
         let before = Coverage::before(call, &wall.simulated);
         let expected = simulate(call, control, &mut wall.simulated);
         let answer = self.engine.play(call, control, &mut wall.played);
-        let difference =
-            first_difference((&expected, &wall.simulated), (&answer, &wall.played));
+        let difference = first_difference((&expected, &wall.simulated), (&answer, &wall.played));
         if let Some(words) = difference {
             return Err(self.mismatch(call, words));
         }

@@ -93,16 +93,12 @@ impl Engine for Real {
         // during the call.
         unsafe {
             match *call {
-                Call::Setup { studios, .. } => {
-                    sulyobak_setup(m, ml, g, gl, s, sl, studios, i, il)
-                }
+                Call::Setup { studios, .. } => sulyobak_setup(m, ml, g, gl, s, sl, studios, i, il),
                 Call::Commit { session, .. } => {
                     sulyobak_commit(m, ml, g, gl, s, sl, control, session, i, il)
                 }
                 Call::Send { studio } => sulyobak_send(m, ml, g, gl, s, sl, control, studio),
-                Call::Refresh { studio } => {
-                    sulyobak_refresh(m, ml, g, gl, s, sl, control, studio)
-                }
+                Call::Refresh { studio } => sulyobak_refresh(m, ml, g, gl, s, sl, control, studio),
                 Call::Read { session, .. } => {
                     sulyobak_read(m, ml, g, gl, s, sl, control, session, i, il, o, ol)
                 }

@@ -90,6 +90,12 @@ const BOUNDARIES: &[Key] = &[
     ("commit, size", 79, 5),
     ("commit, size", 80, DONE),
     ("commit, size", 81, 5),
+    ("commit, size", 160, DONE),
+    ("commit, size", 240, DONE),
+    ("commit, size", 320, DONE),
+    ("commit, size", 400, DONE),
+    ("commit, size", 480, DONE),
+    ("commit, size", 560, DONE),
     ("commit, size", 640, DONE),
     ("commit, size", 641, 5),
     ("commit, size", 720, 5),
@@ -136,6 +142,10 @@ const BOUNDARIES: &[Key] = &[
     ("send, studio", 4, DONE),
     ("send, studio", 5, 3),
     ("send, studio", HUGE, 3),
+    ("send, studio", 2, DONE),
+    ("send, studio", 3, DONE),
+    ("send, number", 1, DONE),
+    ("send, number", 512, DONE),
     ("send, studio − S", 0, DONE),
     ("send, studio − S", 1, 3),
     ("send, sent − applied", 31, DONE),
@@ -147,6 +157,10 @@ const BOUNDARIES: &[Key] = &[
     ("refresh, studio", 4, DONE),
     ("refresh, studio", 5, 3),
     ("refresh, studio", HUGE, 3),
+    ("refresh, studio", 2, DONE),
+    ("refresh, studio", 3, DONE),
+    ("refresh, number", 1, DONE),
+    ("refresh, number", 512, DONE),
     ("refresh, studio − S", 0, DONE),
     ("refresh, studio − S", 1, 3),
     ("read, session", 0, 3),
@@ -182,6 +196,15 @@ const BOUNDARIES: &[Key] = &[
     ("read, session number − applied", 1, WAITED),
     ("read, session number − applied", 0, READ),
     ("read, session number − applied", LESS, READ),
+    ("read or collect, session number", 0, READ),
+    ("read or collect, session number", 1, READ),
+    ("read or collect, session number", 1, WAITED),
+    ("read or collect, session number", 512, READ),
+    ("read or collect, session number", 512, WAITED),
+    ("read or collect, studio", 1, READ),
+    ("read or collect, studio", 2, READ),
+    ("read or collect, studio", 3, READ),
+    ("read or collect, studio", 4, READ),
     ("found by numbers", 0, READ),
     ("found by numbers", 1, READ),
     ("found by numbers", 32, READ),
@@ -233,4 +256,24 @@ pub fn lines() -> Vec<Line> {
 fn pair(call: &'static str, row: u32, other: u32) -> Option<Line> {
     let excluded = EXCLUDED.iter().any(|(name, a, b, _)| (*name, *a, *b) == (call, row, other));
     (!excluded).then_some(Line::Pair((call, row, other)))
+}
+
+#[cfg(test)]
+mod tests {
+    use super::*;
+    use std::collections::BTreeSet;
+
+    #[test]
+    fn every_line_is_named_once() {
+        let names: Vec<String> = lines().iter().map(Line::to_string).collect();
+        let once: BTreeSet<&String> = names.iter().collect();
+        assert_eq!(once.len(), names.len());
+    }
+
+    #[test]
+    fn every_pair_is_required_or_excluded() {
+        let pairs = lines().iter().filter(|line| matches!(line, Line::Pair(_))).count();
+        let all: usize = CALLS.iter().map(|(_, rows, _)| rows.len() * (rows.len() - 1) / 2).sum();
+        assert_eq!(pairs + EXCLUDED.len(), all);
+    }
 }

@@ -58,9 +58,9 @@ fn row_holds(row: u32, call: &Call, control: &Control, lent: &Lent) -> bool {
 /// The session that a call names.
 pub fn session_of(call: &Call) -> Option<u32> {
     match call {
-        Call::Commit { session, .. } | Call::Read { session, .. } | Call::Collect { session, .. } => {
-            Some(*session)
-        }
+        Call::Commit { session, .. }
+        | Call::Read { session, .. }
+        | Call::Collect { session, .. } => Some(*session),
         _ => None,
     }
 }

@@ -68,11 +68,7 @@ impl SingleLibrary {
 
     /// State, found, and the bytes that the answer writes.
     pub fn read(&self, request: &[u8]) -> (u32, u32, Vec<u8>) {
-        if request[0] == 1 {
-            self.read_numbers(request)
-        } else {
-            self.read_title(request)
-        }
+        if request[0] == 1 { self.read_numbers(request) } else { self.read_title(request) }
     }
 
     fn read_numbers(&self, request: &[u8]) -> (u32, u32, Vec<u8>) {

@@ -16,7 +16,8 @@ pub fn commit(system: &mut System, session: u32, operations: &[u8]) -> Ended {
         return Err(4);
     }
     let count = operations.len() / UNIT;
-    let sized = operations.len().is_multiple_of(UNIT) && (1..=TRANSACTION_OPERATIONS).contains(&count);
+    let sized =
+        operations.len().is_multiple_of(UNIT) && (1..=TRANSACTION_OPERATIONS).contains(&count);
     if !sized {
         return Err(5);
     }
@@ -147,7 +148,8 @@ fn used_session(system: &System, session: u32) -> Result<usize, u32> {
 
 /// The studio of a number from 1 to S, or row 3.
 fn known_studio(system: &mut System, studio: u32) -> Result<&mut Studio, u32> {
-    let place = usize::try_from(studio).ok().and_then(|studio| studio.checked_sub(1)).ok_or(3u32)?;
+    let place =
+        usize::try_from(studio).ok().and_then(|studio| studio.checked_sub(1)).ok_or(3u32)?;
     system.studios.get_mut(place).ok_or(3)
 }
 

@@ -29,7 +29,12 @@ pub struct System {
 impl System {
     /// The system, or `None` when control and memory are not of the layout.
     /// The three memories have their right lengths.
-    pub fn decode(library: &[u8], log: &[u8], sessions: &[u8], control: &Control) -> Option<System> {
+    pub fn decode(
+        library: &[u8],
+        log: &[u8],
+        sessions: &[u8],
+        control: &Control,
+    ) -> Option<System> {
         let count = usize::try_from(control.studios).ok()?;
         if !(1..=STUDIOS).contains(&count) {
             return None;

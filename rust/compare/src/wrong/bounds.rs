@@ -83,7 +83,12 @@ fn studio_bytes_changed(_: &mut Notes, call: &Call, control: Control, lent: &mut
     answer
 }
 
-fn refused_changes_control(_: &mut Notes, call: &Call, control: Control, lent: &mut Lent) -> Answer {
+fn refused_changes_control(
+    _: &mut Notes,
+    call: &Call,
+    control: Control,
+    lent: &mut Lent,
+) -> Answer {
     let mut answer = right(call, control, lent);
     if is_refused(&answer, 8) {
         answer.control.used += 1;

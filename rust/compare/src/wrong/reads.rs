@@ -1,7 +1,7 @@
 //! Mistakes of read and collect.
 
-use super::{Mistake, Notes, copy_of, is_refused, mistake, order_mistake, refused, right};
 use super::session_unit;
+use super::{Mistake, Notes, copy_of, is_refused, mistake, order_mistake, refused, right};
 use crate::call::Call;
 use crate::lent::Lent;
 use crate::rows;

@@ -1,6 +1,8 @@
 //! Mistakes of send and refresh.
 
-use super::{Mistake, Notes, copy_of, is_refused, mistake, order_mistake, refused, right, transaction};
+use super::{
+    Mistake, Notes, copy_of, is_refused, mistake, order_mistake, refused, right, transaction,
+};
 use crate::call::Call;
 use crate::lent::Lent;
 use crate::single;
@@ -99,7 +101,12 @@ fn refresh_plays_next(_: &mut Notes, call: &Call, control: Control, lent: &mut L
     answer
 }
 
-fn refresh_on_first_studio(_: &mut Notes, call: &Call, control: Control, lent: &mut Lent) -> Answer {
+fn refresh_on_first_studio(
+    _: &mut Notes,
+    call: &Call,
+    control: Control,
+    lent: &mut Lent,
+) -> Answer {
     let before = lent.library.clone();
     let answer = right(call, control, lent);
     if refreshed(call, &answer).is_some() {
