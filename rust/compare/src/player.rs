@@ -2,7 +2,7 @@
 
 use crate::call::Call;
 use crate::coverage::Coverage;
-use crate::differ::first_difference;
+use crate::differ::{answer_text, first_difference};
 use crate::engine::{Engine, simulate};
 use crate::one_copy::History;
 use crate::rows;
@@ -59,6 +59,8 @@ impl<'e> Player<'e> {
         let answer = self.engine.play(call, control, &mut wall.played);
         let difference = first_difference((&expected, &wall.simulated), (&answer, &wall.played));
         if let Some(words) = difference {
+            let ends = format!("{} / {}", answer_text(&expected), answer_text(&answer));
+            let call = format!("{call}\n  with {control:?}\n  simulator / engine: {ends}");
             return Err(self.mismatch(call, words));
         }
         self.settle_row_2(&mut holding, call, &answer, wall, &control);
@@ -106,8 +108,8 @@ impl<'e> Player<'e> {
         })
     }
 
-    fn mismatch(&self, call: &Call, words: String) -> Mismatch {
-        Mismatch { call_number: self.call_number, call: call.to_string(), words }
+    fn mismatch(&self, call: String, words: String) -> Mismatch {
+        Mismatch { call_number: self.call_number, call, words }
     }
 
     /// Row 2 is what the answer says, except after row 1, where it is looked at.
@@ -137,6 +139,6 @@ impl<'e> Player<'e> {
             return Ok(());
         }
         let words = format!("rows that hold {holding:?}, but the answer is refusal {refused:?}");
-        Err(self.mismatch(call, words))
+        Err(self.mismatch(call.to_string(), words))
     }
 }
