@@ -9,6 +9,7 @@ ghost use Rattle.replication.specs.Layout.{countsForm};
 ghost use Rattle.replication.specs.Calls.{controlOf, committed, withSent, withApplied};
 
 // Sizes are document 01's. Any value may stand in any field: each has its answer.
+#[repr(C)]
 pub struct Control {
     pub studios: u32,
     pub session_studios: [u32; 16],

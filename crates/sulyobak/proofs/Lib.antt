@@ -1,0 +1,2 @@
+-- Laws on the words of an answer.
+pub mod WordLaws

@@ -1,0 +1,2 @@
+-- What the calls leave, as C sees it.
+pub mod Words

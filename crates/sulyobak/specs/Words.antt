@@ -1,0 +1,38 @@
+-- An answer of document 01 as three words for C: kind, value, found. "words that have no meaning are 0".
+use mathlib.Core.Bool.{Bool, cond}
+use mathlib.Core.List.{List, []}
+use Prim.Native.Nat.{ℕ}
+use lib.Dec.{eqb}
+use Rattle.replication.specs.Answer.{Answer, refused, done, waits, answered}
+use Rattle.replication.specs.Memory.{Memory}
+use Rattle.replication.specs.Rows.{stopped, memoryRows}
+use Rattle.replication.specs.Calls.{After}
+use Rattle.replication.specs.declared.control.Control.{Control}
+use Rattle.sulyobak.specs.declared.words.Words.{Words}
+
+abbrev pub words : ℕ → ℕ → ℕ → Control → Words
+words kind value found c = record { kind = kind; value = value; found = found; control = c }
+
+-- 0 refused: the row's number; 1 done: the commit's number, sent or applied (0 for setup); 2 answered: the state, with found;
+-- 3 waits: the session's number
+abbrev pub wordsOf : Answer → Control → Words
+wordsOf (refused n) c = words 0 n 0 c
+wordsOf (done n) c = words 1 n 0 c
+wordsOf (answered state found) c = words 2 state found c
+wordsOf (waits n) c = words 3 n 0 c
+
+-- what a call hands back to C, and the bytes it leaves
+pub record Left : Type 0 where
+  pub words : Words
+  pub memory : Memory
+  pub output : List ℕ
+
+abbrev pub left : Words → Memory → List ℕ → Left
+left w m out = record { words = w; memory = m; output = out }
+
+abbrev pub leftBy : After → Left
+leftBy a = left (wordsOf (a .answer) (a .control)) (a .memory) (a .output)
+
+-- the layout test alone: rows 1 and 2
+unfoldable pub layoutWords : Control → Memory → Words
+layoutWords c m = let n = stopped (memoryRows c m) in cond (eqb n 0) (words 1 0 0 c) (words 0 n 0 c)

@@ -1,0 +1,94 @@
+// The engine for C and Rust: include/sulyobak.h says the same to C. Each function passes its arguments on and hands the answer back as
+// words; no test is left to the caller.
+use crate::words::Words;
+use replication::commit;
+use replication::control::Control;
+use replication::refresh;
+use replication::rows;
+use replication::send;
+use replication::setup;
+ghost use mathlib.Core.Path.{_≡_};
+ghost use mathlib.Core.List.{[]};
+ghost use Rattle.replication.specs.Memory.{memory};
+ghost use Rattle.replication.specs.Calls.{setup, commit, send, refresh};
+ghost use Rattle.sulyobak.specs.Words.{left, leftBy, layoutWords};
+
+pub mod words;
+
+// Setup, with the studio of each of the sixteen sessions.
+#[no_mangle]
+pub extern "C" fn sulyobak_setup(
+    library: &mut [u8],
+    log: &mut [u8],
+    sessions: &mut [u8],
+    studios: u32,
+    places: &[u8],
+) -> Words
+    ensures { λ r. ⌜ left r (memory (now (library .exit)) (now (log .exit)) (now (sessions .exit))) []
+        ≡ leftBy (setup (memory (now (library .entry)) (now (log .entry)) (now (sessions .entry))) studios (now (places .entry))) ⌝ }
+{
+    Words::of_setup(setup::setup(library, log, sessions, studios, places))
+}
+
+// Commit of one to eight operations of 80 bytes.
+#[no_mangle]
+pub extern "C" fn sulyobak_commit(
+    library: &mut [u8],
+    log: &mut [u8],
+    sessions: &mut [u8],
+    control: Control,
+    session: u32,
+    operations: &[u8],
+) -> Words
+    ensures { λ r. ⌜ left r (memory (now (library .exit)) (now (log .exit)) (now (sessions .exit))) []
+        ≡ leftBy (commit control (memory (now (library .entry)) (now (log .entry)) (now (sessions .entry))) session (now (operations .entry))) ⌝ }
+{
+    Words::of_count(commit::commit(control, library, log, sessions, session, operations))
+}
+
+// Send. Memory is only read.
+#[no_mangle]
+pub extern "C" fn sulyobak_send(
+    library: &[u8],
+    log: &[u8],
+    sessions: &[u8],
+    control: Control,
+    studio: u32,
+) -> Words
+    ensures { λ r. ⌜ left r (memory (now (library .entry)) (now (log .entry)) (now (sessions .entry))) []
+        ≡ leftBy (send control (memory (now (library .entry)) (now (log .entry)) (now (sessions .entry))) studio) ⌝ }
+{
+    Words::of_count(send::send(control, library, log, sessions, studio))
+}
+
+// Refresh. Library memory changes; log and sessions are only read.
+#[no_mangle]
+pub extern "C" fn sulyobak_refresh(
+    library: &mut [u8],
+    log: &[u8],
+    sessions: &[u8],
+    control: Control,
+    studio: u32,
+) -> Words
+    ensures { λ r. ⌜ left r (memory (now (library .exit)) (now (log .entry)) (now (sessions .entry))) []
+        ≡ leftBy (refresh control (memory (now (library .entry)) (now (log .entry)) (now (sessions .entry))) studio) ⌝ }
+{
+    Words::of_count(refresh::refresh(control, library, log, sessions, studio))
+}
+
+// The test of lengths and layout alone, which every call but setup begins with. Memory is only read.
+#[no_mangle]
+pub extern "C" fn sulyobak_layout(
+    library: &[u8],
+    log: &[u8],
+    sessions: &[u8],
+    control: Control,
+) -> Words
+    ensures { λ r. ⌜ r ≡ layoutWords control (memory (now (library .entry)) (now (log .entry)) (now (sessions .entry))) ⌝ }
+{
+    let stopped = rows::stopped_by_memory(control, library, log, sessions);
+    if stopped != 0 {
+        return Words::new(Words::REFUSED, stopped, control);
+    }
+    Words::new(Words::DONE, 0, control)
+}

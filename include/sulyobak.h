@@ -1,0 +1,192 @@
+/*
+ * Sulyobak: a replication engine for radio cart libraries.
+ *
+ * One head end commits edits to its copy of the library and to a log. Up to four studios are sent the committed transactions and apply
+ * them, in order, to copies of their own. A session belongs to one studio and reads that studio's copy; a session's read is answered
+ * once the copy has reached the session's own last commit, and waits until then. So nobody is handed an old cut that they have just
+ * replaced.
+ *
+ * Link with libsulyobak.a (the command `rt staticlib sulyobak` writes it to target/staticlib). It needs no other library, allocates
+ * nothing, keeps nothing between calls, and runs on x86-64 Linux.
+ *
+ * WHAT THE ENGINE LOOKS AFTER. Every byte and every number passed in is tested: any control, any bytes and any argument have their
+ * answer. A refused call returns its number and changes no byte of your memory. Every call ends. Each function here is proved to
+ * answer, and to leave in memory, exactly what the specification gives (crates/sulyobak/src/lib.rt has the contracts).
+ *
+ * WHAT REMAINS THE CALLER'S. No library can test these:
+ *   - every pointer is valid for as many bytes as its length says (where a length is 0, the pointer is not used); what is not const
+ *     is writable;
+ *   - the buffers of one call do not overlap: the three memories, output, and what is read (operations, request, session_studios);
+ *   - one call at a time on the same memory, and nobody else reads or writes it while a call runs;
+ *   - the control that the last call handed back goes into the next one, and memory is kept as that call left it. (Where control
+ *     or memory are damaged so that they are no longer of the layout, each call says so with the number 2. A control that is old, but
+ *     still of the layout for this memory, cannot be told from the right one.)
+ *
+ * Numbers inside the memories, operations, requests and carts are little-endian.
+ */
+#ifndef SULYOBAK_H
+#define SULYOBAK_H
+
+#include <stddef.h>
+#include <stdint.h>
+
+#ifdef __cplusplus
+extern "C" {
+#endif
+
+/* The version of this interface: functions, structs, numbers and layout of memory. sulyobak_control and sulyobak_answer change with it,
+ * so a header and a library go together, and control is stored together with the version that wrote it. */
+#define SULYOBAK_VERSION 1
+
+/* Sizes of the memories that a caller lends, in bytes: exactly these. */
+#define SULYOBAK_LIBRARY_SIZE 51200 /* five copies of 128 carts: the head end's, then those of studios 1 to 4 */
+#define SULYOBAK_LOG_SIZE 40960     /* 512 records */
+#define SULYOBAK_SESSIONS_SIZE 1280 /* 16 sessions */
+
+/* Sizes of what is passed in and out, in bytes. */
+#define SULYOBAK_CART_SIZE 80       /* a cart in a copy or in output */
+#define SULYOBAK_OPERATION_SIZE 80  /* an operation of a commit */
+#define SULYOBAK_REQUEST_SIZE 80    /* what a read asks for */
+#define SULYOBAK_COPY_SIZE 10240    /* one copy of the library */
+#define SULYOBAK_OUTPUT_MOST 2560   /* output of this size is long enough for every read */
+
+/* How many there are at most. */
+#define SULYOBAK_STUDIOS 4      /* studios, numbered from 1 */
+#define SULYOBAK_SESSIONS 16    /* sessions, numbered from 1 */
+#define SULYOBAK_CARTS 128      /* carts, numbered from 1 */
+#define SULYOBAK_TITLE_MOST 64  /* letters of a title: it is kept whole, or the commit is refused */
+#define SULYOBAK_OPERATIONS 8   /* operations in one commit */
+#define SULYOBAK_NUMBERS 32     /* cart numbers in one read */
+#define SULYOBAK_RECORDS 512    /* operations in the log */
+#define SULYOBAK_WINDOW 32      /* transactions sent to a studio and not yet applied there */
+
+/*
+ * An OPERATION is 80 bytes, as is a CART in output:
+ *   byte 0        operation: 1 new, 2 retitle, 3 re-cut, 4 withdraw; cart: 1 (an empty cart is 80 zero bytes)
+ *   byte 1        length of the title, 1 to 64
+ *   bytes 2-3     cart number, 1 to 128
+ *   bytes 4-7     audio number, at least 1
+ *   bytes 8-11    length in milliseconds, at least 1
+ *   bytes 12-15   zero
+ *   bytes 16-79   the title, each letter a byte from 32 to 126, then zeros
+ * New has every field. Retitle has audio number and length zero. Re-cut has title length and title zero. Withdraw has the cart number only.
+ *
+ * A REQUEST is 80 bytes:
+ *   byte 0        1 by cart numbers, 2 by title
+ *   byte 1        how many numbers, 1 to 32; or the length of the title, 1 to 64
+ *   bytes 2-15    zero
+ *   bytes 16-79   the cart numbers, two bytes each, 1 to 128; or the title; then zeros
+ */
+#define SULYOBAK_OPERATION_NEW 1
+#define SULYOBAK_OPERATION_RETITLE 2
+#define SULYOBAK_OPERATION_RECUT 3
+#define SULYOBAK_OPERATION_WITHDRAW 4
+#define SULYOBAK_REQUEST_NUMBERS 1
+#define SULYOBAK_REQUEST_TITLE 2
+
+/* The counts of a system: passed in and handed back as a value. Keep the one that the last call handed back. */
+typedef struct {
+    uint32_t studios;             /* how many studios, 1 to 4 */
+    uint32_t session_studios[16]; /* the studio of each session; 0 for a session that is not in use */
+    uint32_t used;                /* records of the log that hold operations, up to 512 */
+    uint32_t commits;             /* transactions committed */
+    uint32_t sent[4];             /* for each studio, how many transactions were sent to it */
+    uint32_t applied[4];          /* for each studio, how many of these its copy has taken */
+} sulyobak_control;
+
+/* What a call answers. Words that have no meaning for the kind are 0. */
+typedef struct {
+    uint32_t kind;  /* one of the four below */
+    uint32_t value; /* refused: the number, below; done: what the call counts; answered: the state; waits: the session's number */
+    uint32_t found; /* answered: how many carts were found */
+    sulyobak_control control; /* control for the next call; unchanged where the call was refused (setup's apart) */
+} sulyobak_answer;
+
+/* Kinds of answer. */
+#define SULYOBAK_REFUSED 0  /* nothing was done, no byte was changed; value says why */
+#define SULYOBAK_DONE 1     /* done; value: the commit's number, sent, or applied; 0 for setup and for the layout test */
+#define SULYOBAK_ANSWERED 2 /* the read is answered; value: how many transactions the copy had taken; found; carts are in output */
+#define SULYOBAK_WAITS 3    /* the read is kept in the session; value: the number that the studio's copy has to reach first */
+
+/* Why a call was refused. They are tested in the order in which each function below lists them. */
+#define SULYOBAK_BAD_LENGTHS 1      /* One of the three memories does not have its exact length. */
+#define SULYOBAK_BAD_LAYOUT 2       /* Control and memory are not of the layout: damaged, mixed up, or never set up. */
+#define SULYOBAK_NOBODY 3           /* There is no such session in use (1 to 16), or no such studio (1 to control.studios). */
+#define SULYOBAK_READ_WAITING 4     /* The session has a read waiting: collect it first. */
+#define SULYOBAK_BAD_SIZE 5         /* A commit takes 1 to 8 operations: 80 to 640 bytes, in steps of 80. */
+#define SULYOBAK_BAD_OPERATION 6    /* An operation is out of form, for example with a title that is empty or too long. */
+#define SULYOBAK_LOG_FULL 7         /* The log has no room for the operations. */
+#define SULYOBAK_WRONG_STATE 8      /* A new cart is there already, or the cart to retitle, re-cut or withdraw is empty. */
+#define SULYOBAK_ALL_SENT 9         /* Every committed transaction was sent to this studio. */
+#define SULYOBAK_WINDOW_FULL 10     /* 32 transactions were sent to this studio and not yet applied: refresh it first. */
+#define SULYOBAK_ALL_APPLIED 11     /* Everything that was sent to this studio is applied. */
+#define SULYOBAK_BAD_REQUEST 12     /* The request is not 80 bytes of the form above. */
+#define SULYOBAK_SHORT_OUTPUT 13    /* Output is shorter than 80 bytes for each number asked (80 for a title). */
+#define SULYOBAK_NOTHING_WAITING 14 /* The session has no read waiting. */
+#define SULYOBAK_BAD_STUDIOS 15     /* Studios are 1 to 4, with one byte for each of 16 sessions, none above the number of studios. */
+
+/* The three memories that every call is lent. They must be of the sizes above; the engine tests the lengths passed.
+ *   library, library_len     SULYOBAK_LIBRARY_SIZE bytes: changed by setup, commit, refresh
+ *   log, log_len             SULYOBAK_LOG_SIZE bytes: changed by setup, commit
+ *   sessions, sessions_len   SULYOBAK_SESSIONS_SIZE bytes: changed by setup, commit, read, collect */
+#define SULYOBAK_MEMORY \
+    uint8_t *library, size_t library_len, uint8_t *log, size_t log_len, uint8_t *sessions, size_t sessions_len
+
+/* Sets up a fresh system: all memory zero, every cart empty, all counts zero.
+ *   studios               how many studios, 1 to 4
+ *   session_studios       16 bytes: the studio of each session, 1 to studios, or 0 for a session that is not in use
+ *   session_studios_len   16
+ * Answers done (value 0), or refused 1, 15. A refused setup leaves memory as it was and hands back a control of zeros, with which every
+ * other call is refused by 2: keep your earlier control until setup is done. */
+sulyobak_answer sulyobak_setup(SULYOBAK_MEMORY, uint32_t studios, const uint8_t *session_studios, size_t session_studios_len);
+
+/* Commits a transaction at the head end: all its operations, in their order, or none.
+ *   control                       as the last call handed it back
+ *   session                       whose commit this is, 1 to 16; the session's later reads wait until its studio has taken this commit
+ *   operations, operations_len    1 to 8 operations of 80 bytes, one after the other
+ * Answers done (value: the commit's number, from 1), or refused 1, 2, 3, 4, 5, 6, 7, 8. */
+sulyobak_answer sulyobak_commit(SULYOBAK_MEMORY, sulyobak_control control, uint32_t session, const uint8_t *operations,
+                                size_t operations_len);
+
+/* Counts the next committed transaction as sent to a studio. Changes no memory.
+ *   control   as the last call handed it back
+ *   studio    1 to control.studios
+ * Answers done (value: how many were sent to the studio by now), or refused 1, 2, 3, 9, 10. */
+sulyobak_answer sulyobak_send(SULYOBAK_MEMORY, sulyobak_control control, uint32_t studio);
+
+/* Applies the next transaction that was sent to a studio, whole, to the studio's copy.
+ *   control   as the last call handed it back
+ *   studio    1 to control.studios
+ * Answers done (value: how many the copy has taken by now), or refused 1, 2, 3, 11. */
+sulyobak_answer sulyobak_refresh(SULYOBAK_MEMORY, sulyobak_control control, uint32_t studio);
+
+/* Reads carts from the copy of the session's studio, or waits if that copy is behind the session's own last commit.
+ *   control               as the last call handed it back
+ *   session               1 to 16
+ *   request, request_len  80 bytes of the form above
+ *   output, output_len    where the carts are written, from its start: 80 bytes for each number asked, zeros for an empty cart; for a title
+ *                         80 bytes, the one cart with exactly that title, or zeros where none or several have it. Bytes after these
+ *                         are left alone.
+ * Answers answered (value: how many transactions the copy had taken; found: how many of the places asked hold a cart, or how many carts
+ * have the title), or waits (value: the session's number; the request is kept, output is left alone: call collect later), or
+ * refused 1, 2, 3, 4, 12, 13. */
+sulyobak_answer sulyobak_read(SULYOBAK_MEMORY, sulyobak_control control, uint32_t session, const uint8_t *request, size_t request_len,
+                              uint8_t *output, size_t output_len);
+
+/* Collects the read that a session has waiting: answered, as by read, once the studio's copy has caught up; else it waits on.
+ *   control               as the last call handed it back
+ *   session               1 to 16
+ *   output, output_len    as for read
+ * Answers answered or waits, as read does, or refused 1, 2, 3, 14, 13 (in this order). */
+sulyobak_answer sulyobak_collect(SULYOBAK_MEMORY, sulyobak_control control, uint32_t session, uint8_t *output, size_t output_len);
+
+/* Tests memory and control alone, as every call but setup does first: for use after loading them from a disk. Changes no memory.
+ *   control   as it was stored
+ * Answers done (value 0), or refused 1, 2. */
+sulyobak_answer sulyobak_layout(SULYOBAK_MEMORY, sulyobak_control control);
+
+#ifdef __cplusplus
+}
+#endif
+
+#endif

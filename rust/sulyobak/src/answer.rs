@@ -1,0 +1,193 @@
+use crate::cart::Cart;
+use std::error::Error;
+use std::fmt;
+
+/// Why a call was refused. A refused call changes nothing.
+///
+/// ```
+/// use sulyobak::{Library, Refusal};
+///
+/// let mut library = Library::new(1, &[1]).unwrap();
+/// let refusal = library.send(1).unwrap_err();
+/// assert_eq!(refusal, Refusal::AllSent);
+/// assert_eq!(refusal.number(), 9);
+/// assert_eq!(refusal.to_string(), "refused (9): every committed transaction was sent to this studio");
+/// ```
+#[derive(Clone, Copy, Debug, PartialEq, Eq, Hash)]
+#[non_exhaustive]
+pub enum Refusal {
+    /// 1: one of the three memories does not have its exact length.
+    Lengths,
+    /// 2: control and memory are not of the layout.
+    Layout,
+    /// 3: there is no such session in use, or no such studio.
+    Nobody,
+    /// 4: the session has a read waiting.
+    ReadWaiting,
+    /// 5: a commit takes 1 to 8 operations.
+    Size,
+    /// 6: an operation is out of form.
+    Operation,
+    /// 7: the log has no room for the operations.
+    LogFull,
+    /// 8: an operation meets its cart in the wrong state.
+    WrongState,
+    /// 9: every committed transaction was sent to this studio.
+    AllSent,
+    /// 10: 32 transactions were sent to this studio and not yet applied.
+    WindowFull,
+    /// 11: everything that was sent to this studio is applied.
+    AllApplied,
+    /// 12: the request is out of form.
+    Request,
+    /// 13: output is too short.
+    Output,
+    /// 14: the session has no read waiting.
+    NothingWaiting,
+    /// 15: setup's studios are out of range.
+    Studios,
+    /// A number that this version of the crate does not know.
+    Unknown(u32),
+}
+
+impl Refusal {
+    // Every refusal, by its number from 1.
+    const ALL: [Refusal; 15] = [
+        Refusal::Lengths,
+        Refusal::Layout,
+        Refusal::Nobody,
+        Refusal::ReadWaiting,
+        Refusal::Size,
+        Refusal::Operation,
+        Refusal::LogFull,
+        Refusal::WrongState,
+        Refusal::AllSent,
+        Refusal::WindowFull,
+        Refusal::AllApplied,
+        Refusal::Request,
+        Refusal::Output,
+        Refusal::NothingWaiting,
+        Refusal::Studios,
+    ];
+
+    /// The refusal with this number of document 01.
+    pub fn from_number(number: u32) -> Refusal {
+        let place = (number as usize).checked_sub(1);
+        place.and_then(|place| Refusal::ALL.get(place)).copied().unwrap_or(Refusal::Unknown(number))
+    }
+
+    /// Its number in document 01.
+    pub fn number(self) -> u32 {
+        match self {
+            Refusal::Lengths => 1,
+            Refusal::Layout => 2,
+            Refusal::Nobody => 3,
+            Refusal::ReadWaiting => 4,
+            Refusal::Size => 5,
+            Refusal::Operation => 6,
+            Refusal::LogFull => 7,
+            Refusal::WrongState => 8,
+            Refusal::AllSent => 9,
+            Refusal::WindowFull => 10,
+            Refusal::AllApplied => 11,
+            Refusal::Request => 12,
+            Refusal::Output => 13,
+            Refusal::NothingWaiting => 14,
+            Refusal::Studios => 15,
+            Refusal::Unknown(number) => number,
+        }
+    }
+
+    /// What it says to people.
+    pub fn sentence(self) -> &'static str {
+        match self {
+            Refusal::Lengths => "one of the three memories does not have its exact length",
+            Refusal::Layout => "control and memory are not of the layout: damaged, mixed up, or never set up",
+            Refusal::Nobody => "there is no such session in use, or no such studio",
+            Refusal::ReadWaiting => "the session has a read waiting; collect it first",
+            Refusal::Size => "a commit takes 1 to 8 operations",
+            Refusal::Operation => "an operation is out of form: cart number 1 to 128, audio and length at least 1, title of 1 to 64 letters",
+            Refusal::LogFull => "the log has no room for the operations",
+            Refusal::WrongState => "a new cart is there already, or the cart to retitle, re-cut or withdraw is empty",
+            Refusal::AllSent => "every committed transaction was sent to this studio",
+            Refusal::WindowFull => "32 transactions were sent to this studio and not yet applied; refresh it first",
+            Refusal::AllApplied => "everything that was sent to this studio is applied",
+            Refusal::Request => "the request is out of form: 1 to 32 cart numbers from 1 to 128, or a title of 1 to 64 letters",
+            Refusal::Output => "output is shorter than 80 bytes for each number asked, or 80 for a title",
+            Refusal::NothingWaiting => "the session has no read waiting",
+            Refusal::Studios => "studios are 1 to 4, with a studio for each of 16 sessions, none above the number of studios",
+            Refusal::Unknown(_) => "the linked engine is of another version than this crate",
+        }
+    }
+}
+
+impl fmt::Display for Refusal {
+    fn fmt(&self, f: &mut fmt::Formatter<'_>) -> fmt::Result {
+        write!(f, "refused ({}): {}", self.number(), self.sentence())
+    }
+}
+
+impl Error for Refusal {}
+
+/// What read and collect answer.
+#[derive(Clone, Debug, PartialEq, Eq, Hash)]
+pub enum Read {
+    /// Answered from the copy of the session's studio.
+    Answered {
+        /// How many transactions the copy had taken.
+        state: u32,
+        /// How many of the places asked hold a cart, or how many carts have the title.
+        found: u32,
+        /// A cart for each number asked, in order, or none where it is empty. For a title one place: the cart, if exactly one has it.
+        carts: Vec<Option<Cart>>,
+    },
+    /// The studio's copy is behind the session's own last commit. The request is kept: [`collect`](crate::Library::collect) it later.
+    Waits {
+        /// How many transactions the copy has to reach: the session's number.
+        number: u32,
+    },
+}
+
+/// What read and collect answer where the caller lends the output ([`Memory::read_into`](crate::Memory::read_into)).
+#[derive(Clone, Copy, Debug, PartialEq, Eq, Hash)]
+pub enum Found {
+    /// Answered; the carts' bytes stand at output's start.
+    Answered {
+        /// How many transactions the copy had taken.
+        state: u32,
+        /// How many of the places asked hold a cart, or how many carts have the title.
+        found: u32,
+    },
+    /// The read waits; output is left alone.
+    Waits {
+        /// How many transactions the copy has to reach: the session's number.
+        number: u32,
+    },
+}
+
+impl Found {
+    // With the carts of the output.
+    pub(crate) fn with_carts(self, output: &[u8]) -> Read {
+        match self {
+            Found::Answered { state, found } => Read::Answered { state, found, carts: Cart::all(output) },
+            Found::Waits { number } => Read::Waits { number },
+        }
+    }
+}
+
+#[cfg(test)]
+mod tests {
+    use super::Refusal;
+
+    #[test]
+    fn every_refusal_has_its_number() {
+        for number in 1..=15 {
+            let refusal = Refusal::from_number(number);
+            assert_eq!(refusal.number(), number);
+            assert!(!matches!(refusal, Refusal::Unknown(_)));
+        }
+        for number in [0, 16, u32::MAX] {
+            assert_eq!(Refusal::from_number(number), Refusal::Unknown(number));
+        }
+    }
+}

@@ -1,0 +1,96 @@
+//! A replication engine for radio cart libraries.
+//!
+//! One head end commits edits to its copy of the library and to a log. Up to four studios are sent the committed transactions and
+//! apply them, in order, to copies of their own. A session belongs to one studio and reads that studio's copy. Its read is answered
+//! once the copy has reached the session's own last commit, and waits until then, so nobody is handed an old cut that they have
+//! just replaced.
+//!
+//! The engine is written in Rattle and linked as a static library; each of its functions is proved to answer, and to leave in
+//! memory, exactly what its specification gives. This crate is a safe wrapper around it with no dependency: it makes the
+//! bytes of operations and requests, reads the bytes of carts, and turns answers into enums. It decides nothing.
+//!
+//! - [`Library`] owns its memory: the usual choice.
+//! - [`Memory`] borrows memory that lies elsewhere, such as a mapped file.
+//! - [`Operation`], [`Request`] and [`Title`] are what goes in; [`Read`], [`Cart`] and [`Refusal`] what comes out.
+//!
+//! # Example
+//!
+//! A producer re-cuts a jingle and reads it back in the same chair.
+//!
+//! ```
+//! use sulyobak::{Library, Operation, Read, Request, Title};
+//!
+//! # fn main() -> Result<(), Box<dyn std::error::Error>> {
+//! // Two studios; sessions 1 and 2 sit in studio 1, session 3 in studio 2.
+//! let mut library = Library::new(2, &[1, 1, 2])?;
+//! let title = Title::new("Sponsor's jingle")?;
+//!
+//! let number = library.commit(1, &[Operation::New { cart: 7, title, audio: 501, milliseconds: 8_000 }])?;
+//! assert_eq!(number, 1);
+//!
+//! // Studio 1's copy does not have the cart yet: the producer's read waits ..
+//! assert_eq!(library.read(1, &Request::cart(7))?, Read::Waits { number: 1 });
+//!
+//! // .. and is collected once the transaction is sent and applied.
+//! library.send(1)?;
+//! library.refresh(1)?;
+//! let Read::Answered { state, carts, .. } = library.collect(1)? else { panic!("still waiting") };
+//! assert_eq!(state, 1);
+//! assert_eq!(carts[0].map(|cart| cart.audio), Some(501));
+//! # Ok(())
+//! # }
+//! ```
+
+mod answer;
+mod cart;
+mod control;
+mod ffi;
+mod library;
+mod memory;
+mod operation;
+mod request;
+mod title;
+
+pub use answer::{Found, Read, Refusal};
+pub use cart::Cart;
+pub use control::Control;
+pub use library::{Library, Parts};
+pub use memory::Memory;
+pub use operation::Operation;
+pub use request::{Numbers, NumbersError, Request};
+pub use title::{Title, TitleError};
+
+/// The version of the engine's interface that this crate was written for: `SULYOBAK_VERSION` of `include/sulyobak.h`.
+pub const VERSION: u32 = 1;
+
+/// The sizes of the memories, and how many there are of everything.
+pub mod sizes {
+    /// Bytes of library memory: five copies, the head end's and those of studios 1 to 4.
+    pub const LIBRARY: usize = 51_200;
+    /// Bytes of log memory: 512 records.
+    pub const LOG: usize = 40_960;
+    /// Bytes of session memory: 16 sessions.
+    pub const SESSIONS: usize = 1_280;
+    /// Bytes of one copy of the library: 128 carts.
+    pub const COPY: usize = 10_240;
+    /// Bytes of a cart, an operation, a request, a record or a session.
+    pub const CART: usize = 80;
+    /// Bytes of output that are long enough for every read.
+    pub const OUTPUT_MOST: usize = CART * NUMBERS;
+    /// Carts, numbered from 1.
+    pub const CARTS: usize = 128;
+    /// Studios at most, numbered from 1.
+    pub const STUDIOS: usize = 4;
+    /// Sessions, numbered from 1.
+    pub const SESSION_COUNT: usize = 16;
+    /// Letters of a title at most.
+    pub const TITLE: usize = 64;
+    /// Operations of a commit at most.
+    pub const OPERATIONS: usize = 8;
+    /// Cart numbers of a read at most.
+    pub const NUMBERS: usize = 32;
+    /// Operations that the log holds.
+    pub const RECORDS: usize = 512;
+    /// Transactions that can be sent to a studio and not yet applied there.
+    pub const WINDOW: usize = 32;
+}

@@ -1,0 +1,125 @@
+use crate::answer::{Read, Refusal};
+use crate::control::Control;
+use crate::memory::Memory;
+use crate::operation::Operation;
+use crate::request::Request;
+use crate::sizes;
+use std::fmt;
+
+/// A system that owns its memory: the head end's copy, up to four studios' copies, the log and the sessions (some 93 kB).
+///
+/// A call takes `&mut self`, so there is one at a time. See the [crate's page](crate) for an example.
+#[derive(Clone, PartialEq, Eq)]
+pub struct Library {
+    library: Box<[u8]>,
+    log: Box<[u8]>,
+    sessions: Box<[u8]>,
+    control: Control,
+}
+
+/// A library taken apart, to be stored.
+#[derive(Clone, Debug, PartialEq, Eq)]
+pub struct Parts {
+    /// The five copies, [`sizes::LIBRARY`] bytes.
+    pub library: Box<[u8]>,
+    /// The log, [`sizes::LOG`] bytes.
+    pub log: Box<[u8]>,
+    /// The sessions, [`sizes::SESSIONS`] bytes.
+    pub sessions: Box<[u8]>,
+    /// The counts.
+    pub control: Control,
+}
+
+impl Library {
+    /// A fresh system with 1 to 4 studios and the studio of each session in turn, 0 for an unused one. Sessions that
+    /// the list leaves out are unused; it has at most 16.
+    ///
+    /// ```
+    /// use sulyobak::{Library, Refusal};
+    ///
+    /// let library = Library::new(2, &[1, 1, 2])?; // sessions 1 and 2 at studio 1, session 3 at studio 2
+    /// assert_eq!(library.control().commits, 0);
+    /// assert_eq!(Library::new(5, &[1]).err(), Some(Refusal::Studios));
+    /// # Ok::<(), Refusal>(())
+    /// ```
+    pub fn new(studios: u32, session_studios: &[u8]) -> Result<Library, Refusal> {
+        let mut library = Library {
+            library: vec![0; sizes::LIBRARY].into_boxed_slice(),
+            log: vec![0; sizes::LOG].into_boxed_slice(),
+            sessions: vec![0; sizes::SESSIONS].into_boxed_slice(),
+            control: Control::default(),
+        };
+        let mut all = session_studios.to_vec();
+        if all.len() < sizes::SESSION_COUNT {
+            all.resize(sizes::SESSION_COUNT, 0);
+        }
+        library.memory().setup(studios, &all)?;
+        Ok(library)
+    }
+
+    /// The library with these parts, or [`Refusal::Lengths`] or [`Refusal::Layout`] where they are damaged or do not belong together.
+    ///
+    /// ```
+    /// use sulyobak::{Library, Refusal};
+    ///
+    /// let mut parts = Library::new(2, &[1, 2])?.into_parts();
+    /// let mut library = Library::from_parts(parts.clone())?;
+    /// parts.library[0] = 9;
+    /// assert_eq!(Library::from_parts(parts).err(), Some(Refusal::Layout));
+    /// # Ok::<(), Refusal>(())
+    /// ```
+    pub fn from_parts(parts: Parts) -> Result<Library, Refusal> {
+        let Parts { library, log, sessions, control } = parts;
+        let mut library = Library { library, log, sessions, control };
+        library.memory().check()?;
+        Ok(library)
+    }
+
+    /// The library's parts, to be stored.
+    pub fn into_parts(self) -> Parts {
+        let Library { library, log, sessions, control } = self;
+        Parts { library, log, sessions, control }
+    }
+
+    /// The counts: studios, commits, and for each studio what was sent and applied.
+    pub fn control(&self) -> &Control {
+        &self.control
+    }
+
+    /// Its memory, for calls with bytes.
+    pub fn memory(&mut self) -> Memory<'_> {
+        Memory { library: &mut self.library, log: &mut self.log, sessions: &mut self.sessions, control: &mut self.control }
+    }
+
+    /// Commits 1 to 8 operations at the head end, all or none. Returns the commit's number. Later reads of this session
+    /// wait until its studio's copy has taken this commit.
+    pub fn commit(&mut self, session: u32, operations: &[Operation]) -> Result<u32, Refusal> {
+        self.memory().commit(session, operations)
+    }
+
+    /// Counts the next transaction as sent to a studio. Returns how many were sent.
+    pub fn send(&mut self, studio: u32) -> Result<u32, Refusal> {
+        self.memory().send(studio)
+    }
+
+    /// Applies the next transaction that was sent to a studio to its copy. Returns how many the copy has taken.
+    pub fn refresh(&mut self, studio: u32) -> Result<u32, Refusal> {
+        self.memory().refresh(studio)
+    }
+
+    /// Reads from the copy of the session's studio, or waits until that copy has reached the session's last commit.
+    pub fn read(&mut self, session: u32, request: &Request) -> Result<Read, Refusal> {
+        self.memory().read(session, request)
+    }
+
+    /// Collects the read that the session has waiting, if its studio's copy has caught up; else it waits on.
+    pub fn collect(&mut self, session: u32) -> Result<Read, Refusal> {
+        self.memory().collect(session)
+    }
+}
+
+impl fmt::Debug for Library {
+    fn fmt(&self, f: &mut fmt::Formatter<'_>) -> fmt::Result {
+        f.debug_struct("Library").field("control", &self.control).finish_non_exhaustive()
+    }
+}

@@ -1,0 +1,170 @@
+use crate::answer::{Found, Read, Refusal};
+use crate::control::Control;
+use crate::ffi;
+use crate::operation::Operation;
+use crate::request::Request;
+use crate::sizes;
+
+/// A system in memory that lies elsewhere: three borrowed slices and control.
+///
+/// The slices should have the sizes of [`sizes`]; where they have not, each call is refused ([`Refusal::Lengths`]).
+/// Nothing here can go wrong otherwise: the engine tests control and memory at each call.
+///
+/// ```
+/// use sulyobak::{sizes, Control, Memory, Refusal};
+///
+/// let mut library = vec![0; sizes::LIBRARY];
+/// let mut log = vec![0; sizes::LOG];
+/// let mut sessions = vec![0; sizes::SESSIONS];
+/// let mut control = Control::default();
+/// let mut memory = Memory { library: &mut library, log: &mut log, sessions: &mut sessions, control: &mut control };
+///
+/// assert_eq!(memory.check(), Err(Refusal::Layout)); // not set up yet
+/// memory.setup(2, &[1, 1, 2, 0, 0, 0, 0, 0, 0, 0, 0, 0, 0, 0, 0, 0])?;
+/// assert_eq!(memory.check(), Ok(()));
+/// assert_eq!(control.studios, 2);
+/// # Ok::<(), Refusal>(())
+/// ```
+#[derive(Debug)]
+pub struct Memory<'a> {
+    /// The five copies, [`sizes::LIBRARY`] bytes.
+    pub library: &'a mut [u8],
+    /// The log, [`sizes::LOG`] bytes.
+    pub log: &'a mut [u8],
+    /// The sessions, [`sizes::SESSIONS`] bytes.
+    pub sessions: &'a mut [u8],
+    /// The counts; each call leaves here what the engine hands back.
+    pub control: &'a mut Control,
+}
+
+// Calls an exported function with the three memories, and then the given arguments.
+//
+// SAFETY of every use: each pointer comes with its length from one slice, which stays borrowed for the whole call. What the
+// engine writes (the memories, output) is borrowed mutably, so that no two of the slices overlap and no other thread has them.
+// The engine accepts any bytes and any numbers, keeps no pointer, and does not unwind.
+macro_rules! call {
+    ($function:ident, $self:ident $(, $argument:expr)*) => {
+        unsafe {
+            ffi::$function(
+                $self.library.as_mut_ptr(),
+                $self.library.len(),
+                $self.log.as_mut_ptr(),
+                $self.log.len(),
+                $self.sessions.as_mut_ptr(),
+                $self.sessions.len(),
+                $($argument),*
+            )
+        }
+    };
+}
+
+impl Memory<'_> {
+    /// Sets up a fresh system: all memory zero, every cart empty, all counts zero.
+    ///
+    /// There are 1 to 4 studios, and 16 bytes with the studio of each session; 0 leaves a session unused.
+    /// A refused setup leaves memory as it was, and a control of zeros ([`Control::default`]), as the engine hands it back.
+    pub fn setup(&mut self, studios: u32, session_studios: &[u8]) -> Result<(), Refusal> {
+        let answer = call!(sulyobak_setup, self, studios, session_studios.as_ptr(), session_studios.len());
+        self.done(answer).map(|_| ())
+    }
+
+    /// Tests lengths and layout alone, as every call but setup does first.
+    pub fn check(&mut self) -> Result<(), Refusal> {
+        let answer = call!(sulyobak_layout, self, *self.control);
+        self.done(answer).map(|_| ())
+    }
+
+    /// Commits 1 to 8 operations at the head end, all or none. Returns the commit's number.
+    pub fn commit(&mut self, session: u32, operations: &[Operation]) -> Result<u32, Refusal> {
+        let bytes: Vec<u8> = operations.iter().flat_map(Operation::to_bytes).collect();
+        self.commit_bytes(session, &bytes)
+    }
+
+    /// The same with the operations' bytes as they are.
+    pub fn commit_bytes(&mut self, session: u32, operations: &[u8]) -> Result<u32, Refusal> {
+        let answer = call!(sulyobak_commit, self, *self.control, session, operations.as_ptr(), operations.len());
+        self.done(answer)
+    }
+
+    /// Counts the next transaction as sent to a studio. Returns how many were sent.
+    pub fn send(&mut self, studio: u32) -> Result<u32, Refusal> {
+        let answer = call!(sulyobak_send, self, *self.control, studio);
+        self.done(answer)
+    }
+
+    /// Applies the next transaction that was sent to a studio to its copy. Returns how many the copy has taken.
+    pub fn refresh(&mut self, studio: u32) -> Result<u32, Refusal> {
+        let answer = call!(sulyobak_refresh, self, *self.control, studio);
+        self.done(answer)
+    }
+
+    /// Reads from the copy of the session's studio, or waits until it has reached the session's last commit.
+    pub fn read(&mut self, session: u32, request: &Request) -> Result<Read, Refusal> {
+        let mut output = [0; sizes::OUTPUT_MOST];
+        let output = &mut output[..sizes::CART * request.places()];
+        let found = self.read_into(session, &request.to_bytes(), output)?;
+        Ok(found.with_carts(output))
+    }
+
+    /// The same with the request's bytes as they are, into output that the caller lends: 80 bytes for each number asked, or for a title.
+    pub fn read_into(&mut self, session: u32, request: &[u8], output: &mut [u8]) -> Result<Found, Refusal> {
+        let answer = call!(
+            sulyobak_read,
+            self,
+            *self.control,
+            session,
+            request.as_ptr(),
+            request.len(),
+            output.as_mut_ptr(),
+            output.len()
+        );
+        self.answered(answer)
+    }
+
+    /// Collects the read that the session has waiting, if its studio's copy has caught up; else it waits on.
+    pub fn collect(&mut self, session: u32) -> Result<Read, Refusal> {
+        let places = self.places_waiting(session);
+        let mut output = [0; sizes::OUTPUT_MOST];
+        let found = self.collect_into(session, &mut output)?;
+        Ok(found.with_carts(&output[..sizes::CART * places]))
+    }
+
+    /// The same into output that the caller lends.
+    pub fn collect_into(&mut self, session: u32, output: &mut [u8]) -> Result<Found, Refusal> {
+        let answer = call!(sulyobak_collect, self, *self.control, session, output.as_mut_ptr(), output.len());
+        self.answered(answer)
+    }
+
+    // How many places the session's waiting read asks for. (Of no matter where collect is then refused.)
+    fn places_waiting(&self, session: u32) -> usize {
+        let place = (session as usize).checked_sub(1);
+        let bytes = place.and_then(|place| self.sessions.chunks_exact(sizes::CART).nth(place));
+        bytes.map_or(0, Request::places_in).min(sizes::NUMBERS)
+    }
+
+    // The answer of setup, commit, send, refresh or the layout test.
+    fn done(&mut self, answer: ffi::Answer) -> Result<u32, Refusal> {
+        *self.control = answer.control;
+        match answer.kind {
+            ffi::DONE => Ok(answer.value),
+            ffi::REFUSED => Err(Refusal::from_number(answer.value)),
+            kind => other_version(kind),
+        }
+    }
+
+    // The answer of read or collect.
+    fn answered(&mut self, answer: ffi::Answer) -> Result<Found, Refusal> {
+        *self.control = answer.control;
+        match answer.kind {
+            ffi::ANSWERED => Ok(Found::Answered { state: answer.value, found: answer.found }),
+            ffi::WAITS => Ok(Found::Waits { number: answer.value }),
+            ffi::REFUSED => Err(Refusal::from_number(answer.value)),
+            kind => other_version(kind),
+        }
+    }
+}
+
+// No call of this version answers such a kind.
+fn other_version(kind: u32) -> ! {
+    panic!("the linked engine answers a kind {kind} that this call does not have: libsulyobak.a is of another version than this crate")
+}
