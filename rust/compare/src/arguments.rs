@@ -1,0 +1,150 @@
+//! Calls with chosen arguments: mostly fitting the wall, sometimes anything.
+
+use crate::call::Call;
+use crate::make::{Maker, spoil, spoil_request};
+use crate::random::Random;
+use crate::rows;
+use crate::wall::Wall;
+
+/// How a list chooses its arguments.
+#[derive(Clone, Copy)]
+pub struct Taste {
+    /// Weights of commit, send, refresh, read and collect.
+    pub weights: [usize; 5],
+    /// Operations of a commit, from and to.
+    pub sizes: (usize, usize),
+    /// Percent of arguments that are meant to fit.
+    pub fitting: usize,
+}
+
+pub fn call(random: &mut Random, maker: &Maker, taste: &Taste, wall: &Wall) -> Call {
+    let mut kind = random.weighted(&taste.weights);
+    if matches!(kind, 0 | 3) && all_waiting(wall) && random.percent(90) {
+        kind = *random.pick(&[1, 2, 2, 4]);
+    }
+    match kind {
+        0 => commit(random, maker, taste, wall),
+        1 => Call::Send { studio: studio(random, taste, wall) },
+        2 => Call::Refresh { studio: studio(random, taste, wall) },
+        3 => read(random, maker, taste, wall),
+        _ => collect(random, taste, wall),
+    }
+}
+
+/// Whether every used session has a read waiting, so that only sends,
+/// refreshes and collects lead on.
+fn all_waiting(wall: &Wall) -> bool {
+    wall.used_sessions().into_iter().all(|session| wall.waiting(session))
+}
+
+pub fn commit(random: &mut Random, maker: &Maker, taste: &Taste, wall: &Wall) -> Call {
+    let session = session(random, taste, wall, false);
+    let mut held = [false; 129];
+    for (cart, state) in held.iter_mut().enumerate().skip(1) {
+        *state = wall.held(cart);
+    }
+    let size = random.within(taste.sizes.0, taste.sizes.1);
+    let mut operations: Vec<u8> =
+        (0..size).flat_map(|_| maker.fitting(random, &mut held)).collect();
+    if !random.percent(taste.fitting) {
+        unsettle(random, maker, &mut operations);
+    }
+    Call::Commit { session, operations }
+}
+
+/// Makes operations that are of a wrong size, out of form, or in a wrong state.
+fn unsettle(random: &mut Random, maker: &Maker, operations: &mut Vec<u8>) {
+    let unit = 80 * random.below(operations.len() / 80);
+    match random.below(10) {
+        0..=2 => operations[unit..unit + 80].copy_from_slice(&maker.any(random)),
+        3..=6 => spoil(random, &mut operations[unit..unit + 80]),
+        7 => {
+            let size = *random.pick(&[0, 1, 79, 81, 160, 639, 640, 641, 720, 800]);
+            while operations.len() < size {
+                operations.extend(maker.any(random));
+            }
+            operations.truncate(size);
+        }
+        8 => {
+            spoil(random, &mut operations[unit..unit + 80]);
+            operations.extend(maker.any(random));
+        }
+        _ => {
+            let again = operations[..80].to_vec();
+            operations.extend(again);
+        }
+    }
+}
+
+fn read(random: &mut Random, maker: &Maker, taste: &Taste, wall: &Wall) -> Call {
+    let session = session(random, taste, wall, false);
+    let mut request = maker.request(random).to_vec();
+    let asked = rows::output_asked(&request);
+    if !random.percent(taste.fitting) {
+        spoil_request(random, &mut request);
+    }
+    let output = output_near(random, taste, asked);
+    Call::Read { session, request, output }
+}
+
+fn collect(random: &mut Random, taste: &Taste, wall: &Wall) -> Call {
+    let session = session(random, taste, wall, true);
+    let asked = match session {
+        1..=16 => {
+            let start = 80 * (session as usize - 1);
+            rows::output_asked(&[
+                wall.played.sessions.byte(start),
+                wall.played.sessions.byte(start + 1),
+            ])
+        }
+        _ => 80,
+    };
+    Call::Collect { session, output: output_near(random, taste, asked) }
+}
+
+fn output_near(random: &mut Random, taste: &Taste, asked: usize) -> usize {
+    if random.percent(taste.fitting) {
+        return *random.pick(&[asked, asked, asked + 1, asked + 80, 2_560]);
+    }
+    *random.pick(&[asked - 1, asked - 1, 0, 1, 79, 80, asked, 2_559, 2_560, 4_000])
+}
+
+/// A session: fitting ones are used, and wait or do not as asked if any does.
+fn session(random: &mut Random, taste: &Taste, wall: &Wall, waiting: bool) -> u32 {
+    if !random.percent(taste.fitting) {
+        let any = random.word();
+        return *random.pick(&[0, 1, 2, 3, 15, 16, 17, 18, 257, 65_537, u32::MAX, any]);
+    }
+    let used = wall.used_sessions();
+    let suited: Vec<u32> =
+        used.iter().copied().filter(|session| wall.waiting(*session) == waiting).collect();
+    match (suited.is_empty(), used.is_empty()) {
+        (false, _) => *random.pick(&suited),
+        (true, false) => *random.pick(&used),
+        (true, true) => random.within(1, 16) as u32,
+    }
+}
+
+fn studio(random: &mut Random, taste: &Taste, wall: &Wall) -> u32 {
+    if !random.percent(taste.fitting) {
+        let (any, next) = (random.word(), wall.control.studios.wrapping_add(1));
+        return *random.pick(&[0, 1, 2, 3, 4, 5, next, next, 257, 65_537, u32::MAX, any]);
+    }
+    random.within(1, wall.control.studios.clamp(1, 4) as usize) as u32
+}
+
+/// A setup; S and studio bytes right or not.
+pub fn setup(random: &mut Random, fitting: usize) -> Call {
+    let mut studios = random.within(1, 4) as u32;
+    let mut session_studios: Vec<u8> =
+        (0..16).map(|_| random.within(0, studios as usize) as u8).collect();
+    if !random.percent(fitting) {
+        match random.below(4) {
+            0 => studios = *random.pick(&[0, 5, 257, 65_540, u32::MAX]),
+            1 => session_studios.resize(*random.pick(&[0, 1, 15, 17, 32]), 0),
+            2 => session_studios[random.below(16)] = studios as u8 + 1,
+            _ => session_studios[random.below(16)] = random.nonzero_byte(),
+        }
+    }
+    Call::Setup { studios, session_studios }
+}

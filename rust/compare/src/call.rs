@@ -1,0 +1,86 @@
+//! A call and its arguments; memory and control are kept apart from it.
+
+use std::fmt;
+
+#[derive(Clone, Debug)]
+pub enum Call {
+    Setup { studios: u32, session_studios: Vec<u8> },
+    Commit { session: u32, operations: Vec<u8> },
+    Send { studio: u32 },
+    Refresh { studio: u32 },
+    Read { session: u32, request: Vec<u8>, output: usize },
+    Collect { session: u32, output: usize },
+}
+
+impl Call {
+    pub fn name(&self) -> &'static str {
+        match self {
+            Call::Setup { .. } => "setup",
+            Call::Commit { .. } => "commit",
+            Call::Send { .. } => "send",
+            Call::Refresh { .. } => "refresh",
+            Call::Read { .. } => "read",
+            Call::Collect { .. } => "collect",
+        }
+    }
+
+    /// 01's rows for this call, from top to bottom.
+    pub fn rows(&self) -> &'static [u32] {
+        match self {
+            Call::Setup { .. } => &[1, 15],
+            Call::Commit { .. } => &[1, 2, 3, 4, 5, 6, 7, 8],
+            Call::Send { .. } => &[1, 2, 3, 9, 10],
+            Call::Refresh { .. } => &[1, 2, 3, 11],
+            Call::Read { .. } => &[1, 2, 3, 4, 12, 13],
+            Call::Collect { .. } => &[1, 2, 3, 14, 13],
+        }
+    }
+
+    /// The const input's bytes.
+    pub fn input(&self) -> &[u8] {
+        match self {
+            Call::Setup { session_studios, .. } => session_studios,
+            Call::Commit { operations, .. } => operations,
+            Call::Read { request, .. } => request,
+            _ => &[],
+        }
+    }
+
+    /// The output's length.
+    pub fn output(&self) -> usize {
+        match self {
+            Call::Read { output, .. } | Call::Collect { output, .. } => *output,
+            _ => 0,
+        }
+    }
+}
+
+impl fmt::Display for Call {
+    fn fmt(&self, f: &mut fmt::Formatter<'_>) -> fmt::Result {
+        match self {
+            Call::Setup { studios, session_studios } => {
+                write!(f, "setup S={studios} studio bytes={session_studios:?}")
+            }
+            Call::Commit { session, operations } => {
+                write!(f, "commit session={session} {} bytes:", operations.len())?;
+                operations.chunks(80).try_for_each(|unit| write!(f, "\n    {}", hex(unit)))
+            }
+            Call::Send { studio } => write!(f, "send studio={studio}"),
+            Call::Refresh { studio } => write!(f, "refresh studio={studio}"),
+            Call::Read { session, request, output } => {
+                let (size, text) = (request.len(), hex(request));
+                write!(
+                    f,
+                    "read session={session} output={output} request of {size} bytes:\n    {text}"
+                )
+            }
+            Call::Collect { session, output } => {
+                write!(f, "collect session={session} output={output}")
+            }
+        }
+    }
+}
+
+fn hex(bytes: &[u8]) -> String {
+    bytes.iter().map(|byte| format!("{byte:02x}")).collect()
+}

@@ -1,0 +1,267 @@
+//! What was met: refusals, pairs of rows, boundaries. Counted, printed, and
+//! required.
+
+use crate::call::Call;
+use crate::lent::Lent;
+use crate::required;
+use crate::rows;
+use simulator::{ANSWERED, Answer, Control, LIBRARY, LOG, REFUSED, SESSION_MEMORY, WAITS};
+use std::collections::BTreeMap;
+
+/// Outcomes that are no refusal; a refusal is its number.
+pub const DONE: u32 = 100;
+pub const READ: u32 = 101;
+pub const WAITED: u32 = 102;
+
+/// Subject, the number met, and how the call ended.
+pub type Key = (&'static str, u32, u32);
+
+/// Facts of a call's entry that are gone once it has been played.
+pub struct Before {
+    lengths: [usize; 3],
+    session: Vec<u8>,
+}
+
+#[derive(Default)]
+pub struct Coverage {
+    counts: BTreeMap<Key, u64>,
+    pairs: BTreeMap<(&'static str, u32, u32), u64>,
+    pub orders: u64,
+    pub entries: u64,
+}
+
+impl Coverage {
+    pub fn before(call: &Call, lent: &Lent) -> Before {
+        let lengths = [lent.library.len(), lent.log.len(), lent.sessions.len()];
+        Before { lengths, session: rows::stored(call, lent) }
+    }
+
+    pub fn count(&mut self, key: Key) {
+        *self.counts.entry(key).or_default() += 1;
+    }
+
+    pub fn count_order(&mut self, entries: usize) {
+        self.orders += 1;
+        self.entries += entries as u64;
+    }
+
+    pub fn note(
+        &mut self,
+        call: &Call,
+        control: &Control,
+        holding: &[u32],
+        before: &Before,
+        answer: &Answer,
+    ) {
+        let end = outcome(answer);
+        self.count((call.name(), 0, end));
+        for (i, row) in holding.iter().enumerate() {
+            for other in &holding[i + 1..] {
+                let pair = (call.name(), *row.min(other), *row.max(other));
+                *self.pairs.entry(pair).or_default() += 1;
+            }
+        }
+        self.note_lengths(call, before, end);
+        if end == 1 {
+            return;
+        }
+        match call {
+            Call::Setup { studios, session_studios } => {
+                self.note_setup(*studios, session_studios, end);
+            }
+            Call::Commit { session, operations } => {
+                self.count(("commit, session", *session, end));
+                self.note_commit(operations, control, answer, end);
+            }
+            Call::Send { studio } => {
+                self.count(("send, number", answer.value, end));
+                self.note_send(*studio, control, end);
+            }
+            Call::Refresh { studio } => {
+                self.count(("refresh, number", answer.value, end));
+                self.count(("refresh, studio", *studio, end));
+                self.count(("refresh, studio − S", studio.wrapping_sub(control.studios), end));
+            }
+            Call::Read { session, request, output } => {
+                self.count(("read, session", *session, end));
+                self.count(("read, request bytes", request.len() as u32, end));
+                self.note_request(request, end);
+                self.note_read("read, output − asked", request, *output, end);
+                self.note_test("read, session number − applied", call, control, before, end);
+                self.note_found(request, answer, end);
+            }
+            Call::Collect { session, output } => {
+                self.count(("collect, session", *session, end));
+                self.note_read("collect, output − asked", &before.session, *output, end);
+                self.note_test("collect, session number − applied", call, control, before, end);
+                self.count(("collect, kind of read", u32::from(before.session[0]), end));
+            }
+        }
+    }
+
+    fn note_lengths(&mut self, call: &Call, before: &Before, end: u32) {
+        let right = [LIBRARY, LOG, SESSION_MEMORY];
+        let subjects = required::LENGTHS[call_place(call)];
+        for (memory, subject) in subjects.into_iter().enumerate() {
+            if before.lengths[memory] != right[memory] {
+                self.count((subject, before.lengths[memory] as u32, end));
+            }
+        }
+    }
+
+    fn note_setup(&mut self, studios: u32, session_studios: &[u8], end: u32) {
+        self.count(("setup, S", studios, end));
+        self.count(("setup, studio bytes", session_studios.len() as u32, end));
+        if (1..=4).contains(&studios) && session_studios.len() == 16 {
+            let highest = session_studios.iter().copied().max().unwrap_or(0);
+            let above = i64::from(highest) - i64::from(studios);
+            self.count(("setup, highest studio byte − S", above as u32, end));
+        }
+    }
+
+    fn note_commit(&mut self, operations: &[u8], control: &Control, answer: &Answer, end: u32) {
+        self.count(("commit, size", operations.len() as u32, end));
+        if end == DONE {
+            self.count(("commit, number", answer.value, end));
+        }
+        if matches!(end, 7 | 8 | DONE) {
+            let after = control.used + (operations.len() / 80) as u32;
+            self.count(("commit, used", control.used, end));
+            self.count(("commit, used + operations", after, end));
+        }
+        if matches!(end, 6 | DONE) {
+            for unit in operations.chunks_exact(80) {
+                self.note_operation(unit, end);
+            }
+        }
+    }
+
+    /// For a refusal 6 only the operations that are out of form count.
+    fn note_operation(&mut self, unit: &[u8], end: u32) {
+        if (end == DONE) != simulator::operation_in_form(unit) {
+            return;
+        }
+        let cart = u32::from(unit[2]) | u32::from(unit[3]) << 8;
+        self.count(("operation, kind", u32::from(unit[0]), end));
+        self.count(("operation, cart", cart, end));
+        if matches!(unit[0], 1 | 2) {
+            self.count(("operation, title length", u32::from(unit[1]), end));
+        }
+    }
+
+    fn note_send(&mut self, studio: u32, control: &Control, end: u32) {
+        self.count(("send, studio", studio, end));
+        self.count(("send, studio − S", studio.wrapping_sub(control.studios), end));
+        if let 1..=4 = studio {
+            let place = studio as usize - 1;
+            let ahead = control.sent[place].wrapping_sub(control.applied[place]);
+            self.count(("send, sent − applied", ahead, end));
+        }
+    }
+
+    fn note_request(&mut self, request: &[u8], end: u32) {
+        if request.len() != 80 || !matches!(end, READ | WAITED | 12) {
+            return;
+        }
+        let length = u32::from(request[1]);
+        if request[0] == 1 {
+            self.count(("request, numbers asked", length, end));
+            for place in request[16..].chunks_exact(2).take(length.min(32) as usize) {
+                let cart = u32::from(place[0]) | u32::from(place[1]) << 8;
+                self.count(("request, cart", cart, end));
+            }
+        } else {
+            self.count(("request, title length", length, end));
+        }
+    }
+
+    fn note_read(&mut self, subject: &'static str, request: &[u8], output: usize, end: u32) {
+        if matches!(end, READ | WAITED | 13) {
+            let spare = output as i64 - rows::output_asked(request) as i64;
+            self.count((subject, spare.clamp(-2, 2) as u32, end));
+            if rows::output_asked(request) == 2_560 {
+                self.count(("output for 32 numbers", output as u32, end));
+            }
+        }
+    }
+
+    fn note_test(
+        &mut self,
+        subject: &'static str,
+        call: &Call,
+        control: &Control,
+        before: &Before,
+        end: u32,
+    ) {
+        let studio = rows::session_studio(call, control);
+        if matches!(end, READ | WAITED) {
+            let number = u32::from(before.session[2]) | u32::from(before.session[3]) << 8;
+            let behind = i64::from(number) - i64::from(control.applied[studio as usize - 1]);
+            self.count((subject, behind.clamp(-2, 2) as u32, end));
+            self.count(("read or collect, session number", number, end));
+            self.count(("read or collect, studio", studio, end));
+        }
+    }
+
+    fn note_found(&mut self, request: &[u8], answer: &Answer, end: u32) {
+        if end == READ {
+            let by_title = request[0] == 2;
+            let subject = if by_title { "found by title" } else { "found by numbers" };
+            self.count((subject, answer.found, end));
+        }
+    }
+
+    pub fn add(&mut self, other: Coverage) {
+        for (key, count) in other.counts {
+            *self.counts.entry(key).or_default() += count;
+        }
+        for (key, count) in other.pairs {
+            *self.pairs.entry(key).or_default() += count;
+        }
+        self.orders += other.orders;
+        self.entries += other.entries;
+    }
+
+    /// Prints the table; returns how many required lines were not met.
+    pub fn report(&self) -> usize {
+        println!("{:>9}  refusals, pairs of rows and boundaries", "met");
+        let lines = required::lines();
+        let mut missing = 0;
+        for line in &lines {
+            let count = match line {
+                required::Line::Pair(pair) => self.pairs.get(pair),
+                required::Line::Ended(key) | required::Line::Met(key) => self.counts.get(key),
+            };
+            let count = count.copied().unwrap_or(0);
+            missing += usize::from(count == 0);
+            let mark = if count == 0 { "  <-- NOT MET" } else { "" };
+            println!("{count:>9}  {line}{mark}");
+        }
+        for (call, row, other, reason) in required::EXCLUDED {
+            println!("{:>9}  {call}: rows {row} and {other} at once: {reason}", "-");
+        }
+        println!("one-copy orders: {}, entries in them: {}", self.orders, self.entries);
+        println!("required lines: {}, not met: {missing}", lines.len());
+        missing
+    }
+}
+
+fn outcome(answer: &Answer) -> u32 {
+    match answer.kind {
+        REFUSED => answer.value,
+        ANSWERED => READ,
+        WAITS => WAITED,
+        _ => DONE,
+    }
+}
+
+fn call_place(call: &Call) -> usize {
+    match call {
+        Call::Setup { .. } => 0,
+        Call::Commit { .. } => 1,
+        Call::Send { .. } => 2,
+        Call::Refresh { .. } => 3,
+        Call::Read { .. } => 4,
+        Call::Collect { .. } => 5,
+    }
+}

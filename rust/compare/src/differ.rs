@@ -1,0 +1,97 @@
+//! The comparison after a call, and the place of the first difference.
+
+use crate::lent::{Lent, Part};
+use simulator::{Answer, COPY, Control, UNIT};
+
+/// The first difference between the simulator's end of a call and the
+/// engine's, in words.
+pub fn first_difference(simulated: (&Answer, &Lent), played: (&Answer, &Lent)) -> Option<String> {
+    let (answer, lent) = simulated;
+    let (other_answer, other) = played;
+    answer_difference(answer, other_answer)
+        .or_else(|| part_difference("library", &lent.library, &other.library, cart_place))
+        .or_else(|| part_difference("log", &lent.log, &other.log, record_place))
+        .or_else(|| part_difference("sessions", &lent.sessions, &other.sessions, session_place))
+        .or_else(|| part_difference("output", &lent.output, &other.output, output_place))
+        .or_else(|| part_difference("const input", &lent.input, &other.input, output_place))
+}
+
+fn answer_difference(simulated: &Answer, played: &Answer) -> Option<String> {
+    let words = |answer: &Answer| (answer.kind, answer.value, answer.found);
+    if words(simulated) != words(played) {
+        let (right, wrong) = (answer_text(simulated), answer_text(played));
+        return Some(format!("answer: simulator {right}, engine {wrong}"));
+    }
+    let right = control_words(&simulated.control);
+    let wrong = control_words(&played.control);
+    let at = right.iter().zip(&wrong).position(|(a, b)| a != b)?;
+    let name = control_word_name(at);
+    Some(format!("control, {name}: simulator {}, engine {}", right[at], wrong[at]))
+}
+
+pub fn answer_text(answer: &Answer) -> String {
+    let value = answer.value;
+    match answer.kind {
+        simulator::REFUSED => format!("refused {value} (found {})", answer.found),
+        simulator::DONE => format!("done {value} (found {})", answer.found),
+        simulator::ANSWERED => format!("answered state {value} found {}", answer.found),
+        simulator::WAITS => format!("waits {value} (found {})", answer.found),
+        kind => format!("kind {kind} value {value} found {}", answer.found),
+    }
+}
+
+fn control_words(control: &Control) -> Vec<u32> {
+    let mut words = vec![control.studios];
+    words.extend(control.session_studios);
+    words.extend([control.used, control.commits]);
+    words.extend(control.sent);
+    words.extend(control.applied);
+    words
+}
+
+fn control_word_name(at: usize) -> String {
+    match at {
+        0 => "studios".to_string(),
+        1..=16 => format!("session {at}'s studio"),
+        17 => "used".to_string(),
+        18 => "commits".to_string(),
+        19..=22 => format!("sent of studio {}", at - 18),
+        _ => format!("applied of studio {}", at - 22),
+    }
+}
+
+fn part_difference(
+    name: &str,
+    simulated: &Part,
+    played: &Part,
+    place: fn(usize) -> String,
+) -> Option<String> {
+    let at = simulated.first_difference(played)?;
+    let words = match usize::try_from(at) {
+        Err(_) => format!("guard, {} before the start", -at),
+        Ok(at) if at >= simulated.len() => format!("guard, {} past the end", at - simulated.len()),
+        Ok(at) => format!("byte {at} ({})", place(at)),
+    };
+    let (right, wrong) = (simulated.at(at), played.at(at));
+    Some(format!("{name}, {words}: simulator {right}, engine {wrong}"))
+}
+
+fn cart_place(at: usize) -> String {
+    let copy = match at / COPY {
+        0 => "head end".to_string(),
+        studio => format!("studio {studio}"),
+    };
+    format!("{copy}, cart {}, byte {}", at % COPY / UNIT + 1, at % UNIT)
+}
+
+fn record_place(at: usize) -> String {
+    format!("record {}, byte {}", at / UNIT + 1, at % UNIT)
+}
+
+fn session_place(at: usize) -> String {
+    format!("session {}, byte {}", at / UNIT + 1, at % UNIT)
+}
+
+fn output_place(at: usize) -> String {
+    format!("unit {}, byte {}", at / UNIT + 1, at % UNIT)
+}

@@ -1,0 +1,154 @@
+//! Lists from fresh systems, guided so that deep states are reached.
+
+use crate::arguments::{self, Taste};
+use crate::asides;
+use crate::call::Call;
+use crate::make::Maker;
+use crate::one_copy::History;
+use crate::player::{Mismatch, Player};
+use crate::random::Random;
+use crate::wall::Wall;
+use simulator::Answer;
+
+/// What a list is after.
+#[derive(Clone, Copy, Debug)]
+pub enum Aim {
+    Mixed,
+    /// Transactions of eight until the log is full.
+    Eights,
+    /// Single operations up to commit number 512.
+    Ones,
+    /// Any sizes to a nearly full log, then single steps.
+    Varied,
+    /// The window of 32.
+    Window,
+    Waits,
+    Titles,
+}
+
+/// One list being played.
+pub struct Guide<'p, 'e> {
+    player: &'p mut Player<'e>,
+    random: Random,
+    maker: Maker,
+    wall: Wall,
+    history: History,
+}
+
+pub fn play(player: &mut Player<'_>, seed: u64, aim: Aim) -> Result<(), Mismatch> {
+    let mut random = Random::new(seed);
+    let carts = match aim {
+        Aim::Titles | Aim::Waits => 3,
+        Aim::Mixed => 40,
+        _ => 10,
+    };
+    let maker = Maker::new(&mut random, carts);
+    let (wall, history) = (Wall::zeros(), History::new());
+    let mut guide = Guide { player, random, maker, wall, history };
+    guide.begin(aim)?;
+    guide.follow(aim)?;
+    guide.player.check_order(&guide.history)
+}
+
+impl Guide<'_, '_> {
+    /// Refused setups now and then, on memory of any bytes, then one that is
+    /// accepted.
+    fn begin(&mut self, aim: Aim) -> Result<(), Mismatch> {
+        let lent = &mut self.wall.played;
+        for part in [&mut lent.library, &mut lent.log, &mut lent.sessions] {
+            part.lent_mut().fill(self.random.byte());
+        }
+        self.wall.mirror();
+        for _ in 0..self.random.below(3) {
+            let call = arguments::setup(&mut self.random, 30);
+            self.player.play(&mut self.wall, &call)?;
+        }
+        let mut call = arguments::setup(&mut self.random, 100);
+        if let Call::Setup { studios, session_studios } = &mut call {
+            if matches!(aim, Aim::Window | Aim::Waits) {
+                *studios = self.random.within(1, 2) as u32;
+                session_studios
+                    .iter_mut()
+                    .for_each(|studio| *studio = (*studio).min(*studios as u8));
+            }
+            if self.random.percent(95) {
+                session_studios[0] = 1;
+                session_studios[15] = *studios as u8;
+            }
+        }
+        self.player.play(&mut self.wall, &call).map(|_| ())
+    }
+
+    fn follow(&mut self, aim: Aim) -> Result<(), Mismatch> {
+        match aim {
+            Aim::Mixed => self.steps(400, &taste([25, 20, 20, 25, 10], (1, 8), 85)),
+            Aim::Waits => self.steps(350, &taste([22, 13, 13, 30, 22], (1, 3), 93)),
+            Aim::Titles => self.steps(350, &taste([25, 18, 20, 30, 7], (1, 3), 93)),
+            Aim::Eights => self.fill((8, 8), 504),
+            Aim::Ones => self.fill((1, 1), 512),
+            Aim::Varied => self.fill((1, 8), 500),
+            Aim::Window => self.window(),
+        }
+    }
+
+    fn step(&mut self, taste: &Taste) -> Result<Answer, Mismatch> {
+        if self.random.percent(7) {
+            asides::play(self.player, &mut self.random, &self.maker, taste, &self.wall)?;
+        }
+        let call = arguments::call(&mut self.random, &self.maker, taste, &self.wall);
+        self.player.play_in(&mut self.history, &mut self.wall, &call)
+    }
+
+    fn steps(&mut self, count: usize, taste: &Taste) -> Result<(), Mismatch> {
+        (0..count).try_for_each(|_| self.step(taste).map(|_| ()))
+    }
+
+    /// Commits until `used` reaches the mark, then every way of ending.
+    fn fill(&mut self, sizes: (usize, usize), mark: u32) -> Result<(), Mismatch> {
+        let filling = taste([66, 13, 13, 5, 3], sizes, 97);
+        for _ in 0..1_200 {
+            if self.wall.control.used >= mark {
+                break;
+            }
+            self.step(&filling)?;
+        }
+        for _ in 0..60 {
+            self.overfill()?;
+            self.step(&taste([50, 15, 15, 10, 10], (1, 2), 90))?;
+        }
+        self.steps(40, &taste([60, 12, 12, 10, 6], (1, 8), 80))?;
+        self.steps(150, &taste([5, 40, 40, 10, 5], (1, 1), 95))
+    }
+
+    /// A commit that just fits the log, or is one operation too large, aside.
+    fn overfill(&mut self) -> Result<(), Mismatch> {
+        let space = 512 - self.wall.control.used as usize;
+        let size = self.random.within(space, space + 1).clamp(1, 8);
+        let taste = taste([1, 0, 0, 0, 0], (size, size), 97);
+        let call = arguments::call(&mut self.random, &self.maker, &taste, &self.wall);
+        self.player.play_aside(&self.wall, &call, |_| ()).map(|_| ())
+    }
+
+    /// Sends ahead of refreshes until the window is full, again and again.
+    fn window(&mut self) -> Result<(), Mismatch> {
+        for _ in 0..2 {
+            let more = self.random.within(31, 35);
+            let exact = self.random.percent(50);
+            let commits = if exact { 32 } else { more };
+            let target = self.wall.control.applied[0] + commits as u32;
+            for _ in 0..150 {
+                if self.wall.control.commits >= target {
+                    break;
+                }
+                self.step(&taste([90, 2, 0, 6, 2], (1, 1), 97))?;
+            }
+            self.steps(80, &taste([2, 90, 0, 6, 2], (1, 1), 95))?;
+            self.steps(60, &taste([8, 36, 40, 10, 6], (1, 2), 90))?;
+        }
+        Ok(())
+    }
+}
+
+fn taste(weights: [usize; 5], sizes: (usize, usize), fitting: usize) -> Taste {
+    Taste { weights, sizes, fitting }
+}

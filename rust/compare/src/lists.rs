@@ -1,0 +1,112 @@
+//! The kinds of lists. A list's seed alone says its kind and its calls.
+
+use crate::arguments::{self, Taste};
+use crate::asides;
+use crate::chaos;
+use crate::direct;
+use crate::guided::{self, Aim};
+use crate::make::Maker;
+use crate::player::{Mismatch, Player};
+use crate::random::Random;
+use crate::sweep;
+
+const KINDS: [&str; 17] = [
+    "mixed",
+    "direct",
+    "waits",
+    "damage",
+    "window",
+    "memory sweep",
+    "titles",
+    "input sweep",
+    "eights",
+    "direct",
+    "varied",
+    "damage",
+    "mixed",
+    "control sweep",
+    "ones",
+    "lengths",
+    "chaos",
+];
+
+pub fn kind(seed: u64) -> &'static str {
+    KINDS[(seed % KINDS.len() as u64) as usize]
+}
+
+pub fn play(player: &mut Player<'_>, seed: u64) -> Result<(), Mismatch> {
+    player.begin_list(seed);
+    let turn = (seed / KINDS.len() as u64 % 1_000) as usize;
+    match kind(seed) {
+        "mixed" => guided::play(player, seed, Aim::Mixed),
+        "waits" => guided::play(player, seed, Aim::Waits),
+        "window" => guided::play(player, seed, Aim::Window),
+        "titles" => guided::play(player, seed, Aim::Titles),
+        "eights" => guided::play(player, seed, Aim::Eights),
+        "varied" => guided::play(player, seed, Aim::Varied),
+        "ones" => guided::play(player, seed, Aim::Ones),
+        "direct" => unreached(player, seed),
+        "damage" => damage(player, seed),
+        "memory sweep" => sweep::memory(player, seed, turn),
+        "control sweep" => sweep::control(player, seed),
+        "input sweep" => sweep::input(player, seed, turn),
+        "lengths" => sweep::lengths(player, seed),
+        _ => chaos::play(player, seed),
+    }
+}
+
+/// Only lists from fresh systems, for the one-copy order alone.
+pub fn play_fresh(player: &mut Player<'_>, seed: u64) -> Result<(), Mismatch> {
+    player.begin_list(seed);
+    let aims = [Aim::Waits, Aim::Titles, Aim::Mixed, Aim::Window];
+    guided::play(player, seed, aims[(seed % 4) as usize])
+}
+
+/// Lists from memory of the layout that no list reaches.
+fn unreached(player: &mut Player<'_>, seed: u64) -> Result<(), Mismatch> {
+    let mut random = Random::new(seed);
+    let taste = Taste { weights: [25, 15, 30, 18, 12], sizes: (1, 8), fitting: 92 };
+    for _ in 0..8 {
+        let maker = Maker::new(&mut random, 6);
+        let mut wall = direct::wall(&mut random, &maker);
+        for _ in 0..50 {
+            let call = arguments::call(&mut random, &maker, &taste, &wall);
+            player.play(&mut wall, &call)?;
+        }
+    }
+    Ok(())
+}
+
+/// Damage of every kind to memory that has a place for every kind.
+fn damage(player: &mut Player<'_>, seed: u64) -> Result<(), Mismatch> {
+    let mut random = Random::new(seed);
+    let taste = Taste { weights: [1, 1, 1, 1, 1], sizes: (1, 8), fitting: 75 };
+    for _ in 0..10 {
+        let maker = Maker::new(&mut random, 6);
+        let wall = direct::wall(&mut random, &maker);
+        for _ in 0..60 {
+            let call = arguments::call(&mut random, &maker, &taste, &wall);
+            asides::damaged(player, &mut random, &wall, &call)?;
+        }
+    }
+    Ok(())
+}
+
+#[cfg(test)]
+mod tests {
+    use super::*;
+    use crate::engine::Simulated;
+
+    #[test]
+    fn every_kind_of_list_passes_and_is_repeatable() {
+        for seed in 0..KINDS.len() as u64 {
+            let calls = [0, 1].map(|_| {
+                let mut engine = Simulated;
+                let mut player = Player::new(&mut engine, true);
+                play(&mut player, seed).expect("the simulator agrees with itself");
+                player.calls
+            });
+            assert_eq!(calls[0], calls[1]);
+        }
+    }
+}

@@ -1,0 +1,106 @@
+//! Compares an engine with the simulator by another hand. See README.md.
+
+mod arguments;
+mod asides;
+mod call;
+mod chaos;
+mod coverage;
+mod damage;
+mod differ;
+mod direct;
+mod engine;
+mod guided;
+mod lent;
+mod lists;
+mod make;
+mod one_copy;
+mod options;
+mod places;
+mod player;
+mod random;
+#[cfg(real_engine)]
+mod real;
+mod required;
+mod rows;
+mod run;
+mod self_check;
+mod single;
+mod sweep;
+mod wall;
+mod watch;
+mod wrong;
+
+use engine::{Engine, Simulated};
+use options::{Mode, Options};
+use std::process::ExitCode;
+
+/// Makes an engine for one thread.
+type Make = fn() -> Box<dyn Engine>;
+
+fn simulated() -> Box<dyn Engine> {
+    Box::new(Simulated)
+}
+
+#[cfg(real_engine)]
+fn real() -> Option<Make> {
+    Some(|| Box::new(real::Real))
+}
+
+#[cfg(not(real_engine))]
+fn real() -> Option<Make> {
+    None
+}
+
+fn main() -> ExitCode {
+    let options = match options::parse(std::env::args().skip(1)) {
+        Ok(options) => options,
+        Err(words) => {
+            eprintln!("{words}\n{}", options::USAGE);
+            return ExitCode::from(2);
+        }
+    };
+    if options.mode == Mode::SelfCheck {
+        return exit(self_check::run() == 0);
+    }
+    watch::start(options.trace, options.trace && matches!(options.mode, Mode::List(_)));
+    let engine: Option<Make> = if options.simulator { Some(simulated) } else { real() };
+    let Some(make) = engine else {
+        eprintln!("built without the real engine: set SULYOBAK_LIB_DIR, or use --simulator");
+        return ExitCode::from(2);
+    };
+    match options.mode {
+        Mode::List(seed) => exit(one_list(make, seed)),
+        _ => exit(compare(make, &options)),
+    }
+}
+
+fn exit(passed: bool) -> ExitCode {
+    if passed { ExitCode::SUCCESS } else { ExitCode::FAILURE }
+}
+
+fn one_list(make: Make, seed: u64) -> bool {
+    match run::play_lists(&mut *make(), (seed, 1), 1) {
+        Ok((_, calls)) => {
+            println!("list {seed} ({}): {calls} calls, no mismatch", lists::kind(seed))
+        }
+        Err(found) => {
+            run::print_mismatch(&found);
+            return false;
+        }
+    }
+    true
+}
+
+fn compare(make: Make, options: &Options) -> bool {
+    match run::play_on_threads(make, options.seed, options.calls, options.threads) {
+        Ok((coverage, calls)) => {
+            let missing = coverage.report();
+            println!("{calls} calls compared, no mismatch");
+            missing == 0
+        }
+        Err(found) => {
+            run::print_mismatch(&found);
+            false
+        }
+    }
+}

@@ -1,0 +1,181 @@
+//! 01's one-copy order: the list's accepted commits and answered reads, put
+//! into one order and played on the single library.
+
+use crate::call::Call;
+use crate::single::SingleLibrary;
+use simulator::{ANSWERED, Answer, DONE, WAITS};
+
+enum What {
+    Commit { operations: Vec<u8>, number: u32 },
+    Read { request: Vec<u8>, state: u32, found: u32, written: Vec<u8> },
+}
+
+struct Entry {
+    call: u64,
+    session: u32,
+    what: What,
+}
+
+impl Entry {
+    /// Commit n stands at 2n, a read at state k at 2k + 1.
+    fn place(&self) -> u64 {
+        match self.what {
+            What::Commit { number, .. } => 2 * u64::from(number),
+            What::Read { state, .. } => 2 * u64::from(state) + 1,
+        }
+    }
+}
+
+/// The list H so far, from a fresh system.
+pub struct History {
+    entries: Vec<Entry>,
+    /// Per session, its latest read that waited.
+    waited: Vec<Vec<u8>>,
+}
+
+impl History {
+    pub fn new() -> History {
+        History { entries: Vec::new(), waited: vec![Vec::new(); 17] }
+    }
+
+    /// Takes in one call of H; `output` is as it stood when the call ended.
+    pub fn note(&mut self, number: u64, call: &Call, answer: &Answer, output: &[u8]) {
+        match (call, answer.kind) {
+            (Call::Commit { session, operations }, DONE) => {
+                let what = What::Commit { operations: operations.clone(), number: answer.value };
+                self.entries.push(Entry { call: number, session: *session, what });
+            }
+            (Call::Read { session, request, .. }, ANSWERED) => {
+                self.push_read(number, *session, request.clone(), answer, output);
+            }
+            (Call::Read { session, request, .. }, WAITS) => {
+                self.waited[*session as usize].clone_from(request);
+            }
+            (Call::Collect { session, .. }, ANSWERED) => {
+                let request = self.waited[*session as usize].clone();
+                self.push_read(number, *session, request, answer, output);
+            }
+            _ => {}
+        }
+    }
+
+    fn push_read(
+        &mut self,
+        call: u64,
+        session: u32,
+        request: Vec<u8>,
+        answer: &Answer,
+        output: &[u8],
+    ) {
+        let numbers = if request[0] == 1 { usize::from(request[1]) } else { 1 };
+        let written = output[..output.len().min(80 * numbers)].to_vec();
+        let what = What::Read { request, state: answer.value, found: answer.found, written };
+        self.entries.push(Entry { call, session, what });
+    }
+
+    pub fn len(&self) -> usize {
+        self.entries.len()
+    }
+
+    /// Builds the order, checks each session's order in it, and replays it.
+    /// On a failure: the entry's call number and what was wrong.
+    pub fn check(&self) -> Result<(), (u64, String)> {
+        let mut order: Vec<&Entry> = self.entries.iter().collect();
+        order.sort_by_key(|entry| entry.place());
+        let mut latest = [0; 17];
+        for entry in &order {
+            let before = &mut latest[entry.session as usize];
+            if entry.call < *before {
+                let words = format!("one-copy order: session {} out of its order", entry.session);
+                return Err((entry.call, words));
+            }
+            *before = entry.call;
+        }
+        let mut library = SingleLibrary::new();
+        for entry in order {
+            replay(&mut library, entry).map_err(|words| (entry.call, words))?;
+        }
+        Ok(())
+    }
+}
+
+fn replay(library: &mut SingleLibrary, entry: &Entry) -> Result<(), String> {
+    match &entry.what {
+        What::Commit { operations, number } => match library.commit(operations) {
+            Some(count) if count == *number => Ok(()),
+            Some(count) => Err(format!("one-copy order: commit {number} is the library's {count}")),
+            None => Err(format!("one-copy order: commit {number} is the library's refusal 8")),
+        },
+        What::Read { request, state, found, written } => {
+            let (count, held, carts) = library.read(request);
+            if (count, held) != (*state, *found) {
+                let right = format!("the library's state {count} found {held}");
+                return Err(format!("one-copy order: read state {state} found {found} is {right}"));
+            }
+            match carts == *written {
+                true => Ok(()),
+                false => Err("one-copy order: the library gives other carts".to_string()),
+            }
+        }
+    }
+}
+
+#[cfg(test)]
+mod tests {
+    use super::*;
+    use simulator::Control;
+
+    fn answer(kind: u32, value: u32, found: u32) -> Answer {
+        Answer { kind, value, found, control: Control::default() }
+    }
+
+    fn new_cart_1() -> Vec<u8> {
+        let mut operation = vec![0; 80];
+        operation[..9].copy_from_slice(&[1, 1, 1, 0, 5, 0, 0, 0, 6]);
+        operation[16] = b'A';
+        operation
+    }
+
+    fn read_cart_1(session: u32) -> Call {
+        let mut request = vec![0; 80];
+        request[..2].copy_from_slice(&[1, 1]);
+        request[16] = 1;
+        Call::Read { session, request, output: 80 }
+    }
+
+    /// Session 1 commits and reads; the read's answer is given.
+    fn history(read: Answer, output: &[u8]) -> History {
+        let mut history = History::new();
+        let commit = Call::Commit { session: 1, operations: new_cart_1() };
+        history.note(1, &commit, &answer(DONE, 1, 0), &[]);
+        history.note(2, &read_cart_1(1), &read, output);
+        history
+    }
+
+    #[test]
+    fn a_read_of_what_was_committed_stands() {
+        assert_eq!(history(answer(ANSWERED, 1, 1), &new_cart_1()).check(), Ok(()));
+    }
+
+    #[test]
+    fn a_read_before_its_own_commit_does_not() {
+        let early = history(answer(ANSWERED, 0, 0), &[0; 80]).check();
+        assert!(early.unwrap_err().1.contains("session 1 out of its order"));
+    }
+
+    #[test]
+    fn other_carts_found_or_state_do_not() {
+        assert!(history(answer(ANSWERED, 1, 1), &[0; 80]).check().is_err());
+        assert!(history(answer(ANSWERED, 1, 0), &new_cart_1()).check().is_err());
+        assert!(history(answer(ANSWERED, 2, 1), &new_cart_1()).check().is_err());
+    }
+
+    #[test]
+    fn a_collect_has_the_request_of_the_read_that_waited() {
+        let mut history = history(answer(WAITS, 1, 0), &[]);
+        let collect = Call::Collect { session: 1, output: 80 };
+        history.note(3, &collect, &answer(WAITS, 1, 0), &[7; 80]);
+        history.note(4, &collect, &answer(ANSWERED, 1, 1), &new_cart_1());
+        assert_eq!((history.len(), history.check()), (2, Ok(())));
+    }
+}

@@ -1,0 +1,144 @@
+//! Plays a call on the simulator and on the engine and compares them.
+
+use crate::call::Call;
+use crate::coverage::Coverage;
+use crate::differ::{answer_text, first_difference};
+use crate::engine::{Engine, simulate};
+use crate::one_copy::History;
+use crate::rows;
+use crate::wall::Wall;
+use crate::watch;
+use simulator::{Answer, REFUSED};
+
+/// Where and how engine and simulator parted.
+#[derive(Debug)]
+pub struct Mismatch {
+    pub call_number: u64,
+    pub call: String,
+    pub words: String,
+}
+
+pub struct Player<'e> {
+    engine: &'e mut dyn Engine,
+    /// Without it only the one-copy order is checked.
+    compares: bool,
+    pub coverage: Coverage,
+    /// Calls of this list and of all lists.
+    pub call_number: u64,
+    pub calls: u64,
+    scratch: Option<Wall>,
+}
+
+impl<'e> Player<'e> {
+    pub fn new(engine: &'e mut dyn Engine, compares: bool) -> Player<'e> {
+        let coverage = Coverage::default();
+        Player { engine, compares, coverage, call_number: 0, calls: 0, scratch: None }
+    }
+
+    /// Begins the list of a seed.
+    pub fn begin_list(&mut self, seed: u64) {
+        self.call_number = 0;
+        watch::list_begins(seed);
+    }
+
+    /// Plays one call; the wall holds what it left and handed back.
+    pub fn play(&mut self, wall: &mut Wall, call: &Call) -> Result<Answer, Mismatch> {
+        self.call_number += 1;
+        self.calls += 1;
+        wall.lend(call, self.call_number);
+        watch::call_begins(self.call_number, call);
+        let control = wall.control;
+        if !self.compares {
+            let answer = self.engine.play(call, control, &mut wall.played);
+            wall.control = answer.control;
+            return Ok(answer);
+        }
+        let mut holding = rows::holding(call, &control, &wall.simulated);
+        let before = Coverage::before(call, &wall.simulated);
+        let expected = simulate(call, control, &mut wall.simulated);
+        let answer = self.engine.play(call, control, &mut wall.played);
+        let difference = first_difference((&expected, &wall.simulated), (&answer, &wall.played));
+        if let Some(words) = difference {
+            let ends = format!("{} / {}", answer_text(&expected), answer_text(&answer));
+            let call = format!("{call}\n  with {control:?}\n  simulator / engine: {ends}");
+            return Err(self.mismatch(call, words));
+        }
+        self.settle_row_2(&mut holding, call, &answer, wall, &control);
+        self.check_rows(&holding, call, &answer)?;
+        self.coverage.note(call, &control, &holding, &before, &answer);
+        wall.control = answer.control;
+        Ok(answer)
+    }
+
+    /// Plays a call of H and takes it into the history.
+    pub fn play_in(
+        &mut self,
+        history: &mut History,
+        wall: &mut Wall,
+        call: &Call,
+    ) -> Result<Answer, Mismatch> {
+        let answer = self.play(wall, call)?;
+        history.note(self.call_number, call, &answer, wall.played.output.lent());
+        Ok(answer)
+    }
+
+    /// Plays a call on a changed copy of the wall, which itself stays.
+    pub fn play_aside(
+        &mut self,
+        wall: &Wall,
+        call: &Call,
+        change: impl FnOnce(&mut Wall),
+    ) -> Result<Answer, Mismatch> {
+        let mut aside = self.scratch.take().unwrap_or_else(Wall::zeros);
+        aside.copy_from(wall);
+        change(&mut aside);
+        aside.mirror();
+        let answer = self.play(&mut aside, call);
+        self.scratch = Some(aside);
+        answer
+    }
+
+    /// Checks the one-copy order of a whole list.
+    pub fn check_order(&mut self, history: &History) -> Result<(), Mismatch> {
+        self.coverage.count_order(history.len());
+        history.check().map_err(|(call_number, words)| Mismatch {
+            call_number,
+            call: "(the whole list)".to_string(),
+            words,
+        })
+    }
+
+    fn mismatch(&self, call: String, words: String) -> Mismatch {
+        Mismatch { call_number: self.call_number, call, words }
+    }
+
+    /// Row 2 is what the answer says, except after row 1, where it is looked at.
+    fn settle_row_2(
+        &self,
+        holding: &mut Vec<u32>,
+        call: &Call,
+        answer: &Answer,
+        wall: &Wall,
+        control: &simulator::Control,
+    ) {
+        let applies = call.rows().contains(&2) && answer.kind == REFUSED;
+        let holds = match answer.value {
+            1 => rows::out_of_layout(control, &wall.simulated),
+            number => number == 2,
+        };
+        if applies && holds {
+            holding.push(2);
+        }
+    }
+
+    /// The answer is the first row that holds, or no refusal when none does.
+    fn check_rows(&self, holding: &[u32], call: &Call, answer: &Answer) -> Result<(), Mismatch> {
+        let first = call.rows().iter().find(|row| holding.contains(row));
+        let refused = (answer.kind == REFUSED).then_some(answer.value);
+        if first.copied() == refused {
+            return Ok(());
+        }
+        let words = format!("rows that hold {holding:?}, but the answer is refusal {refused:?}");
+        Err(self.mismatch(call.to_string(), words))
+    }
+}

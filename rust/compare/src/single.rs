@@ -1,0 +1,103 @@
+//! 01's single library: a count and 128 carts, with no copies. Written on
+//! bytes, apart from the simulator.
+
+pub const UNIT: usize = 80;
+
+fn number(unit: &[u8]) -> usize {
+    usize::from(unit[2]) | usize::from(unit[3]) << 8
+}
+
+/// Where the operation's cart begins in a copy, if it has one.
+fn cart_at(operation: &[u8]) -> Option<usize> {
+    let number = number(operation);
+    (1..=128).contains(&number).then(|| UNIT * (number - 1))
+}
+
+/// Whether the operation meets its cart in the right state in this copy.
+pub fn meets(copy: &[u8], operation: &[u8]) -> bool {
+    let Some(at) = cart_at(operation) else { return false };
+    match operation[0] {
+        1 => copy[at] != 1,
+        2..=4 => copy[at] == 1,
+        _ => false,
+    }
+}
+
+/// The operation's effect on this copy.
+pub fn act(copy: &mut [u8], operation: &[u8]) {
+    let Some(at) = cart_at(operation).filter(|_| meets(copy, operation)) else { return };
+    let cart = &mut copy[at..at + UNIT];
+    match operation[0] {
+        1 => {
+            cart[0] = 1;
+            cart[1..12].copy_from_slice(&operation[1..12]);
+            cart[16..].copy_from_slice(&operation[16..]);
+        }
+        2 => {
+            cart[1] = operation[1];
+            cart[16..].copy_from_slice(&operation[16..]);
+        }
+        3 => cart[4..12].copy_from_slice(&operation[4..12]),
+        _ => cart.fill(0),
+    }
+}
+
+pub struct SingleLibrary {
+    count: u32,
+    carts: Vec<u8>,
+}
+
+impl SingleLibrary {
+    pub fn new() -> SingleLibrary {
+        SingleLibrary { count: 0, carts: vec![0; 128 * UNIT] }
+    }
+
+    /// The commit's number, or `None` for refusal 8.
+    pub fn commit(&mut self, operations: &[u8]) -> Option<u32> {
+        let mut carts = self.carts.clone();
+        for operation in operations.chunks_exact(UNIT) {
+            if !meets(&carts, operation) {
+                return None;
+            }
+            act(&mut carts, operation);
+        }
+        self.carts = carts;
+        self.count += 1;
+        Some(self.count)
+    }
+
+    /// State, found, and the bytes that the answer writes.
+    pub fn read(&self, request: &[u8]) -> (u32, u32, Vec<u8>) {
+        if request[0] == 1 { self.read_numbers(request) } else { self.read_title(request) }
+    }
+
+    fn read_numbers(&self, request: &[u8]) -> (u32, u32, Vec<u8>) {
+        let mut written = Vec::new();
+        let mut found = 0;
+        for i in 0..usize::from(request[1]) {
+            let asked = usize::from(request[16 + 2 * i]) | usize::from(request[17 + 2 * i]) << 8;
+            let cart = &self.carts[UNIT * (asked - 1)..UNIT * asked];
+            found += u32::from(cart[0] == 1);
+            written.extend_from_slice(cart);
+        }
+        (self.count, found, written)
+    }
+
+    fn read_title(&self, request: &[u8]) -> (u32, u32, Vec<u8>) {
+        let length = usize::from(request[1]);
+        let wanted = &request[16..16 + length];
+        let mut found = 0;
+        let mut written = vec![0; UNIT];
+        for cart in self.carts.chunks_exact(UNIT) {
+            let titled = cart[0] == 1 && usize::from(cart[1]) == length;
+            if titled && cart[16..16 + length] == *wanted {
+                found += 1;
+                written.copy_from_slice(cart);
+            }
+        }
+        if found != 1 {
+            written.fill(0);
+        }
+        (self.count, found, written)
+    }
+}

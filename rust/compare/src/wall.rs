@@ -1,0 +1,59 @@
+//! A system twice: once for the simulator, once for the engine.
+
+use crate::call::Call;
+use crate::lent::Lent;
+use simulator::Control;
+
+#[derive(Clone)]
+pub struct Wall {
+    pub simulated: Lent,
+    pub played: Lent,
+    pub control: Control,
+}
+
+impl Wall {
+    pub fn zeros() -> Wall {
+        Wall { simulated: Lent::zeros(), played: Lent::zeros(), control: Control::default() }
+    }
+
+    pub fn copy_from(&mut self, other: &Wall) {
+        self.simulated.copy_from(&other.simulated);
+        self.played.copy_from(&other.played);
+        self.control = other.control;
+    }
+
+    /// Gives the simulator the engine's memory, after the latter was changed.
+    pub fn mirror(&mut self) {
+        self.simulated.copy_from(&self.played);
+    }
+
+    /// Lends the call's input and an output of marked bytes.
+    pub fn lend(&mut self, call: &Call, mark: u64) {
+        let output: Vec<u8> = (0..call.output()).map(|at| marked(at, mark)).collect();
+        for lent in [&mut self.simulated, &mut self.played] {
+            lent.input.set(call.input());
+            lent.output.set(&output);
+        }
+    }
+
+    /// Whether cart `number` is held at the head end.
+    pub fn held(&self, number: usize) -> bool {
+        self.played.library.byte(80 * (number - 1)) == 1
+    }
+
+    /// Whether a read of session 1 to 16 is waiting.
+    pub fn waiting(&self, session: u32) -> bool {
+        self.played.sessions.byte(80 * (session as usize - 1)) != 0
+    }
+
+    pub fn used_sessions(&self) -> Vec<u32> {
+        (1..=16)
+            .filter(|session| self.control.session_studios[*session as usize - 1] != 0)
+            .collect()
+    }
+}
+
+/// A byte that is never zero, so that zeros not written are seen.
+fn marked(at: usize, mark: u64) -> u8 {
+    (at as u8).wrapping_mul(31).wrapping_add(mark as u8) | 1
+}

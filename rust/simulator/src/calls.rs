@@ -1,0 +1,162 @@
+//! What the calls do to a system. A refused call's system is thrown away.
+
+use crate::cart::{Copy, encode_cart};
+use crate::control::Outcome;
+use crate::operation::{Operation, Transaction};
+use crate::session::{Request, Session};
+use crate::system::{Studio, System};
+use crate::{RECORDS, TRANSACTION_OPERATIONS, UNIT, WINDOW};
+
+/// The end of a call, or the number of the row that stopped it.
+pub type Ended = Result<Outcome, u32>;
+
+pub fn commit(system: &mut System, session: u32, operations: &[u8]) -> Ended {
+    let place = used_session(system, session)?;
+    if session_at(system, place).waiting.is_some() {
+        return Err(4);
+    }
+    let count = operations.len() / UNIT;
+    let sized =
+        operations.len().is_multiple_of(UNIT) && (1..=TRANSACTION_OPERATIONS).contains(&count);
+    if !sized {
+        return Err(5);
+    }
+    let transaction: Option<Transaction> =
+        operations.chunks_exact(UNIT).map(Operation::handed_in).collect();
+    let transaction = transaction.ok_or(6u32)?;
+    let used: usize = system.transactions.iter().map(Vec::len).sum();
+    if used + count > RECORDS {
+        return Err(7);
+    }
+    for operation in &transaction {
+        if !operation.meets(&system.head_end) {
+            return Err(8);
+        }
+        operation.act(&mut system.head_end);
+    }
+    system.transactions.push(transaction);
+    let number = system.commits();
+    session_at_mut(system, place).number = number;
+    Ok(Outcome::Done(number))
+}
+
+pub fn send(system: &mut System, studio: u32) -> Ended {
+    let commits = system.commits();
+    let studio = known_studio(system, studio)?;
+    if studio.sent == commits {
+        return Err(9);
+    }
+    if studio.sent - studio.applied == WINDOW {
+        return Err(10);
+    }
+    studio.sent += 1;
+    Ok(Outcome::Done(studio.sent))
+}
+
+pub fn refresh(system: &mut System, studio: u32) -> Ended {
+    let Studio { sent, applied, .. } = *known_studio(system, studio)?;
+    if sent == applied {
+        return Err(11);
+    }
+    let next = usize::try_from(applied).expect("at most 512");
+    let transaction = system.transactions[next].clone();
+    let studio = known_studio(system, studio)?;
+    for operation in &transaction {
+        operation.act(&mut studio.copy);
+    }
+    studio.applied += 1;
+    Ok(Outcome::Done(studio.applied))
+}
+
+pub fn read(system: &mut System, session: u32, request: &[u8], output: &mut [u8]) -> Ended {
+    let place = used_session(system, session)?;
+    if session_at(system, place).waiting.is_some() {
+        return Err(4);
+    }
+    let request = Request::handed_in(request).ok_or(12u32)?;
+    if output.len() < request.output_bytes() {
+        return Err(13);
+    }
+    match caught_up(system, place) {
+        Some(studio) => Ok(answer(studio, &request, output)),
+        None => {
+            let session = session_at_mut(system, place);
+            session.waiting = Some(request);
+            Ok(Outcome::Waits(session.number))
+        }
+    }
+}
+
+pub fn collect(system: &mut System, session: u32, output: &mut [u8]) -> Ended {
+    let place = used_session(system, session)?;
+    let request = session_at(system, place).waiting.clone().ok_or(14u32)?;
+    if output.len() < request.output_bytes() {
+        return Err(13);
+    }
+    match caught_up(system, place) {
+        Some(studio) => {
+            let answered = answer(studio, &request, output);
+            session_at_mut(system, place).waiting = None;
+            Ok(answered)
+        }
+        None => Ok(Outcome::Waits(session_at(system, place).number)),
+    }
+}
+
+/// The session's studio, if its copy has reached the session's number.
+fn caught_up(system: &System, place: usize) -> Option<&Studio> {
+    let session = session_at(system, place);
+    let studio = &system.studios[session.studio - 1];
+    (studio.applied >= session.number).then_some(studio)
+}
+
+/// Answers a request from a studio's copy, from output's start.
+fn answer(studio: &Studio, request: &Request, output: &mut [u8]) -> Outcome {
+    let found = match request {
+        Request::Numbers(numbers) => {
+            for (number, unit) in numbers.iter().zip(output.chunks_exact_mut(UNIT)) {
+                put_cart(&studio.copy, *number, unit);
+            }
+            numbers.iter().filter(|number| studio.copy[usize::from(**number) - 1].is_some()).count()
+        }
+        Request::Title(title) => {
+            let titled: Vec<u16> = (1..)
+                .zip(&studio.copy)
+                .filter(|(_, cart)| cart.is_some_and(|cart| cart.title == *title))
+                .map(|(number, _)| number)
+                .collect();
+            match titled[..] {
+                [number] => put_cart(&studio.copy, number, &mut output[..UNIT]),
+                _ => output[..UNIT].fill(0),
+            }
+            titled.len()
+        }
+    };
+    Outcome::Answered { state: studio.applied, found: u32::try_from(found).expect("at most 128") }
+}
+
+fn put_cart(copy: &Copy, number: u16, unit: &mut [u8]) {
+    encode_cart(copy[usize::from(number) - 1].as_ref(), number, unit);
+}
+
+/// The place of a used session, or row 3.
+fn used_session(system: &System, session: u32) -> Result<usize, u32> {
+    let place = usize::try_from(session).ok().and_then(|session| session.checked_sub(1));
+    let used = |place: &usize| system.sessions.get(*place).is_some_and(Option::is_some);
+    place.filter(used).ok_or(3)
+}
+
+/// The studio of a number from 1 to S, or row 3.
+fn known_studio(system: &mut System, studio: u32) -> Result<&mut Studio, u32> {
+    let place =
+        usize::try_from(studio).ok().and_then(|studio| studio.checked_sub(1)).ok_or(3u32)?;
+    system.studios.get_mut(place).ok_or(3)
+}
+
+fn session_at(system: &System, place: usize) -> &Session {
+    system.sessions[place].as_ref().expect("a used session")
+}
+
+fn session_at_mut(system: &mut System, place: usize) -> &mut Session {
+    system.sessions[place].as_mut().expect("a used session")
+}

@@ -1,0 +1,152 @@
+//! The cart wall of document 01, by another hand.
+//!
+//! Every call decodes the lent memory and the control into a value, acts on
+//! the value, and encodes it again. Nothing here was taken from the engine.
+
+mod bytes;
+mod calls;
+mod cart;
+mod control;
+mod log;
+mod operation;
+mod session;
+mod system;
+mod title;
+
+pub use control::{ANSWERED, Answer, Control, DONE, Outcome, REFUSED, WAITS};
+
+/// Bytes of a cart, a record, a session, an operation and a request.
+pub const UNIT: usize = 80;
+pub const CARTS: usize = 128;
+pub const COPY: usize = CARTS * UNIT;
+pub const STUDIOS: usize = 4;
+pub const RECORDS: usize = 512;
+pub const SESSIONS: usize = 16;
+pub const LIBRARY: usize = (1 + STUDIOS) * COPY;
+pub const LOG: usize = RECORDS * UNIT;
+pub const SESSION_MEMORY: usize = SESSIONS * UNIT;
+/// Most operations of one transaction.
+pub const TRANSACTION_OPERATIONS: usize = 8;
+/// Most numbers of one read.
+pub const NUMBERS: usize = 32;
+/// Most transactions sent and not applied.
+pub const WINDOW: u32 = 32;
+
+pub fn setup(
+    library: &mut [u8],
+    log: &mut [u8],
+    sessions: &mut [u8],
+    studios: u32,
+    session_studios: &[u8],
+) -> Answer {
+    let refused = |number| Outcome::Refused(number).with(Control::default());
+    if !right_lengths(library, log, sessions) {
+        return refused(1);
+    }
+    let known = (1..=4).contains(&studios);
+    let above = session_studios.iter().any(|studio| u32::from(*studio) > studios);
+    if !known || session_studios.len() != SESSIONS || above {
+        return refused(15);
+    }
+    for memory in [library, log, sessions] {
+        memory.fill(0);
+    }
+    let mut control = Control { studios, ..Control::default() };
+    for (word, studio) in control.session_studios.iter_mut().zip(session_studios) {
+        *word = u32::from(*studio);
+    }
+    Outcome::Done(0).with(control)
+}
+
+pub fn commit(
+    library: &mut [u8],
+    log: &mut [u8],
+    sessions: &mut [u8],
+    control: Control,
+    session: u32,
+    operations: &[u8],
+) -> Answer {
+    play(library, log, sessions, control, |system| calls::commit(system, session, operations))
+}
+
+pub fn send(
+    library: &mut [u8],
+    log: &mut [u8],
+    sessions: &mut [u8],
+    control: Control,
+    studio: u32,
+) -> Answer {
+    play(library, log, sessions, control, |system| calls::send(system, studio))
+}
+
+pub fn refresh(
+    library: &mut [u8],
+    log: &mut [u8],
+    sessions: &mut [u8],
+    control: Control,
+    studio: u32,
+) -> Answer {
+    play(library, log, sessions, control, |system| calls::refresh(system, studio))
+}
+
+pub fn read(
+    library: &mut [u8],
+    log: &mut [u8],
+    sessions: &mut [u8],
+    control: Control,
+    session: u32,
+    request: &[u8],
+    output: &mut [u8],
+) -> Answer {
+    play(library, log, sessions, control, |system| calls::read(system, session, request, output))
+}
+
+pub fn collect(
+    library: &mut [u8],
+    log: &mut [u8],
+    sessions: &mut [u8],
+    control: Control,
+    session: u32,
+    output: &mut [u8],
+) -> Answer {
+    play(library, log, sessions, control, |system| calls::collect(system, session, output))
+}
+
+/// Whether control and memory are of the layout, all three lengths being right.
+pub fn of_layout(library: &[u8], log: &[u8], sessions: &[u8], control: &Control) -> bool {
+    system::System::decode(library, log, sessions, control).is_some()
+}
+
+/// Whether 80 bytes are an operation in form, as handed in.
+pub fn operation_in_form(unit: &[u8]) -> bool {
+    operation::Operation::handed_in(unit).is_some()
+}
+
+/// Whether bytes are a read request in form, as handed in.
+pub fn request_in_form(request: &[u8]) -> bool {
+    session::Request::handed_in(request).is_some()
+}
+
+fn right_lengths(library: &[u8], log: &[u8], sessions: &[u8]) -> bool {
+    library.len() == LIBRARY && log.len() == LOG && sessions.len() == SESSION_MEMORY
+}
+
+/// Rows 1 and 2, then the call itself, then the memory it leaves.
+fn play(
+    library: &mut [u8],
+    log: &mut [u8],
+    sessions: &mut [u8],
+    control: Control,
+    call: impl FnOnce(&mut system::System) -> calls::Ended,
+) -> Answer {
+    if !right_lengths(library, log, sessions) {
+        return Outcome::Refused(1).with(control);
+    }
+    let Some(mut system) = system::System::decode(library, log, sessions, &control) else {
+        return Outcome::Refused(2).with(control);
+    };
+    match call(&mut system) {
+        Ok(outcome) => outcome.with(system.encode(library, log, sessions)),
+        Err(number) => Outcome::Refused(number).with(control),
+    }
+}

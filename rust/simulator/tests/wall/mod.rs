@@ -1,0 +1,151 @@
+//! A wall for the tests: the lent memory, the control, and makers of inputs.
+#![allow(dead_code)]
+
+use simulator::{Answer, Control, LIBRARY, LOG, SESSION_MEMORY, UNIT};
+
+#[derive(Clone, PartialEq, Debug)]
+pub struct Wall {
+    pub library: Vec<u8>,
+    pub log: Vec<u8>,
+    pub sessions: Vec<u8>,
+    pub control: Control,
+}
+
+/// An answer without its control: kind, value, found.
+pub type Words = (u32, u32, u32);
+
+pub fn refused(number: u32) -> Words {
+    (0, number, 0)
+}
+
+pub fn done(value: u32) -> Words {
+    (1, value, 0)
+}
+
+pub fn answered(state: u32, found: u32) -> Words {
+    (2, state, found)
+}
+
+pub fn waits(number: u32) -> Words {
+    (3, number, 0)
+}
+
+/// 01's table: S = 2; sessions 1 and 2 at studio 1, session 3 at studio 2.
+pub fn fresh() -> Wall {
+    let mut wall = Wall {
+        library: vec![7; LIBRARY],
+        log: vec![7; LOG],
+        sessions: vec![7; SESSION_MEMORY],
+        control: Control::default(),
+    };
+    let studios = [1, 1, 2, 0, 0, 0, 0, 0, 0, 0, 0, 0, 0, 0, 0, 0];
+    assert_eq!(wall.setup(2, &studios), done(0));
+    wall
+}
+
+impl Wall {
+    fn keep(&mut self, before: Wall, answer: Answer) -> Words {
+        self.control = answer.control;
+        if answer.kind == simulator::REFUSED {
+            assert_eq!(*self, before, "a refused call changes nothing");
+        }
+        (answer.kind, answer.value, answer.found)
+    }
+
+    pub fn setup(&mut self, studios: u32, bytes: &[u8]) -> Words {
+        let (library, log) = (&mut self.library, &mut self.log);
+        let answer = simulator::setup(library, log, &mut self.sessions, studios, bytes);
+        self.control = answer.control;
+        (answer.kind, answer.value, answer.found)
+    }
+
+    pub fn commit(&mut self, session: u32, operations: &[[u8; UNIT]]) -> Words {
+        self.commit_bytes(session, &operations.concat())
+    }
+
+    pub fn commit_bytes(&mut self, session: u32, bytes: &[u8]) -> Words {
+        let before = self.clone();
+        let (library, log) = (&mut self.library, &mut self.log);
+        let answer =
+            simulator::commit(library, log, &mut self.sessions, self.control, session, bytes);
+        self.keep(before, answer)
+    }
+
+    pub fn send(&mut self, studio: u32) -> Words {
+        let before = self.clone();
+        let (library, log) = (&mut self.library, &mut self.log);
+        let answer = simulator::send(library, log, &mut self.sessions, self.control, studio);
+        self.keep(before, answer)
+    }
+
+    pub fn refresh(&mut self, studio: u32) -> Words {
+        let before = self.clone();
+        let (library, log) = (&mut self.library, &mut self.log);
+        let answer = simulator::refresh(library, log, &mut self.sessions, self.control, studio);
+        self.keep(before, answer)
+    }
+
+    pub fn read(&mut self, session: u32, request: &[u8], output: &mut [u8]) -> Words {
+        let before = self.clone();
+        let (library, log) = (&mut self.library, &mut self.log);
+        let sessions = &mut self.sessions;
+        let control = self.control;
+        let answer = simulator::read(library, log, sessions, control, session, request, output);
+        self.keep(before, answer)
+    }
+
+    pub fn collect(&mut self, session: u32, output: &mut [u8]) -> Words {
+        let before = self.clone();
+        let (library, log) = (&mut self.library, &mut self.log);
+        let sessions = &mut self.sessions;
+        let answer = simulator::collect(library, log, sessions, self.control, session, output);
+        self.keep(before, answer)
+    }
+}
+
+fn unit(kind: u8, cart: u16, title: &str, audio: u32, length: u32) -> [u8; UNIT] {
+    let mut unit = [0; UNIT];
+    unit[0] = kind;
+    unit[1] = u8::try_from(title.len()).unwrap();
+    unit[2..4].copy_from_slice(&cart.to_le_bytes());
+    unit[4..8].copy_from_slice(&audio.to_le_bytes());
+    unit[8..12].copy_from_slice(&length.to_le_bytes());
+    let kept = title.len().min(64);
+    unit[16..16 + kept].copy_from_slice(&title.as_bytes()[..kept]);
+    unit
+}
+
+pub fn new(cart: u16, title: &str, audio: u32, length: u32) -> [u8; UNIT] {
+    unit(1, cart, title, audio, length)
+}
+
+pub fn retitle(cart: u16, title: &str) -> [u8; UNIT] {
+    unit(2, cart, title, 0, 0)
+}
+
+pub fn recut(cart: u16, audio: u32, length: u32) -> [u8; UNIT] {
+    unit(3, cart, "", audio, length)
+}
+
+pub fn withdraw(cart: u16) -> [u8; UNIT] {
+    unit(4, cart, "", 0, 0)
+}
+
+/// 01's A.
+pub fn top_hour() -> [u8; UNIT] {
+    new(7, "Top hour A", 501, 8_000)
+}
+
+pub fn by_numbers(numbers: &[u16]) -> [u8; UNIT] {
+    let mut request = [0; UNIT];
+    request[0] = 1;
+    request[1] = u8::try_from(numbers.len()).unwrap();
+    for (i, number) in numbers.iter().enumerate() {
+        request[16 + 2 * i..18 + 2 * i].copy_from_slice(&number.to_le_bytes());
+    }
+    request
+}
+
+pub fn by_title(title: &str) -> [u8; UNIT] {
+    unit(2, 0, title, 0, 0)
+}
