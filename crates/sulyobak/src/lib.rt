@@ -1,8 +1,10 @@
 // The engine for C and Rust: include/sulyobak.h says the same to C. Each function passes its arguments on and hands the answer back as
 // words; no test is left to the caller.
 use crate::words::Words;
+use replication::collect;
 use replication::commit;
 use replication::control::Control;
+use replication::read;
 use replication::refresh;
 use replication::rows;
 use replication::send;
@@ -10,7 +12,7 @@ use replication::setup;
 ghost use mathlib.Core.Path.{_≡_};
 ghost use mathlib.Core.List.{[]};
 ghost use Rattle.replication.specs.Memory.{memory};
-ghost use Rattle.replication.specs.Calls.{setup, commit, send, refresh};
+ghost use Rattle.replication.specs.Calls.{setup, commit, send, refresh, read, collect};
 ghost use Rattle.sulyobak.specs.Words.{left, leftBy, layoutWords};
 
 pub mod words;
@@ -74,6 +76,39 @@ pub extern "C" fn sulyobak_refresh(
         ≡ leftBy (refresh control (memory (now (library .entry)) (now (log .entry)) (now (sessions .entry))) studio) ⌝ }
 {
     Words::of_count(refresh::refresh(control, library, log, sessions, studio))
+}
+
+// Read: answered from the studio's copy into output, or kept in the session. Library and log are only read.
+#[no_mangle]
+pub extern "C" fn sulyobak_read(
+    library: &[u8],
+    log: &[u8],
+    sessions: &mut [u8],
+    control: Control,
+    session: u32,
+    request: &[u8],
+    output: &mut [u8],
+) -> Words
+    ensures { λ r. ⌜ left r (memory (now (library .entry)) (now (log .entry)) (now (sessions .exit))) (now (output .exit))
+        ≡ leftBy (read control (memory (now (library .entry)) (now (log .entry)) (now (sessions .entry))) session (now (request .entry)) (now (output .entry))) ⌝ }
+{
+    Words::of_read(read::read(control, library, log, sessions, session, request, output))
+}
+
+// Collect: the session's waiting read, answered or still waiting. Library and log are only read.
+#[no_mangle]
+pub extern "C" fn sulyobak_collect(
+    library: &[u8],
+    log: &[u8],
+    sessions: &mut [u8],
+    control: Control,
+    session: u32,
+    output: &mut [u8],
+) -> Words
+    ensures { λ r. ⌜ left r (memory (now (library .entry)) (now (log .entry)) (now (sessions .exit))) (now (output .exit))
+        ≡ leftBy (collect control (memory (now (library .entry)) (now (log .entry)) (now (sessions .entry))) session (now (output .entry))) ⌝ }
+{
+    Words::of_read(collect::collect(control, library, log, sessions, session, output))
 }
 
 // The test of lengths and layout alone, which every call but setup begins with. Memory is only read.

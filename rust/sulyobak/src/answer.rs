@@ -106,7 +106,9 @@ impl Refusal {
             Refusal::Nobody => "there is no such session in use, or no such studio",
             Refusal::ReadWaiting => "the session has a read waiting; collect it first",
             Refusal::Size => "a commit takes 1 to 8 operations",
-            Refusal::Operation => "an operation is out of form: cart number 1 to 128, audio and length at least 1, title of 1 to 64 letters",
+            Refusal::Operation => {
+                "an operation is out of form: cart number 1 to 128, audio and length at least 1, title of 1 to 64 letters"
+            }
             Refusal::LogFull => "the log has no room for the operations",
             Refusal::WrongState => "a new cart is there already, or the cart to retitle, re-cut or withdraw is empty",
             Refusal::AllSent => "every committed transaction was sent to this studio",

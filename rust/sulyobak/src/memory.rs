@@ -108,16 +108,7 @@ impl Memory<'_> {
 
     /// The same with the request's bytes as they are, into output that the caller lends: 80 bytes for each number asked, or for a title.
     pub fn read_into(&mut self, session: u32, request: &[u8], output: &mut [u8]) -> Result<Found, Refusal> {
-        let answer = call!(
-            sulyobak_read,
-            self,
-            *self.control,
-            session,
-            request.as_ptr(),
-            request.len(),
-            output.as_mut_ptr(),
-            output.len()
-        );
+        let answer = call!(sulyobak_read, self, *self.control, session, request.as_ptr(), request.len(), output.as_mut_ptr(), output.len());
         self.answered(answer)
     }
 

@@ -1,0 +1,99 @@
+//! Breakfast at a local station, with the engine linked into Rust.
+//!
+//! Two versions of a jingle have long titles that differ in the last letter: a playlist imported by title and by cart number gets the
+//! same carts. Then a producer re-cuts the sponsor's jingle and reads it in the same chair while the studio's copy is two edits
+//! behind: the read waits, and is collected with the new cut.
+use std::error::Error;
+use sulyobak::{Library, Operation, Read, Refusal, Request, Title};
+
+// Sessions, and the studio that all of them sit in.
+const MANAGER: u32 = 1;
+const PRODUCER: u32 = 2;
+const PRESENTER: u32 = 3;
+const STUDIO: u32 = 1;
+
+// Carts.
+const JINGLE_A: u16 = 11;
+const JINGLE_B: u16 = 12;
+const SPONSOR: u16 = 20;
+const NEWS: u16 = 30;
+
+fn main() -> Result<(), Box<dyn Error>> {
+    let mut wall = Library::new(1, &[1, 1, 1])?;
+    the_title_column(&mut wall)?;
+    println!();
+    the_sponsors_jingle(&mut wall)?;
+    Ok(())
+}
+
+fn the_title_column(wall: &mut Library) -> Result<(), Box<dyn Error>> {
+    println!("The title column");
+    let take_a = Title::new("Good morning, good morning, it is breakfast time in town, take A")?;
+    let take_b = Title::new("Good morning, good morning, it is breakfast time in town, take B")?;
+    if let Err(error) = Title::new("Good morning, good morning, it is breakfast time in town, take A2") {
+        println!("take A2: {error}");
+    }
+
+    let number = wall.commit(
+        MANAGER,
+        &[
+            Operation::New { cart: JINGLE_A, title: take_a, audio: 101, milliseconds: 8_000 },
+            Operation::New { cart: JINGLE_B, title: take_b, audio: 102, milliseconds: 8_000 },
+            Operation::New { cart: SPONSOR, title: Title::new("Sponsor: Kovacs bakery")?, audio: 301, milliseconds: 15_000 },
+        ],
+    )?;
+    println!("commit {number}: two jingles and the sponsor's");
+    catch_up(wall)?;
+
+    let first = wall.read(PRESENTER, &Request::Title(take_a))?;
+    show("take A by title", &first);
+    let second = wall.read(PRESENTER, &Request::Title(take_b))?;
+    show("take B by title", &second);
+    let both = wall.read(PRESENTER, &Request::carts(&[JINGLE_A, JINGLE_B])?)?;
+    show("both by number", &both);
+    Ok(())
+}
+
+fn the_sponsors_jingle(wall: &mut Library) -> Result<(), Box<dyn Error>> {
+    println!("The sponsor's jingle");
+    let news = Operation::New { cart: NEWS, title: Title::new("News bed")?, audio: 401, milliseconds: 60_000 };
+    println!("commit {}: the manager's news bed", wall.commit(MANAGER, &[news])?);
+    let recut = Operation::Recut { cart: SPONSOR, audio: 302, milliseconds: 14_000 };
+    println!("commit {}: the producer re-cuts the sponsor's jingle", wall.commit(PRODUCER, &[recut])?);
+
+    let request = Request::cart(SPONSOR);
+    show("the producer, in the same chair", &wall.read(PRODUCER, &request)?);
+    match wall.commit(PRODUCER, &[recut]) {
+        Ok(number) => println!("commit {number}"),
+        Err(refusal) => println!("another commit in that chair: {refusal}"),
+    }
+    show("the presenter, who has edited nothing", &wall.read(PRESENTER, &request)?);
+    catch_up(wall)?;
+    show("the producer collects", &wall.collect(PRODUCER)?);
+    catch_up(wall)?;
+    show("the producer collects", &wall.collect(PRODUCER)?);
+    Ok(())
+}
+
+// The line sends one transaction, and the studio's copy takes it.
+fn catch_up(wall: &mut Library) -> Result<(), Refusal> {
+    let sent = wall.send(STUDIO)?;
+    let applied = wall.refresh(STUDIO)?;
+    println!("sent {sent}, applied {applied} of {}", wall.control().commits);
+    Ok(())
+}
+
+fn show(what: &str, read: &Read) {
+    match read {
+        Read::Waits { number } => println!("{what}: waits for {number}"),
+        Read::Answered { state, found, carts } => {
+            println!("{what}: state {state}, found {found}");
+            for cart in carts {
+                match cart {
+                    Some(cart) => println!("    {cart}"),
+                    None => println!("    empty"),
+                }
+            }
+        }
+    }
+}
