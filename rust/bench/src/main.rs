@@ -1,54 +1,112 @@
+//! Times the engine against the simulator and against a vectorised floor: `./bench` at the root of the repository builds
+//! and runs it. docs/BENCHMARK.md tells what is measured.
+
 mod agree;
+mod bars;
 mod call;
 mod clock;
 mod engine;
 mod floor;
+mod growth;
 mod lanes;
 mod measure;
+mod stages;
+mod states;
 mod undo;
 mod wall;
 
-use call::Call;
+use bars::Bar;
+use growth::Point;
+use measure::{Layout, Measured, Times};
+use states::{Kind, State};
 use wall::Wall;
 
-fn calls(letters: &[u8], fresh: bool) -> Vec<(&'static str, Call)> {
-    let n = letters.len();
-    let op = |cart: usize| if fresh { call::new(cart, &call::title(cart, n)) } else { call::retitle(cart, &call::title(cart, n)) };
-    let carts = [1usize, 30, 59, 88, 117, 18, 47, 76];
-    let many: Vec<u8> = carts.iter().flat_map(|&c| op(c)).collect();
-    vec![
-        ("commit, 1 operation", Call::Commit { session: wall::READER, operations: op(1).to_vec() }),
-        ("commit, 8 operations", Call::Commit { session: wall::READER, operations: many }),
-        ("send", Call::Send { studio: wall::SENT }),
-        ("refresh", Call::Refresh { studio: wall::REFRESHED }),
-        ("read, 1 number", Call::Read { session: wall::READER, request: call::by_numbers(1) }),
-        ("read, 32 numbers", Call::Read { session: wall::READER, request: call::by_numbers(32) }),
-        ("read, title", Call::Read { session: wall::READER, request: call::by_title(letters) }),
-        ("read, waits", Call::Read { session: wall::WAITING_READER, request: call::by_numbers(32) }),
-        ("collect, 32 numbers", Call::Collect { session: wall::NUMBERS_COLLECTOR }),
-        ("collect, title", Call::Collect { session: wall::TITLE_COLLECTOR }),
-        ("collect, waits", Call::Collect { session: wall::WAITING_COLLECTOR }),
-    ]
+fn main() {
+    let rounds = match std::env::args().nth(1).map(|word| word.parse()) {
+        None => 400,
+        Some(Ok(rounds)) => rounds,
+        Some(Err(_)) => {
+            eprintln!("usage: bench [ROUNDS]");
+            std::process::exit(2);
+        }
+    };
+    let states = [states::empty(), states::typical(), states::full()];
+    let (single, eights) = (Wall::full(512, 1), Wall::full(512, 8));
+    let tried: u32 = states.iter().map(|state| agree::on_layout(&state.wall)).sum();
+    println!("Engine, simulator and floor agree on the layout of {tried} memories and controls, damaged ones included.");
+    println!("Times are the best of {rounds} batches of about 0.1 ms, in ns, all in turn. State is put back after each");
+    println!("accepted call; the time of that is measured apart and subtracted.");
+
+    let mut layout_bar = Bar::new("layout test / floor, full memory", 1.5);
+    let mut other_bar = Bar::new("send, read, collect / layout test", 1.1);
+    let mut write_bar = Bar::new("commit, refresh / layout test", 1.3);
+    let mut title_bar = Bar::new("read, collect by title / layout test", 1.3);
+    let mut setup_bar = Bar::new("setup / memset of 93,440 bytes", 1.5);
+
+    let measured: Vec<Measured> = states.iter().map(|state| measure_calls(state, rounds)).collect();
+    println!("\nLayout test{:>40} {:>10} {:>7} {:>14} {:>9}", "engine", "floor", "ratio", "engine tests/s", "simulator");
+    for (state, measured) in states.iter().zip(&measured) {
+        print_layout(state.name, &measured.layout);
+    }
+    for (name, wall) in [("full, 512 commits of 1", &single), ("full, 64 commits of 8", &eights)] {
+        let layout = measure::wall(wall, &[], rounds).layout;
+        print_layout(name, &layout);
+        layout_bar.see(layout.engine / layout.floor, name.to_string());
+    }
+    for (state, measured) in states.iter().zip(&measured) {
+        print_calls(state, measured);
+        other_bar.see_calls(Kind::Other, state, measured);
+        write_bar.see_calls(Kind::Write, state, measured);
+        title_bar.see_calls(Kind::Title, state, measured);
+    }
+    let (setup, clear) = measure::setup(&single, rounds);
+    println!("\nSetup: engine {:.0} ns ({:.0} a second), simulator {:.0}, memset {clear:.0}", setup.engine, 1e9 / setup.engine, setup.simulator);
+    setup_bar.see(setup.engine / clear, "any memory".to_string());
+
+    println!("\nWhere the layout test's time goes, full memory{:>11} {:>7}", "engine", "floor");
+    for stage in stages::times(&states[2].wall, rounds) {
+        let floor = stage.floor.map_or(String::new(), |floor| format!("{floor:.0}"));
+        println!("  {:<44} {:>10.0} {floor:>7}", stage.name, stage.engine);
+    }
+    print_points("refresh of 1 operation, by transactions applied before", &growth::refresh(&states[2].wall, rounds));
+    print_points("commit of 1 operation, by commits before", &growth::commit(rounds));
+    print_points("read, by numbers asked", &growth::numbers(&states[2].wall, rounds));
+
+    println!("\nBars");
+    for bar in [layout_bar, other_bar, write_bar, title_bar, setup_bar] {
+        bar.print();
+    }
 }
 
-fn main() {
-    let walls = [
-        ("empty", Wall::empty(), call::title(7, 20)),
-        ("typical", Wall::typical(), call::title(30, 20)),
-        ("full 504x1", Wall::full(504, 1), call::title(7, 64)),
-        ("full 504x8", Wall::full(504, 8), call::title(7, 64)),
-        ("full 512x1", Wall::full(512, 1), call::title(7, 64)),
-    ];
-    for (name, wall, letters) in &walls {
-        println!("{name}: {} tried", agree::on_layout(wall));
-        let m = measure::wall(wall, &calls(letters, *name == "empty"), 200);
-        println!("layout engine {:.0} sim {:.0} floor {:.0}  ratio {:.2}", m.layout.engine, m.layout.simulator, m.layout.floor, m.layout.engine / m.layout.floor);
-        for ((n, _), t) in calls(letters, false).iter().zip(&m.calls) {
-            println!("  {n:<24} {:.0}  x{:.3}  +{:.0} sim {:.0}", t.engine, t.engine / m.layout.engine, t.engine - m.layout.engine, t.simulator);
-        }
+fn measure_calls(state: &State, rounds: u32) -> Measured {
+    let calls: Vec<_> = state.calls.iter().map(|(name, _, call)| (*name, call)).collect();
+    measure::wall(&state.wall, &calls, rounds)
+}
+
+fn print_layout(name: &str, layout: &Layout) {
+    let Layout { engine, simulator, floor } = layout;
+    println!("  {name:<38} {engine:>10.0} {floor:>10.0} {:>7.2} {:>14.0} {simulator:>9.0}", engine / floor, 1e9 / engine);
+}
+
+fn print_calls(state: &State, measured: &Measured) {
+    println!("\nCalls, {}: {}", state.name, state.what);
+    println!("  {:<22} {:>8} {:>10} {:>9} {:>8} {:>10} {:>9}", "", "engine", "calls/s", "x layout", "beyond", "simulator", "x engine");
+    for ((name, _, _), Times { engine, simulator }) in state.calls.iter().zip(&measured.calls) {
+        let layout = measured.layout.engine;
+        println!(
+            "  {name:<22} {engine:>8.0} {:>10.0} {:>9.3} {:>8.0} {simulator:>10.0} {:>9.1}",
+            1e9 / engine,
+            engine / layout,
+            engine - layout,
+            simulator / engine
+        );
     }
-    let (s, c) = measure::setup(&walls[0].1, 200);
-    println!("setup {:.0} sim {:.0} memset {c:.0}", s.engine, s.simulator);
-    println!("{:?}", measure::floor_parts(&walls[2].1, 200));
-    println!("{:?}", measure::engine_on(&[walls[2].1.clone()], &Call::Layout, 200));
+}
+
+fn print_points(name: &str, points: &[Point]) {
+    println!("\nGrowth, full memory: {name}");
+    println!("  {:>8} {:>10} {:>8} {:>8} {:>9}", "", "layout", "call", "beyond", "x layout");
+    for Point { at, layout, call } in points {
+        println!("  {at:>8} {layout:>10.0} {call:>8.0} {:>8.0} {:>9.3}", call - layout, call / layout);
+    }
 }

@@ -63,7 +63,7 @@ fn undo_of(call: &Call, wall: &Wall) -> Undo {
 
 /// Times the layout test and calls on a wall. Memory is put back after each call; the time of that is taken apart, in the
 /// same race, and subtracted.
-pub fn wall(wall: &Wall, calls: &[(&str, Call)], rounds: u32) -> Measured {
+pub fn wall(wall: &Wall, calls: &[(&str, &Call)], rounds: u32) -> Measured {
     let undos: Vec<Undo> = calls.iter().map(|(_, call)| undo_of(call, wall)).collect();
     for (name, call) in calls {
         agree::on_call(name, call, wall);
