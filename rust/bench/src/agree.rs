@@ -71,7 +71,8 @@ fn byte(memory: &mut Memory, at: usize) -> &mut u8 {
 
 fn damaged_controls(control: &Control) -> Vec<Control> {
     let mut all = Vec::new();
-    for value in [0, 1, 2, 3, 4, 5, 31, 32, 33, 59, 60, 61, 503, 504, 505, 511, 512, 513, u32::MAX] {
+    for value in [0, 1, 2, 3, 4, 5, 31, 32, 33, 59, 60, 61, 503, 504, 505, 511, 512, 513, u32::MAX]
+    {
         let with = |change: &dyn Fn(&mut Control)| {
             let mut damaged = *control;
             change(&mut damaged);

@@ -22,7 +22,9 @@ pub fn simulate(call: &Call, memory: &mut Memory, control: &Control, output: &mu
             Answer { kind: DONE, control, ..Answer::default() }
         }
         Call::Layout => Outcome::Refused(2).with(control),
-        Call::Setup { studios, places } => simulator::setup(library, log, sessions, *studios, places),
+        Call::Setup { studios, places } => {
+            simulator::setup(library, log, sessions, *studios, places)
+        }
         Call::Commit { session, operations } => {
             simulator::commit(library, log, sessions, control, *session, operations)
         }
@@ -31,7 +33,9 @@ pub fn simulate(call: &Call, memory: &mut Memory, control: &Control, output: &mu
         Call::Read { session, request } => {
             simulator::read(library, log, sessions, control, *session, request, output)
         }
-        Call::Collect { session } => simulator::collect(library, log, sessions, control, *session, output),
+        Call::Collect { session } => {
+            simulator::collect(library, log, sessions, control, *session, output)
+        }
     }
 }
 

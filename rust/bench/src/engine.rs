@@ -109,7 +109,9 @@ pub fn play(call: &Call, memory: &mut Memory, control: &Control, output: &mut [u
             Call::Read { session, request: x } => {
                 sulyobak_read(m, ml, g, gl, s, sl, control, *session, x.as_ptr(), x.len(), o, ol)
             }
-            Call::Collect { session } => sulyobak_collect(m, ml, g, gl, s, sl, control, *session, o, ol),
+            Call::Collect { session } => {
+                sulyobak_collect(m, ml, g, gl, s, sl, control, *session, o, ol)
+            }
         }
     }
 }

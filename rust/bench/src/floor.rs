@@ -7,7 +7,9 @@
 //! an offset that depends on n. Cart numbers of a waiting read are tested the same way in words of 16 bits.
 
 use crate::lanes::Lanes;
-use simulator::{CARTS, COPY, Control, LIBRARY, LOG, RECORDS, SESSION_MEMORY, STUDIOS, UNIT, WINDOW};
+use simulator::{
+    CARTS, COPY, Control, LIBRARY, LOG, RECORDS, SESSION_MEMORY, STUDIOS, UNIT, WINDOW,
+};
 
 type Unit = [u8; UNIT];
 
@@ -54,7 +56,8 @@ fn u64_at(bytes: &[u8], at: usize) -> u64 {
 #[inline(always)]
 fn title(unit: &Unit, n: u8) -> Lanes {
     let head = usize::from(n);
-    let wrong = |at| Lanes::load(unit, 16 + at).outside(LETTER_FROM.at(head, at), LETTER_SPAN.at(head, at));
+    let wrong =
+        |at| Lanes::load(unit, 16 + at).outside(LETTER_FROM.at(head, at), LETTER_SPAN.at(head, at));
     (wrong(0) | wrong(16)) | (wrong(32) | wrong(48))
 }
 
@@ -62,7 +65,9 @@ fn title(unit: &Unit, n: u8) -> Lanes {
 #[inline(always)]
 fn numbers(unit: &Unit, n: u8) -> Lanes {
     let head = 2 * usize::from(n);
-    let wrong = |at| Lanes::load(unit, 16 + at).outside_u16(NUMBER_FROM.at(head, at), NUMBER_SPAN.at(head, at));
+    let wrong = |at| {
+        Lanes::load(unit, 16 + at).outside_u16(NUMBER_FROM.at(head, at), NUMBER_SPAN.at(head, at))
+    };
     (wrong(0) | wrong(16)) | (wrong(32) | wrong(48))
 }
 
@@ -151,7 +156,8 @@ fn library(bytes: &[u8], studios: u32) -> bool {
 #[inline(always)]
 fn session(unit: &Unit, studio: u32, commits: u32) -> bool {
     let (kind, n) = (unit[0], unit[1]);
-    let by_title = title(unit, n).is_zero() & (n <= 64) & ((n != 0) == (kind == 2)) & (kind & 1 == 0);
+    let by_title =
+        title(unit, n).is_zero() & (n <= 64) & ((n != 0) == (kind == 2)) & (kind & 1 == 0);
     let by_numbers = numbers(unit, n).is_zero() & (n.wrapping_sub(1) < 32) & (kind == 1);
     let used = (by_title | by_numbers)
         & (kind <= 2)
@@ -174,7 +180,8 @@ fn sessions(bytes: &[u8], control: &Control) -> bool {
 fn counts(control: &Control) -> bool {
     let mut ok = (1..=STUDIOS as u32).contains(&control.studios);
     for (i, (&sent, &applied)) in (0..).zip(control.sent.iter().zip(&control.applied)) {
-        let counted = (applied <= sent) & (sent <= control.commits) & (sent.wrapping_sub(applied) <= WINDOW);
+        let counted =
+            (applied <= sent) & (sent <= control.commits) & (sent.wrapping_sub(applied) <= WINDOW);
         ok &= if i < control.studios { counted } else { sent | applied == 0 };
     }
     ok
@@ -182,8 +189,15 @@ fn counts(control: &Control) -> bool {
 
 /// Lengths are right, and control and memory are of the layout.
 #[inline(never)]
-pub fn is_layout(library_memory: &[u8], log_memory: &[u8], session_memory: &[u8], control: &Control) -> bool {
-    let lengths = library_memory.len() == LIBRARY && log_memory.len() == LOG && session_memory.len() == SESSION_MEMORY;
+pub fn is_layout(
+    library_memory: &[u8],
+    log_memory: &[u8],
+    session_memory: &[u8],
+    control: &Control,
+) -> bool {
+    let lengths = library_memory.len() == LIBRARY
+        && log_memory.len() == LOG
+        && session_memory.len() == SESSION_MEMORY;
     lengths
         && (counts(control)
             & library(library_memory, control.studios)

@@ -51,5 +51,8 @@ pub fn numbers(wall: &Wall, rounds: u32) -> Vec<Point> {
     let named: Vec<_> = calls.iter().map(|call| ("read", call)).collect();
     let measured = measure::wall(wall, &named, rounds);
     let layout = measured.layout.engine;
-    ats.iter().zip(measured.calls).map(|(&at, times)| Point { at, layout, call: times.engine }).collect()
+    ats.iter()
+        .zip(measured.calls)
+        .map(|(&at, times)| Point { at, layout, call: times.engine })
+        .collect()
 }

@@ -1,8 +1,8 @@
 //! Sixteen bytes at a time, by instructions of SSE2. Sound: every x86-64 has these.
 
 use core::arch::x86_64::{
-    __m128i, _mm_cmpeq_epi8, _mm_loadu_si128, _mm_movemask_epi8, _mm_or_si128, _mm_setzero_si128, _mm_sub_epi8,
-    _mm_sub_epi16, _mm_subs_epu8, _mm_subs_epu16,
+    __m128i, _mm_cmpeq_epi8, _mm_loadu_si128, _mm_movemask_epi8, _mm_or_si128, _mm_setzero_si128,
+    _mm_sub_epi8, _mm_sub_epi16, _mm_subs_epu8, _mm_subs_epu16,
 };
 use core::ops::BitOr;
 

@@ -102,7 +102,11 @@ pub fn setup(wall: &Wall, rounds: u32) -> (Times, f64) {
         log.fill(0);
         sessions.fill(0);
     });
-    let all = vec![timed(engine::play, &call, &nothing, &lent), timed(simulate, &call, &nothing, &lent), clear];
+    let all = vec![
+        timed(engine::play, &call, &nothing, &lent),
+        timed(simulate, &call, &nothing, &lent),
+        clear,
+    ];
     let best = race(all, rounds);
     (Times { engine: best[0], simulator: best[1] }, best[2])
 }
@@ -110,8 +114,10 @@ pub fn setup(wall: &Wall, rounds: u32) -> (Times, f64) {
 /// The engine's time on each of several walls or controls.
 pub fn engine_on(walls: &[Wall], call: &Call, rounds: u32) -> Vec<f64> {
     let undos: Vec<Undo> = walls.iter().map(|wall| undo_of(call, wall)).collect();
-    let lent: Vec<_> =
-        walls.iter().map(|wall| RefCell::new(Lent { wall: wall.clone(), output: [0; 2560] })).collect();
+    let lent: Vec<_> = walls
+        .iter()
+        .map(|wall| RefCell::new(Lent { wall: wall.clone(), output: [0; 2560] }))
+        .collect();
     let mut all = Vec::new();
     for (undo, lent) in undos.iter().zip(&lent) {
         all.push(timed(engine::play, call, undo, lent));
