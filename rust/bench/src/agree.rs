@@ -3,7 +3,7 @@
 use crate::call::{Call, simulate};
 use crate::wall::{Memory, Wall};
 use crate::{engine, floor};
-use simulator::{Control, DONE};
+use simulator::{Control, DONE, REFUSED};
 
 fn of_layout(memory: &mut Memory, control: &Control) -> bool {
     let by_engine = engine::play(&Call::Layout, memory, control, &mut []).kind == DONE;
@@ -14,13 +14,14 @@ fn of_layout(memory: &mut Memory, control: &Control) -> bool {
     by_simulator
 }
 
-/// The call ends the same in both: answer, memory, output.
+/// The call is not refused, and ends the same in both: answer, memory, output.
 pub fn on_call(name: &str, call: &Call, wall: &Wall) {
     let (mut one, mut other) = (wall.clone(), wall.clone());
     let (mut shown, mut expected) = ([9; 2560], [9; 2560]);
     let by_engine = engine::play(call, &mut one.memory, &wall.control, &mut shown);
     let by_simulator = simulate(call, &mut other.memory, &wall.control, &mut expected);
     assert_eq!(by_engine, by_simulator, "{name}: answers differ");
+    assert_ne!(by_engine.kind, REFUSED, "{name}: refused by {}", by_engine.value);
     let same = one.memory.library == other.memory.library
         && one.memory.log == other.memory.log
         && one.memory.sessions == other.memory.sessions

@@ -1,8 +1,8 @@
 //! How the cost of a call grows: with the transactions to walk along, and with the cart numbers asked.
 
 use crate::call::{self, Call};
-use crate::measure;
 use crate::wall::{self, Wall};
+use crate::{agree, measure};
 use simulator::{Control, UNIT};
 
 /// What a call takes beyond the layout test, in nanoseconds.
@@ -13,6 +13,9 @@ pub struct Point {
 }
 
 fn points(ats: &[u32], walls: &[Wall], call: &Call, rounds: u32) -> Vec<Point> {
+    for wall in walls {
+        agree::on_call("growth", call, wall);
+    }
     let layouts = measure::engine_on(walls, &Call::Layout, rounds);
     let calls = measure::engine_on(walls, call, rounds);
     let times = layouts.into_iter().zip(calls);

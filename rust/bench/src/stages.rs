@@ -29,13 +29,15 @@ pub fn times(wall: &Wall, rounds: u32) -> Vec<Stage> {
     ];
     let ends = measure::engine_on(&walls, &Call::Layout, rounds);
     let floors = measure::floor_parts(wall, rounds);
-    let stage = |name, i: usize, floor| Stage { name, engine: ends[i] - ends[i - 1], floor };
+    let between = |from: usize, to: usize| ends[to] - ends[from];
+    let stage = |name, engine, floor| Stage { name, engine, floor };
     vec![
-        Stage { name: "control, and the call itself", engine: ends[0], floor: None },
-        stage("library: 640 carts", 1, Some(floors[0])),
-        stage("log: operations of the records", 2, None),
-        stage("log: zeros after them, chain", 3, Some(floors[1])),
-        stage("sessions", 4, Some(floors[2])),
-        stage("counts of the studios", 5, None),
+        stage("control, and the call itself", ends[0], None),
+        stage("library: 640 carts", between(0, 1), Some(floors[0])),
+        stage("log", between(1, 3), Some(floors[1])),
+        stage("  of it the records' operations", between(1, 2), None),
+        stage("  of it the zeros after them, and the chain", between(2, 3), None),
+        stage("sessions", between(3, 4), Some(floors[2])),
+        stage("counts of the studios", between(4, 5), None),
     ]
 }
