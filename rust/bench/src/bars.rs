@@ -1,8 +1,5 @@
 //! The bars: ratios that the engine must not pass, and whether it does.
 
-use crate::measure::{Measured, Times};
-use crate::states::{Kind, State};
-
 pub struct Bar {
     what: &'static str,
     most: f64,
@@ -20,15 +17,6 @@ impl Bar {
         if ratio > self.worst {
             self.worst = ratio;
             self.at = at;
-        }
-    }
-
-    /// Sees each call of a kind, as a multiple of the layout test on the same memory.
-    pub fn see_calls(&mut self, kind: Kind, state: &State, measured: &Measured) {
-        for ((name, its_kind, _), Times { engine, .. }) in state.calls.iter().zip(&measured.calls) {
-            if *its_kind == kind {
-                self.see(engine / measured.layout.engine, format!("{name}; {}", state.name));
-            }
         }
     }
 

@@ -1,20 +1,17 @@
-//! Times: the best of many short batches, all ways in turn.
+//! Times: the best of many short batches. All that is timed runs in turn, so that a slow stretch of the machine falls on all.
 
 use std::time::Instant;
 
-/// Something to be timed, and the best time of one of its rounds in nanoseconds.
-pub struct Timed<'a> {
-    run: Box<dyn FnMut() + 'a>,
+struct Timed {
+    run: Box<dyn FnMut()>,
     times: u32,
     best: f64,
 }
 
-impl<'a> Timed<'a> {
-    pub fn new(run: impl FnMut() + 'a) -> Timed<'a> {
-        Timed { run: Box::new(run), times: 1, best: f64::MAX }
-    }
-
+impl Timed {
+    /// The first run is not counted: it brings memory into the cache.
     fn batch(&mut self) {
+        (self.run)();
         let began = Instant::now();
         for _ in 0..self.times {
             (self.run)();
@@ -24,21 +21,41 @@ impl<'a> Timed<'a> {
     }
 }
 
-/// A batch lasts about this long: short enough to fall between two interruptions.
+/// One of those that run in a race.
+#[derive(Clone, Copy)]
+pub struct Entry(usize);
+
+#[derive(Default)]
+pub struct Race {
+    all: Vec<Timed>,
+}
+
+/// A batch lasts about this long, in nanoseconds: short enough to fall between two interruptions.
 const BATCH: f64 = 100_000.0;
 
-/// The best time of each, in nanoseconds.
-pub fn race(mut all: Vec<Timed>, rounds: u32) -> Vec<f64> {
-    for timed in &mut all {
-        for _ in 0..3 {
-            timed.batch();
-        }
-        timed.times = (BATCH / timed.best).clamp(1.0, 10_000.0) as u32;
+impl Race {
+    pub fn add(&mut self, run: impl FnMut() + 'static) -> Entry {
+        self.all.push(Timed { run: Box::new(run), times: 1, best: f64::MAX });
+        Entry(self.all.len() - 1)
     }
-    for _ in 0..rounds {
-        for timed in &mut all {
-            timed.batch();
+
+    pub fn run(&mut self, rounds: u32) {
+        for timed in &mut self.all {
+            for _ in 0..3 {
+                timed.batch();
+            }
+            timed.times = (BATCH / timed.best).clamp(1.0, 10_000.0) as u32;
+            timed.best = f64::MAX; // a batch of one is mostly the clock's own time
+        }
+        for _ in 0..rounds.max(1) {
+            for timed in &mut self.all {
+                timed.batch();
+            }
         }
     }
-    all.iter().map(|timed| timed.best).collect()
+
+    /// The best time of one run, in nanoseconds.
+    pub fn best(&self, entry: Entry) -> f64 {
+        self.all[entry.0].best
+    }
 }

@@ -1,146 +1,142 @@
-//! The times of a wall: its layout test and its calls, each by engine, simulator and floor, in turn within one race.
+//! What is entered into the race: calls by engine and simulator, the floor and its parts, setup.
 
 use crate::call::{Call, simulate};
-use crate::clock::{Timed, race};
+use crate::clock::{Entry, Race};
 use crate::undo::Undo;
 use crate::wall::{Memory, Wall};
 use crate::{agree, engine, floor};
 use simulator::{Answer, Control};
 use std::cell::RefCell;
 use std::hint::black_box;
+use std::rc::Rc;
 
 type Player = fn(&Call, &mut Memory, &Control, &mut [u8]) -> Answer;
 
-/// Nanoseconds.
-pub struct Layout {
-    pub engine: f64,
-    pub simulator: f64,
-    pub floor: f64,
-}
-
-/// Nanoseconds, without the time to put memory back.
-pub struct Times {
-    pub engine: f64,
-    pub simulator: f64,
-}
-
-pub struct Measured {
-    pub layout: Layout,
-    pub calls: Vec<Times>,
-}
-
-/// A wall and a place for output, lent to each of those that are timed in turn.
-struct Lent {
+/// A wall and a place for output, lent to those that are timed on it in turn.
+pub struct Lent {
     wall: Wall,
     output: [u8; 2560],
 }
 
-fn timed<'a>(player: Player, call: &'a Call, undo: &'a Undo, lent: &'a RefCell<Lent>) -> Timed<'a> {
-    Timed::new(move || {
-        let Lent { wall, output } = &mut *lent.borrow_mut();
-        black_box(player(black_box(call), &mut wall.memory, &wall.control, output));
+pub type Shared = Rc<RefCell<Lent>>;
+
+pub fn share(wall: &Wall) -> Shared {
+    Rc::new(RefCell::new(Lent { wall: wall.clone(), output: [0; 2560] }))
+}
+
+/// A call in the race, and putting memory back after it, where that is needed.
+#[derive(Clone, Copy)]
+pub struct Timing {
+    call: Entry,
+    back: Option<Entry>,
+}
+
+impl Timing {
+    /// The call's time, without the time to put memory back.
+    pub fn time(self, race: &Race) -> f64 {
+        race.best(self.call) - self.back.map_or(0.0, |back| race.best(back))
+    }
+}
+
+/// A call by engine and simulator.
+pub struct Both {
+    pub engine: Timing,
+    pub simulator: Timing,
+}
+
+fn undo_of(call: &Call, shared: &Shared) -> Undo {
+    let mut before = shared.borrow().wall.clone();
+    let mut after = before.clone();
+    simulate(call, &mut after.memory, &before.control, &mut [0; 2560]);
+    Undo::between(&mut before.memory, &mut after.memory)
+}
+
+fn add_call(
+    race: &mut Race,
+    player: Player,
+    call: &Rc<Call>,
+    undo: &Rc<Undo>,
+    shared: &Shared,
+) -> Entry {
+    let (call, undo, shared) = (Rc::clone(call), Rc::clone(undo), Rc::clone(shared));
+    race.add(move || {
+        let Lent { wall, output } = &mut *shared.borrow_mut();
+        black_box(player(black_box(&call), &mut wall.memory, &wall.control, output));
         undo.run(&mut wall.memory);
     })
 }
 
-fn timed_undo<'a>(undo: &'a Undo, lent: &'a RefCell<Lent>) -> Timed<'a> {
-    Timed::new(move || black_box(undo).run(&mut lent.borrow_mut().wall.memory))
+fn add_undo(race: &mut Race, undo: &Rc<Undo>, shared: &Shared) -> Option<Entry> {
+    let (undo, shared) = (Rc::clone(undo), Rc::clone(shared));
+    undo.is_needed()
+        .then(|| race.add(move || black_box(&undo).run(&mut shared.borrow_mut().wall.memory)))
 }
 
-fn timed_floor(lent: &RefCell<Lent>) -> Timed<'_> {
-    Timed::new(move || {
-        let Lent { wall, .. } = &*lent.borrow();
-        let Memory { library, log, sessions } = black_box(&*wall.memory);
-        black_box(floor::is_layout(library, log, sessions, &wall.control));
+/// A call that must be accepted, by engine and simulator.
+pub fn both(race: &mut Race, name: &str, call: &Rc<Call>, shared: &Shared) -> Both {
+    agree::on_call(name, call, &shared.borrow().wall);
+    let undo = Rc::new(undo_of(call, shared));
+    let back = add_undo(race, &undo, shared);
+    let mut timing = |player| Timing { call: add_call(race, player, call, &undo, shared), back };
+    Both { engine: timing(engine::play), simulator: timing(simulate) }
+}
+
+/// A call that must be accepted, by the engine alone.
+pub fn engine(race: &mut Race, name: &str, call: &Rc<Call>, shared: &Shared) -> Timing {
+    agree::on_call(name, call, &shared.borrow().wall);
+    let undo = Rc::new(undo_of(call, shared));
+    let back = add_undo(race, &undo, shared);
+    Timing { call: add_call(race, engine::play, call, &undo, shared), back }
+}
+
+/// The engine's layout test, also of memory that is not of the layout.
+pub fn layout(race: &mut Race, shared: &Shared) -> Timing {
+    let call = add_call(race, engine::play, &Rc::new(Call::Layout), &Rc::default(), shared);
+    Timing { call, back: None }
+}
+
+/// The floor's layout test, or a part of it.
+pub fn floor(race: &mut Race, test: fn(&Memory, &Control) -> bool, shared: &Shared) -> Entry {
+    let shared = Rc::clone(shared);
+    race.add(move || {
+        let Lent { wall, .. } = &*shared.borrow();
+        black_box(test(black_box(&wall.memory), &wall.control));
     })
 }
 
-fn undo_of(call: &Call, wall: &Wall) -> Undo {
-    let mut after = wall.clone();
-    simulate(call, &mut after.memory, &wall.control, &mut [0; 2560]);
-    Undo::between(&mut wall.memory.clone(), &mut after.memory)
+pub fn whole_floor(memory: &Memory, control: &Control) -> bool {
+    floor::is_layout(&memory.library, &memory.log, &memory.sessions, control)
 }
 
-/// Times the layout test and calls on a wall. Memory is put back after each call; the time of that is taken apart, in the
-/// same race, and subtracted.
-pub fn wall(wall: &Wall, calls: &[(&str, &Call)], rounds: u32) -> Measured {
-    let undos: Vec<Undo> = calls.iter().map(|(_, call)| undo_of(call, wall)).collect();
-    for (name, call) in calls {
-        agree::on_call(name, call, wall);
-    }
-    let lent = RefCell::new(Lent { wall: wall.clone(), output: [0; 2560] });
-    let nothing = Undo::default();
-    let mut all = vec![
-        timed(engine::play, &Call::Layout, &nothing, &lent),
-        timed(simulate, &Call::Layout, &nothing, &lent),
-        timed_floor(&lent),
-    ];
-    for ((_, call), undo) in calls.iter().zip(&undos) {
-        all.push(timed(engine::play, call, undo, &lent));
-        all.push(timed(simulate, call, undo, &lent));
-        all.push(timed_undo(undo, &lent));
-    }
-    let best = race(all, rounds);
-    let times = best[3..].chunks_exact(3).zip(&undos).map(|(best, undo)| {
-        let back = if undo.is_needed() { best[2] } else { 0.0 };
-        Times { engine: best[0] - back, simulator: best[1] - back }
-    });
-    let layout = Layout { engine: best[0], simulator: best[1], floor: best[2] };
-    Measured { layout, calls: times.collect() }
+/// The layout test by engine, simulator and floor.
+pub struct Layout {
+    pub both: Both,
+    pub floor: Entry,
 }
 
-/// The engine's setup, the simulator's, and clearing the same memory by memset.
-pub fn setup(wall: &Wall, rounds: u32) -> (Times, f64) {
-    let call = Call::Setup { studios: 4, places: [1, 1, 2, 2, 3, 3, 4, 4, 0, 0, 0, 0, 0, 0, 0, 0] };
+impl Layout {
+    pub fn enter(race: &mut Race, shared: &Shared) -> Layout {
+        let both = both(race, "layout", &Rc::new(Call::Layout), shared);
+        Layout { both, floor: floor(race, whole_floor, shared) }
+    }
+}
+
+/// Setup, and clearing the same memory by memset. Nothing is put back.
+pub fn setup(race: &mut Race, wall: &Wall) -> (Both, Entry) {
+    let shared = share(wall);
+    let places = [1, 1, 2, 2, 3, 3, 4, 4, 0, 0, 0, 0, 0, 0, 0, 0];
+    let call = Rc::new(Call::Setup { studios: 4, places });
     agree::on_call("setup", &call, wall);
-    let lent = RefCell::new(Lent { wall: wall.clone(), output: [0; 2560] });
-    let nothing = Undo::default();
-    let clear = Timed::new(|| {
-        let mut lent = lent.borrow_mut();
+    let nothing = Rc::default();
+    let mut timing =
+        |player| Timing { call: add_call(race, player, &call, &nothing, &shared), back: None };
+    let both = Both { engine: timing(engine::play), simulator: timing(simulate) };
+    let clear = race.add(move || {
+        let mut lent = shared.borrow_mut();
         let Memory { library, log, sessions } = black_box(&mut *lent.wall.memory);
         library.fill(0);
         log.fill(0);
         sessions.fill(0);
     });
-    let all = vec![
-        timed(engine::play, &call, &nothing, &lent),
-        timed(simulate, &call, &nothing, &lent),
-        clear,
-    ];
-    let best = race(all, rounds);
-    (Times { engine: best[0], simulator: best[1] }, best[2])
-}
-
-/// The engine's time on each of several walls or controls.
-pub fn engine_on(walls: &[Wall], call: &Call, rounds: u32) -> Vec<f64> {
-    let undos: Vec<Undo> = walls.iter().map(|wall| undo_of(call, wall)).collect();
-    let lent: Vec<_> = walls
-        .iter()
-        .map(|wall| RefCell::new(Lent { wall: wall.clone(), output: [0; 2560] }))
-        .collect();
-    let mut all = Vec::new();
-    for (undo, lent) in undos.iter().zip(&lent) {
-        all.push(timed(engine::play, call, undo, lent));
-        all.push(timed_undo(undo, lent));
-    }
-    let best = race(all, rounds);
-    let times = best.chunks_exact(2).zip(&undos);
-    times.map(|(best, undo)| if undo.is_needed() { best[0] - best[1] } else { best[0] }).collect()
-}
-
-/// The floor's parts on a wall: library, log, sessions.
-pub fn floor_parts(wall: &Wall, rounds: u32) -> Vec<f64> {
-    let Wall { memory, control } = wall;
-    let all = vec![
-        Timed::new(|| {
-            black_box(floor::is_library(black_box(&memory.library), control.studios));
-        }),
-        Timed::new(|| {
-            black_box(floor::is_log(black_box(&memory.log), control));
-        }),
-        Timed::new(|| {
-            black_box(floor::are_sessions(black_box(&memory.sessions), control));
-        }),
-    ];
-    race(all, rounds)
+    (both, clear)
 }

@@ -3,12 +3,13 @@
 use crate::call::{self, Call};
 use crate::wall::{self, Wall};
 use simulator::UNIT;
+use std::rc::Rc;
 
 pub struct State {
     pub name: &'static str,
     pub what: &'static str,
     pub wall: Wall,
-    pub calls: Vec<(&'static str, Kind, Call)>,
+    pub calls: Vec<(&'static str, Kind, Rc<Call>)>,
 }
 
 /// Which bar a call is held to.
@@ -27,7 +28,11 @@ fn operations(operation: impl Fn(usize) -> [u8; UNIT]) -> Vec<u8> {
     (0..8).flat_map(|i| operation(i * 29 % 128 + 1)).collect()
 }
 
-fn calls(letters: &[u8], operations: Vec<u8>, is_empty: bool) -> Vec<(&'static str, Kind, Call)> {
+fn calls(
+    letters: &[u8],
+    operations: Vec<u8>,
+    is_empty: bool,
+) -> Vec<(&'static str, Kind, Rc<Call>)> {
     let session = wall::READER;
     let one = Call::Commit { session, operations: operations[..UNIT].to_vec() };
     let eight = Call::Commit { session, operations };
@@ -50,7 +55,7 @@ fn calls(letters: &[u8], operations: Vec<u8>, is_empty: bool) -> Vec<(&'static s
             ("collect, waits", Kind::Other, Call::Collect { session: wall::WAITING_COLLECTOR }),
         ]);
     }
-    calls
+    calls.into_iter().map(|(name, kind, call)| (name, kind, Rc::new(call))).collect()
 }
 
 pub fn empty() -> State {
