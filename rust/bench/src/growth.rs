@@ -1,0 +1,51 @@
+//! How the cost of a call grows: with the transactions to walk along, and with the cart numbers asked.
+
+use crate::call::{self, Call};
+use crate::clock::Race;
+use crate::measure::{self, Timing};
+use crate::wall::{self, Wall};
+use std::rc::Rc;
+
+/// The engine's call and its layout test on the same memory, by how many there are of what grows.
+pub struct Point {
+    pub at: u32,
+    pub layout: Timing,
+    pub call: Timing,
+}
+
+fn point(race: &mut Race, at: u32, wall: &Wall, call: Call) -> Point {
+    let shared = measure::share(wall);
+    let layout = measure::layout(race, &shared);
+    Point { at, layout, call: measure::engine(race, "growth", &Rc::new(call), &shared) }
+}
+
+/// Refresh of one operation by how many transactions the studio has applied: the walk's length. Memory is the same.
+pub fn refresh(race: &mut Race, wall: &Wall) -> Vec<Point> {
+    let mut at = |applied: u32| {
+        let mut behind = wall.clone();
+        behind.control.applied[0] = applied;
+        behind.control.sent[0] = applied + 1;
+        point(race, applied, &behind, Call::Refresh { studio: wall::REFRESHED })
+    };
+    [0, 63, 126, 252, 503].map(&mut at).into()
+}
+
+/// Commit of one operation by how many commits there are, in a log of 504 records.
+pub fn commit(race: &mut Race) -> Vec<Point> {
+    let mut at = |each: usize| {
+        let wall = Wall::full(504, each);
+        let operations = call::retitle(1, &call::title(1, 64)).to_vec();
+        let commits = wall.control.commits;
+        point(race, commits, &wall, Call::Commit { session: wall::READER, operations })
+    };
+    [8, 4, 2, 1].map(&mut at).into()
+}
+
+/// Read by how many numbers are asked.
+pub fn numbers(race: &mut Race, wall: &Wall) -> Vec<Point> {
+    let mut at = |count: u32| {
+        let request = call::by_numbers(count as usize);
+        point(race, count, wall, Call::Read { session: wall::READER, request })
+    };
+    [1, 2, 4, 8, 16, 32].map(&mut at).into()
+}

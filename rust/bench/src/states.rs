@@ -1,0 +1,92 @@
+//! The states that are measured, each with the calls to time on it.
+
+use crate::call::{self, Call};
+use crate::wall::{self, Wall};
+use simulator::UNIT;
+use std::rc::Rc;
+
+pub struct State {
+    pub name: &'static str,
+    pub what: &'static str,
+    pub wall: Wall,
+    pub calls: Vec<(&'static str, Kind, Rc<Call>)>,
+}
+
+/// Which bar a call is held to.
+#[derive(Clone, Copy, PartialEq, Eq)]
+pub enum Kind {
+    /// Commit and refresh.
+    Write,
+    /// Reads and collects by title.
+    Title,
+    /// Every other call that begins with the layout test.
+    Other,
+}
+
+/// One operation on each of the carts that the first calls of `Wall::typical` make.
+fn operations(operation: impl Fn(usize) -> [u8; UNIT]) -> Vec<u8> {
+    (0..8).flat_map(|i| operation(i * 29 % 128 + 1)).collect()
+}
+
+fn calls(
+    letters: &[u8],
+    operations: Vec<u8>,
+    is_empty: bool,
+) -> Vec<(&'static str, Kind, Rc<Call>)> {
+    let session = wall::READER;
+    let one = Call::Commit { session, operations: operations[..UNIT].to_vec() };
+    let eight = Call::Commit { session, operations };
+    let read = |request| Call::Read { session, request };
+    let mut calls = vec![
+        ("commit, 1 operation", Kind::Write, one),
+        ("commit, 8 operations", Kind::Write, eight),
+        ("read, 1 number", Kind::Other, read(call::by_numbers(1))),
+        ("read, 32 numbers", Kind::Other, read(call::by_numbers(32))),
+        ("read, title", Kind::Title, read(call::by_title(letters))),
+        ("collect, 32 numbers", Kind::Other, Call::Collect { session: wall::NUMBERS_COLLECTOR }),
+        ("collect, title", Kind::Title, Call::Collect { session: wall::TITLE_COLLECTOR }),
+    ];
+    if !is_empty {
+        let request = call::by_numbers(32);
+        calls.extend([
+            ("send", Kind::Other, Call::Send { studio: wall::SENT }),
+            ("refresh", Kind::Write, Call::Refresh { studio: wall::REFRESHED }),
+            ("read, waits", Kind::Other, Call::Read { session: wall::WAITING_READER, request }),
+            ("collect, waits", Kind::Other, Call::Collect { session: wall::WAITING_COLLECTOR }),
+        ]);
+    }
+    calls.into_iter().map(|(name, kind, call)| (name, kind, Rc::new(call))).collect()
+}
+
+pub fn empty() -> State {
+    let letters = call::title(7, 20);
+    let make = |cart| call::new(cart, &call::title(cart, 20));
+    State {
+        name: "empty",
+        what: "2 studios, no cart, no commit (nothing to send, refresh or wait for)",
+        wall: Wall::empty(),
+        calls: calls(&letters, operations(make), true),
+    }
+}
+
+pub fn typical() -> State {
+    let letters = call::title(30, 12 + 30 * 5 % 29);
+    let retitle = |cart| call::retitle(cart, &call::title(cart, 20));
+    State {
+        name: "typical",
+        what: "2 studios, 40 carts, 60 commits of 1 or 2 operations",
+        wall: Wall::typical(),
+        calls: calls(&letters, operations(retitle), false),
+    }
+}
+
+/// 504 records, so that commits are accepted, one to a transaction: the longest walk.
+pub fn full() -> State {
+    let retitle = |cart| call::retitle(cart, &call::title(cart, 64));
+    State {
+        name: "full",
+        what: "4 studios, 5 x 128 held carts, titles of 64, 504 commits of 1 operation, 16 sessions",
+        wall: Wall::full(504, 1),
+        calls: calls(&call::title(7, 64), operations(retitle), false),
+    }
+}

@@ -1,0 +1,136 @@
+//! Lent memory in the states that are measured, made by calls of the simulator.
+
+use crate::call::{self, Call};
+use simulator::{Answer, CARTS, Control, LIBRARY, LOG, RECORDS, REFUSED, SESSION_MEMORY, UNIT};
+
+/// The three memories, each at the start of a cache line.
+#[repr(C, align(64))]
+#[derive(Clone)]
+pub struct Memory {
+    pub library: [u8; LIBRARY],
+    pub log: [u8; LOG],
+    pub sessions: [u8; SESSION_MEMORY],
+}
+
+#[derive(Clone)]
+pub struct Wall {
+    pub memory: Box<Memory>,
+    pub control: Control,
+}
+
+/// Sessions by what they are measured for. All sit in studio 1, but for the two that wait, in studio 2.
+pub const READER: u32 = 1;
+pub const NUMBERS_COLLECTOR: u32 = 2;
+pub const TITLE_COLLECTOR: u32 = 3;
+pub const WAITING_READER: u32 = 4;
+pub const WAITING_COLLECTOR: u32 = 5;
+const EDITOR: u32 = 6;
+
+/// Studio 1 has one transaction sent and not applied; studio 2 has one not sent.
+pub const REFRESHED: u32 = 1;
+pub const SENT: u32 = 2;
+
+impl Wall {
+    fn fresh(studios: u32, places: [u8; 16]) -> Wall {
+        let memory = Memory { library: [0; LIBRARY], log: [0; LOG], sessions: [0; SESSION_MEMORY] };
+        let mut wall = Wall { memory: Box::new(memory), control: Control::default() };
+        wall.accept(&Call::Setup { studios, places });
+        wall
+    }
+
+    /// Plays a call that must be accepted.
+    fn accept(&mut self, call: &Call) {
+        let Answer { kind, value, control, .. } =
+            call::simulate(call, &mut self.memory, &self.control, &mut [0; 2560]);
+        assert_ne!(kind, REFUSED, "refused: {value}");
+        self.control = control;
+    }
+
+    fn commit(&mut self, operations: &[[u8; UNIT]]) {
+        self.accept(&Call::Commit { session: EDITOR, operations: operations.concat() });
+    }
+
+    /// Sends and applies what is committed, the last transaction apart, which is only sent, and to studio 1 only.
+    fn catch_up(&mut self) {
+        let last = self.control.commits;
+        for n in 1..last {
+            for studio in 1..=self.control.studios {
+                self.accept(&Call::Send { studio });
+                self.accept(&Call::Refresh { studio });
+            }
+            debug_assert_eq!(self.control.applied[0], n);
+        }
+        self.accept(&Call::Send { studio: REFRESHED });
+    }
+
+    /// A session's number, and what it has waiting.
+    fn put_session(&mut self, session: u32, number: u32, waiting: Option<[u8; UNIT]>) {
+        let start = UNIT * (session as usize - 1);
+        let unit = &mut self.memory.sessions[start..start + UNIT];
+        unit.copy_from_slice(&waiting.unwrap_or([0; UNIT]));
+        unit[2..4].copy_from_slice(&(number as u16).to_le_bytes());
+    }
+
+    fn put_sessions(&mut self, last: u32, letters: &[u8]) {
+        let commits = self.control.commits;
+        self.put_session(NUMBERS_COLLECTOR, 0, Some(call::by_numbers(32)));
+        self.put_session(TITLE_COLLECTOR, 0, Some(call::by_title(letters)));
+        self.put_session(WAITING_READER, commits, None);
+        self.put_session(WAITING_COLLECTOR, commits, Some(call::by_numbers(32)));
+        for session in EDITOR + 1..=last {
+            let by_numbers = session % 2 == 0;
+            let waiting = if by_numbers { call::by_numbers(32) } else { call::by_title(letters) };
+            self.put_session(session, commits, Some(waiting));
+        }
+        let Wall { memory, control } = &*self;
+        assert!(simulator::of_layout(&memory.library, &memory.log, &memory.sessions, control));
+    }
+
+    /// A fresh system of two studios and six sessions.
+    pub fn empty() -> Wall {
+        let mut wall = Wall::fresh(2, [1, 1, 1, 2, 2, 1, 0, 0, 0, 0, 0, 0, 0, 0, 0, 0]);
+        wall.put_session(NUMBERS_COLLECTOR, 0, Some(call::by_numbers(32)));
+        wall.put_session(TITLE_COLLECTOR, 0, Some(call::by_title(&call::title(7, 20))));
+        wall
+    }
+
+    /// Two studios, six sessions, 40 carts with titles of 12 to 40 letters, 60 commits of 1 or 2 operations.
+    pub fn typical() -> Wall {
+        let mut wall = Wall::fresh(2, [1, 1, 1, 2, 2, 1, 0, 0, 0, 0, 0, 0, 0, 0, 0, 0]);
+        let place = |i: usize| i * 29 % CARTS + 1;
+        let letters = |cart: usize| call::title(cart, 12 + cart * 5 % 29);
+        for i in 0..44 {
+            wall.commit(&[call::new(place(i), &letters(place(i)))]);
+        }
+        for i in 0..4 {
+            wall.commit(&[call::withdraw(place(40 + i))]);
+        }
+        for i in 0..12 {
+            let retitled = call::retitle(place(i), &letters(place(i)));
+            wall.commit(&[call::recut(place(i), 900 + i as u32), retitled]);
+        }
+        wall.catch_up();
+        wall.put_sessions(EDITOR, &letters(place(7)));
+        wall
+    }
+
+    /// Four studios, sixteen sessions, five copies of 128 held carts with titles of 64 letters, and a log of so many
+    /// records in transactions of so many operations.
+    pub fn full(records: usize, operations: usize) -> Wall {
+        assert!(records <= RECORDS && records.is_multiple_of(operations));
+        let mut wall = Wall::fresh(4, [1, 1, 1, 2, 2, 1, 3, 4, 3, 4, 3, 4, 3, 4, 3, 4]);
+        let all: Vec<[u8; UNIT]> = (0..records)
+            .map(|i| {
+                let cart = i % CARTS + 1;
+                let make = if i < CARTS { call::new } else { call::retitle };
+                make(cart, &call::title(cart, 64))
+            })
+            .collect();
+        for transaction in all.chunks(operations) {
+            wall.commit(transaction);
+        }
+        wall.catch_up();
+        wall.put_sessions(16, &call::title(7, 64));
+        wall
+    }
+}
