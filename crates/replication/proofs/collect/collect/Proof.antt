@@ -1,5 +1,6 @@
 use mathlib.Core.Path.{refl}
 use Prim.Native.Nat.{_≤_, _<_}
+use native.Mathlib.Omega.{arith}
 use lib.ListN.{length}
 use Rattle.carts.specs.Bytes.{zeros}
 use Rattle.replication.specs.Memory.{memory, sessionAt}
@@ -74,7 +75,8 @@ answer-requires : tie.Need-answer-requires
 answer-requires c κs = let r = c .before in
     let a = r .before .before .before .before in
     let x = asked-same _ _ _ (r .session-at .ensures .0) (asks (a .before .before)) in
-    ((who (a .before .before) .library, (few a .0, x .size)), (x .fields, x .fits))
+    let l = few a .0 in
+    ((who (a .before .before) .library, (omega arith, x .size)), (x .fields, x .fits))
 
 -- src/collect.rt:79:9
 number-after-requires : tie.Need-number-after-requires
@@ -86,7 +88,9 @@ slice-aggregate-store c = search needs
 
 -- src/collect.rt:80:5
 store-requires : tie.Need-store-requires
-store-requires c κs = let n = c .before .before in (who (n .before .before .before .before .before .before .before .before .before .before .before) .place, (refl, n .number-after .ensures .1))
+store-requires c κs = let n = c .before .before in
+    let l = n .number-after .ensures .1 in
+    (who (n .before .before .before .before .before .before .before .before .before .before .before) .place, (refl, omega arith))
 
 -- src/collect.rt:50:1
 same-length-3 : tie.Need-same-length-3
