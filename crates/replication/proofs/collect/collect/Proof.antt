@@ -5,7 +5,7 @@ use lib.ListN.{length}
 use Rattle.carts.specs.Bytes.{zeros}
 use Rattle.replication.specs.Memory.{memory, sessionAt}
 use Rattle.replication.specs.Rows.{collectRows}
-use Rattle.replication.proofs.ReadLaws.{Caller, Asked, asked-same, due-known, collect-refused, collect-caller, collect-asks, collect-waits, collect-answers}
+use Rattle.replication.proofs.ReadLaws.{Caller, Asked, asked-same, call-caller, due-known, collect-refused, collect-asks, collect-waits, collect-answers}
 use borrow.Author.Needs.{needs}
 use Rattle.replication.proofs.collect.collect.Statement.{statement}
 use Rattle.replication.proofs.collect.collect.Tie as tie
@@ -38,7 +38,7 @@ who : (c : tie.Else1) → let g = c .before .before .before .before .before .bef
 unfolding collectRows
 who c = let d = c .before in
     let g = d .before .before .before .before .before .before .args in
-    collect-caller (g .control) (memory (g .library .now) (g .log .now) (g .sessions .now)) (g .session) (g .output .now) _ (d .decide-collect .ensures) (c .if1 .left)
+    call-caller (g .control) (memory (g .library .now) (g .log .now) (g .sessions .now)) (g .session) _ _ (d .decide-collect .ensures) (c .if1 .left)
 
 asks : (c : tie.Else1) → let g = c .before .before .before .before .before .before .before .args in Asked (sessionAt (g .sessions .now) (g .session)) (length (g .output .now))
 unfolding collectRows

@@ -3,7 +3,7 @@ use native.Mathlib.Omega.{arith}
 use lib.ListN.{length}
 use Rattle.replication.specs.Memory.{memory}
 use Rattle.replication.specs.Rows.{readRows}
-use Rattle.replication.proofs.ReadLaws.{Caller, Asked, due-known, read-refused, read-caller, read-asks, read-waits, read-answers}
+use Rattle.replication.proofs.ReadLaws.{Caller, Asked, call-caller, due-known, read-refused, read-asks, read-waits, read-answers}
 use borrow.Author.Needs.{needs}
 use Rattle.replication.proofs.read.read.Statement.{statement}
 use Rattle.replication.proofs.read.read.Tie as tie
@@ -36,7 +36,7 @@ who : (c : tie.Else1) → let g = c .before .before .before .before .before .bef
 unfolding readRows
 who c = let d = c .before in
     let g = d .before .before .before .before .before .before .before .args in
-    read-caller (g .control) (memory (g .library .now) (g .log .now) (g .sessions .now)) (g .session) (g .request .now) (g .output .now) _ (d .decide-read .ensures) (c .if1 .left)
+    call-caller (g .control) (memory (g .library .now) (g .log .now) (g .sessions .now)) (g .session) _ _ (d .decide-read .ensures) (c .if1 .left)
 
 asks : (c : tie.Else1) → let g = c .before .before .before .before .before .before .before .before .args in Asked (g .request .now) (length (g .output .now))
 unfolding readRows
