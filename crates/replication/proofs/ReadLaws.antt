@@ -110,6 +110,12 @@ caller c m s f e =
     let commits : c .commits ≤ 512 = few-commits c m f in
     record { library = f .library .size; place = session-placed c m s (studioOf c s) f e; studio = (low, high); state = omega arith }
 
+-- a call by a session that no row stops
+pub call-caller : (c : Control) (m : Memory) (s : ℕ) (rest : List Row) (v : ℕ) → v ≡ stopped (CallRows c m (sessionRow s (studioOf c s)) rest (session-numbered s (studioOf c s))) → v ≡ 0 → Caller c m s
+call-caller c m s rest v e z =
+    let k = session-numbered s (studioOf c s) in
+    caller c m s (accepted-formed c m _ rest k (sym e ∙ z)) (accepted-who c m _ rest k (sym e ∙ z))
+
 -- a read of its form, with room for what it asks
 pub record Asked (x : List ℕ) (room : ℕ) : Type 0 where
   pub size : length x ≡ 80
@@ -213,9 +219,6 @@ module _ (c : Control) (m : Memory) (s : ℕ) (request out : List ℕ) (v : ℕ)
   read-refused n = rw e (unless-stopped _ _ _ (λ z. n (e ∙ z)))
 
   module _ (z : v ≡ 0) where
-    pub read-caller : Caller c m s
-    read-caller = caller c m s (accepted-formed c m _ _ (session-numbered s (studioOf c s)) (sym e ∙ z)) (accepted-who c m _ _ (session-numbered s (studioOf c s)) (sym e ∙ z))
-
     pub read-asks : Asked request (length out)
     read-asks = read-asked _ request (length out) (accepted-rest c m _ _ (session-numbered s (studioOf c s)) (sym e ∙ z))
 
@@ -242,9 +245,6 @@ module _ (c : Control) (m : Memory) (s : ℕ) (out : List ℕ) (v : ℕ)
   collect-refused n = rw e (unless-stopped _ _ _ (λ z. n (e ∙ z)))
 
   module _ (z : v ≡ 0) where
-    pub collect-caller : Caller c m s
-    collect-caller = caller c m s (accepted-formed c m _ _ (session-numbered s (studioOf c s)) (sym e ∙ z)) (accepted-who c m _ _ (session-numbered s (studioOf c s)) (sym e ∙ z))
-
     pub collect-asks : Asked (sessionAt (m .sessions) s) (length out)
     collect-asks =
         let k = session-numbered s (studioOf c s) in

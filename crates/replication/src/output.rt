@@ -25,10 +25,10 @@ fn show_cart(copy: &[u8], c: u32, place: &mut [u8]) -> u32
 {
     let cart = cart::cart_at(copy, c);
     bytes::copy_all(place, cart);
-    if cart::is_held(cart) {
-        return 1;
+    if !cart::is_held(cart) {
+        return 0;
     }
-    0
+    1
 }
 
 // By numbers: one cart for each number asked; found counts the places that are held.

@@ -1,10 +1,11 @@
 use mathlib.Core.Path.{refl}
 use Prim.Native.Nat.{_≤_, _<_}
+use native.Mathlib.Omega.{arith}
 use lib.ListN.{length}
 use Rattle.carts.specs.Bytes.{zeros}
 use Rattle.replication.specs.Memory.{memory, sessionAt}
 use Rattle.replication.specs.Rows.{collectRows}
-use Rattle.replication.proofs.ReadLaws.{Caller, Asked, asked-same, due-known, collect-refused, collect-caller, collect-asks, collect-waits, collect-answers}
+use Rattle.replication.proofs.ReadLaws.{Caller, Asked, asked-same, call-caller, due-known, collect-refused, collect-asks, collect-waits, collect-answers}
 use borrow.Author.Needs.{needs}
 use Rattle.replication.proofs.collect.collect.Statement.{statement}
 use Rattle.replication.proofs.collect.collect.Tie as tie
@@ -37,7 +38,7 @@ who : (c : tie.Else1) → let g = c .before .before .before .before .before .bef
 unfolding collectRows
 who c = let d = c .before in
     let g = d .before .before .before .before .before .before .args in
-    collect-caller (g .control) (memory (g .library .now) (g .log .now) (g .sessions .now)) (g .session) (g .output .now) _ (d .decide-collect .ensures) (c .if1 .left)
+    call-caller (g .control) (memory (g .library .now) (g .log .now) (g .sessions .now)) (g .session) _ _ (d .decide-collect .ensures) (c .if1 .left)
 
 asks : (c : tie.Else1) → let g = c .before .before .before .before .before .before .before .args in Asked (sessionAt (g .sessions .now) (g .session)) (length (g .output .now))
 unfolding collectRows
@@ -74,7 +75,8 @@ answer-requires : tie.Need-answer-requires
 answer-requires c κs = let r = c .before in
     let a = r .before .before .before .before in
     let x = asked-same _ _ _ (r .session-at .ensures .0) (asks (a .before .before)) in
-    ((who (a .before .before) .library, (few a .0, x .size)), (x .fields, x .fits))
+    let l = few a .0 in
+    ((who (a .before .before) .library, (omega arith, x .size)), (x .fields, x .fits))
 
 -- src/collect.rt:79:9
 number-after-requires : tie.Need-number-after-requires
@@ -86,7 +88,9 @@ slice-aggregate-store c = search needs
 
 -- src/collect.rt:80:5
 store-requires : tie.Need-store-requires
-store-requires c κs = let n = c .before .before in (who (n .before .before .before .before .before .before .before .before .before .before .before) .place, (refl, n .number-after .ensures .1))
+store-requires c κs = let n = c .before .before in
+    let l = n .number-after .ensures .1 in
+    (who (n .before .before .before .before .before .before .before .before .before .before .before) .place, (refl, omega arith))
 
 -- src/collect.rt:50:1
 same-length-3 : tie.Need-same-length-3

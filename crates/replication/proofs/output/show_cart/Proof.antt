@@ -1,6 +1,7 @@
 use mathlib.Core.Path.{_≡_, sym, ap, _∙_}
 use mathlib.Core.Bool.{Bool, cond}
 use Prim.Native.Nat.{ℕ}
+use borrow.Author.Tests.{not-true, not-false}
 use Rattle.carts.specs.Cart.{cartAt, held}
 use borrow.Author.Needs.{needs}
 use Rattle.replication.proofs.output.show_cart.Statement.{statement}
@@ -33,7 +34,7 @@ same-length c = search needs
 -- src/output.rt:29:9
 returns : tie.Need-returns
 returns c = let k = c .before .before .before .before in
-    (sym (ap (λ (b : Bool). cond {A = ℕ} b 1 0) (sym (held-is (c .before)) ∙ c .if1 .taken)), k .copy-all .ensures ∙ k .before .before .cart-at .ensures .0)
+    (sym (ap (λ (b : Bool). cond {A = ℕ} b 1 0) (sym (held-is (c .before)) ∙ not-true (c .before .is-held .result) (c .if1 .taken))), k .copy-all .ensures ∙ k .before .before .cart-at .ensures .0)
 
 -- src/output.rt:21:1
 same-length-2 : tie.Need-same-length-2
@@ -42,7 +43,7 @@ same-length-2 c = search needs
 -- src/output.rt:21:1
 returns-2 : tie.Need-returns-2
 returns-2 c = let k = c .before .before .before .before in
-    (sym (ap (λ (b : Bool). cond {A = ℕ} b 1 0) (sym (held-is (c .before)) ∙ c .if1 .left)), k .copy-all .ensures ∙ k .before .before .cart-at .ensures .0)
+    (sym (ap (λ (b : Bool). cond {A = ℕ} b 1 0) (sym (held-is (c .before)) ∙ not-false (c .before .is-held .result) (c .if1 .left))), k .copy-all .ensures ∙ k .before .before .cart-at .ensures .0)
 
 pub show-cart-spec : {M : Type 1} → statement M
 show-cart-spec =

@@ -1,8 +1,9 @@
 use Prim.Native.Nat.{_≤_, _<_}
+use native.Mathlib.Omega.{arith}
 use lib.ListN.{length}
 use Rattle.replication.specs.Memory.{memory}
 use Rattle.replication.specs.Rows.{readRows}
-use Rattle.replication.proofs.ReadLaws.{Caller, Asked, due-known, read-refused, read-caller, read-asks, read-waits, read-answers}
+use Rattle.replication.proofs.ReadLaws.{Caller, Asked, call-caller, due-known, read-refused, read-asks, read-waits, read-answers}
 use borrow.Author.Needs.{needs}
 use Rattle.replication.proofs.read.read.Statement.{statement}
 use Rattle.replication.proofs.read.read.Tie as tie
@@ -35,7 +36,7 @@ who : (c : tie.Else1) → let g = c .before .before .before .before .before .bef
 unfolding readRows
 who c = let d = c .before in
     let g = d .before .before .before .before .before .before .before .args in
-    read-caller (g .control) (memory (g .library .now) (g .log .now) (g .sessions .now)) (g .session) (g .request .now) (g .output .now) _ (d .decide-read .ensures) (c .if1 .left)
+    call-caller (g .control) (memory (g .library .now) (g .log .now) (g .sessions .now)) (g .session) _ _ (d .decide-read .ensures) (c .if1 .left)
 
 asks : (c : tie.Else1) → let g = c .before .before .before .before .before .before .before .before .args in Asked (g .request .now) (length (g .output .now))
 unfolding readRows
@@ -52,7 +53,9 @@ few c = let g = c .before .before .before .before .before .before .before .befor
 
 -- src/read.rt:144:9
 store-requires : tie.Need-store-requires
-store-requires c κs = let a = c .before .before .before in (who (a .before .before) .place, (asks (a .before .before) .size, a .at .ensures .1))
+store-requires c κs = let a = c .before .before .before in
+    let l = a .at .ensures .1 in
+    (who (a .before .before) .place, (asks (a .before .before) .size, omega arith))
 
 -- src/read.rt:145:9
 same-length-2 : tie.Need-same-length-2
@@ -73,7 +76,8 @@ returns-2 c = let y = c .before .before in
 answer-requires : tie.Need-answer-requires
 answer-requires c κs = let a = c .before .before .before in
     let x = asks (a .before .before) in
-    ((who (a .before .before) .library, (few a .0, x .size)), (x .fields, x .fits))
+    let l = few a .0 in
+    ((who (a .before .before) .library, (omega arith, x .size)), (x .fields, x .fits))
 
 -- src/read.rt:151:9
 number-after-requires : tie.Need-number-after-requires
