@@ -1,4 +1,4 @@
-use mathlib.Core.Path.{_∙_}
+use mathlib.Core.Path.{_≡_, _∙_}
 use native.Mathlib.Omega.{arith}
 use Rattle.replication.proofs.AppendLaws.{last-walkable, append-first, append-later}
 use borrow.Author.Needs.{needs}
@@ -25,7 +25,11 @@ same-length c = search needs
 -- src/append.rt:82:9
 returns : tie.Need-returns
 returns c = let u = c .before .before in
-    u .write-all .ensures ∙ append-first _ _ _ (u .before .before .if1 .taken)
+    u .write-all .ensures ∙ append-first _ _ _ (omega (arith, u .before .before .if1 .taken))
+
+-- there is a transaction before
+later : (c : tie.Else1) → c .before .before .before .before .before .args .control .commits ≡ 0 → ⊥
+later c e = omega (arith, c .if1 .left)
 
 -- src/append.rt:84:32
 sub-walk : tie.Need-sub-walk
@@ -34,7 +38,7 @@ sub-walk c = search needs
 -- src/append.rt:84:9
 walk-requires : tie.Need-walk-requires
 walk-requires c κs = let s = c .before .before .before .before .before .before .before in
-    (s .pre .0 .0, last-walkable (s .args .control) _ (c .before .before .if1 .left) (s .pre .1) .0)
+    (s .pre .0 .0, last-walkable (s .args .control) _ (later (c .before .before)) (s .pre .1) .0)
 
 -- src/append.rt:85:5
 write-all-requires-2 : tie.Need-write-all-requires-2
@@ -45,7 +49,7 @@ put-requires : tie.Need-put-requires
 put-requires c κs = let w = c .before .before .before in
     let a = w .before .before in
     let s = a .before .before .before .before .before .before .before .before in
-    let k = last-walkable (s .args .control) _ (a .before .before .before .if1 .left) (s .pre .1) .1 in
+    let k = last-walkable (s .args .control) _ (later (a .before .before .before)) (s .pre .1) .1 in
     let e = a .walk .ensures in
     ((rw e (k .0), omega (arith, k .1, w .write-all2 .kept .0)), (omega arith, omega arith))
 
@@ -59,7 +63,7 @@ returns-2 c = let l = c .before .before in
     let w = l .before .before .before .before in
     let a = w .before .before in
     let s = a .before .before .before .before .before .before .before .before in
-    append-later (s .args .control) _ _ (a .before .before .before .if1 .left) (s .pre .0 .1 .0) _ (a .walk .ensures) _ (w .write-all2 .ensures) _ (l .put .ensures)
+    append-later (s .args .control) _ _ (later (a .before .before .before)) (s .pre .0 .1 .0) _ (a .walk .ensures) _ (w .write-all2 .ensures) _ (l .put .ensures)
 
 pub append-transaction-spec : {M : Type 1} → statement M
 append-transaction-spec =

@@ -72,7 +72,8 @@ put-requires : tie.Need-put-requires
 put-requires c κs = let n = c .before .before .before .before .before .before .before .before .before in
     let k = known (n .before) in
     let l = k .formed .sessions .size in
-    ((k .session .0, omega (arith, k .session .1)), (omega arith, next-small _ _ _ (n .committed .ensures) (k .few)))
+    let small = next-small _ _ _ (n .committed .ensures) (k .few) in
+    ((k .session .0, omega (arith, k .session .1)), (omega arith, omega (arith, k .few)))
 
 -- src/commit.rt:96:1
 same-length-4 : tie.Need-same-length-4
