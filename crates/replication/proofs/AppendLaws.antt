@@ -1,18 +1,18 @@
 -- Laws of a commit's records: one operation more written, and the link to the new transaction.
 use mathlib.Core.Path.{_≡_, refl, sym, ap, _∙_}
-use mathlib.Core.Bool.{Bool, true, false, cond, _&&_}
-use mathlib.Core.List.{List, [], _∷_}
+use mathlib.Core.Bool.{true}
+use mathlib.Core.List.{List}
 use Prim.Native.Nat.{ℕ, zero, suc, _+_, _-_, _*_, _/_, _≤_, _<_}
 use native.Mathlib.Omega.{arith}
 use native.Mathlib.Nat.{add-sub-cancel-left}
 use lib.ListN.{length, take, drop}
 use borrow.Author.Tests.{eq-eqb, ne-eqb}
-use Rattle.carts.specs.Bytes.{over, u16Bytes, parts, within}
+use Rattle.carts.specs.Bytes.{part, over, u16Bytes, parts, within}
 use Rattle.carts.specs.Operation.{operationsOf}
-use Rattle.carts.proofs.RecordLaws.{left-suc, parts-next, parts-end}
+use Rattle.carts.proofs.RecordLaws.{left-suc, parts-next}
 use Rattle.carts.proofs.EachLaws.{length-parts}
 use Rattle.carts.proofs.TestLaws.{and-left, and-right, within-low, within-high}
-use Rattle.replication.specs.Memory.{withRecord}
+use Rattle.replication.specs.Memory.{recordAt, withRecord}
 use Rattle.replication.specs.Log.{nextTransaction, walk, firstRecord, upFrom, front, writeAll, linked, freeRecords, appended}
 use Rattle.replication.specs.Values.{walkable}
 use Rattle.replication.specs.declared.control.Control.{Control}
@@ -37,8 +37,8 @@ module _ (f n i : ℕ) (s log : List ℕ) where
 
 -- operation i is written as record f + i, with the index `next`: the log is `new` then
 pub write-next : (f n i : ℕ) (s log : List ℕ) → i < n → (next : ℕ) → next ≡ front (upFrom (f + i + 1) (n - i - 1)) → (new : List ℕ)
-    → new ≡ withRecord log (f + i) (over (take (80 * i + 80 - 80 * i) (drop (80 * i) s)) 12 2 (u16Bytes next)) → ToWrite f n i s log ≡ ToWrite f n (i + 1) s new
-unfolding writeAll upFrom
+    → new ≡ over log (80 * (f + i - 1)) 80 (over (take (80 * i + 80 - 80 * i) (drop (80 * i) s)) 12 2 (u16Bytes next)) → ToWrite f n i s log ≡ ToWrite f n (i + 1) s new
+unfolding writeAll upFrom withRecord
 write-next f n i s log h next q new w =
     let g : n - i - 1 ≡ n - (i + 1) = omega arith in
     let k : f + i + 1 ≡ f + (i + 1) = omega arith in
@@ -49,10 +49,9 @@ unfolding operationsOf
 length-operations s = length-parts 80 (length s / 80) s
 
 -- the last transaction before: the walk to it, and its record
-module _ (c : Control) (log : List ℕ) (h : c .commits ≡ 0 → ⊥) where
-  pub first-is : firstRecord c ≡ 1
-  unfolding firstRecord
-  first-is = rw (ne-eqb (c .commits) 0 h)
+first-is : (c : Control) → (c .commits ≡ 0 → ⊥) → firstRecord c ≡ 1
+unfolding firstRecord
+first-is c h = rw (ne-eqb (c .commits) 0 h)
 
 walkable-last : (n : ℕ) (log : List ℕ) (r : ℕ) → walkable (suc n) log r ≡ true → (walkable n log r ≡ true) × ((1 ≤ walk n log r) × (walk n log r ≤ 512))
 unfolding walkable walk
@@ -66,7 +65,7 @@ pub last-walkable : (c : Control) (log : List ℕ) → (c .commits ≡ 0 → ⊥
     → (walkable (c .commits - 1) log 1 ≡ true) × ((1 ≤ walk (c .commits - 1) log 1) × (walk (c .commits - 1) log 1 ≤ 512))
 last-walkable c log h w =
     let q : c .commits ≡ suc (c .commits - 1) = omega arith in
-    walkable-last (c .commits - 1) log 1 (sym (ap (λ (k : ℕ). walkable k log 1) q) ∙ rw (first-is c log h) at w)
+    walkable-last (c .commits - 1) log 1 (sym (ap (λ (k : ℕ). walkable k log 1) q) ∙ rw (first-is c h) at w)
 
 -- the whole log after a commit of the operations in s
 module _ (c : Control) (log s : List ℕ) where
@@ -74,7 +73,10 @@ module _ (c : Control) (log s : List ℕ) where
   unfolding appended freeRecords
   append-first e = rw (eq-eqb (c .commits) 0 e, length-operations s)
 
+  -- `written` is the log with the operations, `new` the log with the link too
   pub append-later : (c .commits ≡ 0 → ⊥) → 1 ≤ length s / 80 → (last : ℕ) → last ≡ walk (c .commits - 1) log 1
-      → linked (writeAll (upFrom (c .used + 1) (length s / 80)) (operationsOf s) log) last (c .used + 1) ≡ appended c log (operationsOf s)
-  unfolding appended freeRecords
-  append-later h l last e = rw (ne-eqb (c .commits) 0 h, length-operations s, first-is c log h, front-upFrom (c .used + 1) (length s / 80) l, e)
+      → (written : List ℕ) → written ≡ writeAll (upFrom (c .used + 1) (length s / 80)) (operationsOf s) log
+      → (new : List ℕ) → new ≡ over written (80 * (last - 1)) 80 (over (part written (80 * (last - 1)) 80) 14 2 (u16Bytes (c .used + 1))) → new ≡ appended c log (operationsOf s)
+  unfolding appended freeRecords linked withRecord recordAt
+  append-later h l last e written w new q =
+      q ∙ rw (ne-eqb (c .commits) 0 h, length-operations s, first-is c h, front-upFrom (c .used + 1) (length s / 80) l, ← e, ← w)

@@ -1,13 +1,13 @@
 -- Laws of commit: rows 4 to 8, what is known where no row stops it, and an accepted commit.
-use Prim.Native.Nat.{ℕ, _+_, _-_, _/_, _%_, _<_, _≤_}
+use Prim.Native.Nat.{ℕ, _+_, _-_, _*_, _/_, _%_, _<_, _≤_}
 use mathlib.Core.Path.{_≡_, refl, sym, ap, _∙_}
 use mathlib.Core.Bool.{Bool, true, false, cond, not}
 use mathlib.Core.List.{List, [], _∷_, _++_}
 use native.Mathlib.Omega.{arith}
 use lib.ListN.{length}
-use lib.Dec.{eqb, leb, ltb}
-use borrow.Author.Tests.{lt-ltb, le-ltb, ltb-false, leb-true}
-use Rattle.carts.specs.Bytes.{within, all, every, allZero, part}
+use lib.Dec.{eqb, ltb}
+use borrow.Author.Tests.{lt-ltb, le-ltb, ltb-false}
+use Rattle.carts.specs.Bytes.{part, over, u16Bytes, within, every, allZero}
 use Rattle.carts.specs.Operation.{operationFields, operationForm, operationsOf, meetsAll, actAll}
 use Rattle.carts.proofs.TestLaws.{all-at, every-at, at-every, within-low, within-high}
 use Rattle.replication.specs.Answer.{refused, done}
@@ -122,6 +122,11 @@ pub record Known (c : Control) (m : Memory) (s : ℕ) (bytes : List ℕ) : Type 
   pub few : c .commits ≤ 512
   pub walks : walkable (c .commits) (m .log) (firstRecord c) ≡ true
 
+-- the new count has two bytes
+pub next-small : (c : Control) (n : ℕ) (next : Control) → next ≡ committed c n → c .commits ≤ 512 → next .commits < 65536
+unfolding committed
+next-small c n next e h = rw e (omega arith)
+
 -- the whole call; v is the number that the rows give
 module _ (c : Control) (m : Memory) (s : ℕ) (bytes : List ℕ) (v : ℕ) (e : v ≡ CommitStops c m s bytes) where
   pub commit-refused : (v ≡ 0 → ⊥) → after (refused v) c m [] ≡ commit c m s bytes
@@ -145,11 +150,12 @@ module _ (c : Control) (m : Memory) (s : ℕ) (bytes : List ℕ) (v : ℕ) (e : 
         walks = whole-walkable c m f (c .commits) (omega arith);
       }
 
-  pub commit-accepted : v ≡ 0 → (next : Control) → next ≡ committed c (length bytes / 80) → (library log sessions : List ℕ)
-      → library ≡ withCopy (m .library) 0 (actAll (copyAt (m .library) 0) (operationsOf bytes)) → log ≡ appended c (m .log) (operationsOf bytes)
-      → sessions ≡ withSession (m .sessions) s (withSequence (c .commits + 1) (sessionAt (m .sessions) s))
-      → after (done (c .commits + 1)) next (memory library log sessions) [] ≡ commit c m s bytes
-  unfolding commit
-  commit-accepted z next q library log sessions l g t =
+  -- the head end's copy, the log and the sessions as the code leaves them
+  pub commit-accepted : v ≡ 0 → (next : Control) → next ≡ committed c (length bytes / 80) → (copy log sessions : List ℕ)
+      → copy ≡ actAll (part (m .library) 0 10240) (operationsOf bytes) → log ≡ appended c (m .log) (operationsOf bytes)
+      → sessions ≡ over (m .sessions) (80 * (s - 1)) 80 (over (part (m .sessions) (80 * (s - 1)) 80) 2 2 (u16Bytes (next .commits)))
+      → after (done (next .commits)) next (memory (over (m .library) 0 10240 copy) log sessions) [] ≡ commit c m s bytes
+  unfolding commit committed copyAt withCopy sessionAt withSession withSequence
+  commit-accepted z next q copy log sessions l g t =
       let k : next ≡ committed c (length (operationsOf bytes)) = q ∙ ap (committed c) (sym (length-operations bytes)) in
-      rw (k, l, g, t) (unless-accepted _ _ _ (sym e ∙ z))
+      rw (t, l, g, k) (unless-accepted _ _ _ (sym e ∙ z))

@@ -1,16 +1,14 @@
 // What a commit writes to the log: its operations in the records after the used ones, and the link to them.
+use crate::cell;
 use crate::control::Control;
 use crate::record::Record;
 use crate::walk;
-use carts::bytes;
 ghost use mathlib.Core.Path.{_≡_};
 ghost use mathlib.Core.Bool.{true};
-ghost use Prim.Native.Nat.{ℕ, _+_, _*_, _-_, _/_, _<_, _≤_};
+ghost use Prim.Native.Nat.{_+_, _*_, _-_, _/_, _<_, _≤_};
 ghost use lib.ListN.{length};
-ghost use Rattle.carts.specs.Bytes.{over, u16Bytes};
 ghost use Rattle.carts.specs.Operation.{operationsOf};
-ghost use Rattle.replication.specs.Memory.{withRecord};
-ghost use Rattle.replication.specs.Log.{upFrom, front, firstRecord, writeAll, linked, appended};
+ghost use Rattle.replication.specs.Log.{upFrom, front, firstRecord, writeAll, appended};
 ghost use Rattle.replication.specs.Values.{walkable};
 
 // The index of the operation after the one in record r, where so many are left; 0 for none.
@@ -24,27 +22,7 @@ fn next_operation(r: u32, left: usize) -> u32
     r + 1
 }
 
-// A record becomes the operation, with the index of the next one.
-fn store(dst: &mut [u8], op: &[u8], next: u32)
-    requires { ⌜ (length (now dst) ≡ 80) × ((length (now op) ≡ 80) × (next < 65536)) ⌝ }
-    ensures { λ _. ⌜ now (dst .exit) ≡ over (now (op .entry)) 12 2 (u16Bytes next) ⌝ }
-{
-    bytes::copy_all(dst, op);
-    bytes::put_u16(dst, 12, next);
-}
-
-// The operation is written to record r.
-fn write(log: &mut [u8], r: u32, op: &[u8], next: u32)
-    requires { ⌜ (length (now log) ≡ 40960) × ((1 ≤ r) × (r ≤ 512)) ⌝ }
-    requires { ⌜ (length (now op) ≡ 80) × (next < 65536) ⌝ }
-    ensures { λ _. ⌜ now (log .exit) ≡ withRecord (now (log .entry)) r (over (now (op .entry)) 12 2 (u16Bytes next)) ⌝ }
-{
-    let start = Record::SIZE * (r as usize - 1);
-    let end = start + Record::SIZE;
-    store(&mut log[start..end], op, next);
-}
-
-// Each operation is written to its record, from record `first` on.
+// Each operation is written to its record, from record `first` on, with the index of the next one.
 fn write_all(log: &mut [u8], first: u32, ops: &[u8])
     requires { ⌜ (length (now log) ≡ 40960) × ((1 ≤ first) × (first + length (now ops) / 80 ≤ 513)) ⌝ }
     ensures { λ _. ⌜ now (log .exit) ≡ writeAll (upFrom first (length (now (ops .entry)) / 80)) (operationsOf (now (ops .entry))) (now (log .entry)) ⌝ }
@@ -55,19 +33,9 @@ fn write_all(log: &mut [u8], first: u32, ops: &[u8])
         let start = Record::SIZE * i;
         let r = first + i as u32;
         let next = next_operation(r, count - i - 1);
-        write(log, r, &ops[start..start + Record::SIZE], next);
+        cell::fill(log, r, &ops[start..start + Record::SIZE], 12, next);
         i += 1;
     }
-}
-
-// The transaction at record r is linked to the next one, at record `first`.
-fn link(log: &mut [u8], r: u32, first: u32)
-    requires { ⌜ (length (now log) ≡ 40960) × (((1 ≤ r) × (r ≤ 512)) × (first < 65536)) ⌝ }
-    ensures { λ _. ⌜ now (log .exit) ≡ linked (now (log .entry)) r first ⌝ }
-{
-    let start = Record::SIZE * (r as usize - 1);
-    let end = start + Record::SIZE;
-    bytes::put_u16(&mut log[start..end], 14, first);
 }
 
 // The operations are appended as a transaction, and the last one before is linked to it.
@@ -83,5 +51,5 @@ pub fn append_transaction(control: Control, log: &mut [u8], ops: &[u8])
     }
     let last = walk::walk(log, control.commits - 1, 1);
     write_all(log, first, ops);
-    link(log, last, first);
+    cell::put(log, last, 14, first);
 }

@@ -2,22 +2,22 @@
 use crate::answer::CountAnswer;
 use crate::answer::CountResult;
 use crate::append;
+use crate::cell;
 use crate::control::Control;
 use crate::record::Record;
 use crate::rows;
 use crate::session::Session;
-use carts::bytes;
 use carts::cart::Cart;
 use carts::operation;
 ghost use mathlib.Core.Path.{_≡_};
 ghost use mathlib.Core.Bool.{not};
 ghost use mathlib.Core.List.{[], _∷_, _++_};
-ghost use Prim.Native.Nat.{ℕ, _+_, _*_, _-_, _<_, _≤_};
+ghost use Prim.Native.Nat.{_+_, _*_, _-_, _<_, _≤_};
 ghost use lib.ListN.{length};
 ghost use Rattle.carts.specs.Bytes.{every};
 ghost use Rattle.carts.specs.Operation.{operationForm, operationsOf, meetsAll};
 ghost use Rattle.replication.specs.Answer.{countAnswer};
-ghost use Rattle.replication.specs.Memory.{memory, copyAt, sessionAt, withSession, withSequence, studioOf};
+ghost use Rattle.replication.specs.Memory.{memory, copyAt, sessionAt, studioOf};
 ghost use Rattle.replication.specs.Log.{noRoom};
 ghost use Rattle.replication.specs.Request.{requestOf, isWaiting};
 ghost use Rattle.replication.specs.Rows.{row, stopped, sizeForm, memoryRows, commitRows};
@@ -92,16 +92,6 @@ pub fn decide_commit(
     stopped_by_operations(control.used, &library[0..Cart::COPY_SIZE], operations)
 }
 
-// The session's number becomes n.
-fn set_number(sessions: &mut [u8], session: u32, n: u32)
-    requires { ⌜ (length (now sessions) ≡ 1280) × (((1 ≤ session) × (session ≤ 16)) × (n < 65536)) ⌝ }
-    ensures { λ _. ⌜ now (sessions .exit) ≡ withSession (now (sessions .entry)) session (withSequence n (sessionAt (now (sessions .entry)) session)) ⌝ }
-{
-    let start = Session::SIZE * (session as usize - 1);
-    let end = start + Session::SIZE;
-    bytes::put_u16(&mut sessions[start..end], 2, n);
-}
-
 // Document 01's commit.
 pub fn commit(
     control: Control,
@@ -121,12 +111,12 @@ pub fn commit(
             control,
         };
     }
+    let next = control.committed((operations.len() / Cart::SIZE) as u32);
     operation::apply_all(&mut library[0..Cart::COPY_SIZE], operations);
     append::append_transaction(control, log, operations);
-    let n = control.commits + 1;
-    set_number(sessions, session, n);
+    cell::put(sessions, session, 2, next.commits);
     CountResult {
-        answer: CountAnswer::Number(n),
-        control: control.committed((operations.len() / Cart::SIZE) as u32),
+        answer: CountAnswer::Number(next.commits),
+        control: next,
     }
 }

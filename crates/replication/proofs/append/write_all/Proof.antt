@@ -1,5 +1,5 @@
-use mathlib.Core.Path.{_≡_, refl, sym, ap, _∙_}
-use Prim.Native.Nat.{ℕ, _≤_, _<_, _-_, _+_, _*_, _/_}
+use mathlib.Core.Path.{_≡_, refl, sym, _∙_}
+use Prim.Native.Nat.{_≤_, _-_, _+_, _*_}
 use native.Mathlib.Nat.{sub-zero, add-zero, add-sub-cancel-left}
 use native.Mathlib.Omega.{arith}
 use lib.ListN.{length, take, drop}
@@ -12,7 +12,7 @@ use Rattle.replication.proofs.append.write_all.Tie as tie
 use Rattle.replication.proofs.append.write_all.Reads as reads
 use Rattle.replication.proofs.append.write_all.Lts as lts
 use Rattle.replication.proofs.append.next_operation.Reads as next-operation-reads
-use Rattle.replication.proofs.append.write.Reads as write-reads
+use Rattle.replication.proofs.cell.fill.Reads as fill-reads
 
 abbrev Inv-loop : tie.InvT-loop
 Inv-loop log₀ first ops count i₀ log i =
@@ -52,26 +52,27 @@ next-operation-requires : tie.Need-next-operation-requires Inv-loop μ-loop
 next-operation-requires c κs = omega arith
 
 -- src/append.rt:58:35
-add-write : tie.Need-add-write Inv-loop μ-loop
-add-write c = omega arith
+add-fill : tie.Need-add-fill Inv-loop μ-loop
+add-fill c = omega arith
 
 -- src/append.rt:58:23
-sub-write : tie.Need-sub-write Inv-loop μ-loop
-sub-write c = omega arith
+sub-fill : tie.Need-sub-fill Inv-loop μ-loop
+sub-fill c = omega arith
 
 -- src/append.rt:58:23
-part-write-start : tie.Need-part-write-start Inv-loop μ-loop
-part-write-start c = omega arith
+part-fill-start : tie.Need-part-fill-start Inv-loop μ-loop
+part-fill-start c = omega arith
 
 -- src/append.rt:58:23
-part-write-end : tie.Need-part-write-end Inv-loop μ-loop
-part-write-end c = omega arith
+part-fill-end : tie.Need-part-fill-end Inv-loop μ-loop
+part-fill-end c = omega arith
 
 -- src/append.rt:58:9
-write-requires : tie.Need-write-requires Inv-loop μ-loop
-write-requires c κs = let t = c .before .before .before .before in
+fill-requires : tie.Need-fill-requires Inv-loop μ-loop
+fill-requires c κs = let t = c .before .before .before .before in
     let next = c .before .before .next-operation .ensures .1 in
-    ((t .loop .inv .1, (omega arith, omega arith)), (rw add-sub-cancel-left (length-part (t .before .before .before .args .ops .now) (80 * t .loop .i) 80 (omega arith)), omega arith))
+    let whole : length (take (80 * t .loop .i + 80 - 80 * t .loop .i) (drop (80 * t .loop .i) (t .before .before .before .args .ops .now))) ≡ 80 = rw add-sub-cancel-left (length-part (t .before .before .before .args .ops .now) (80 * t .loop .i) 80 (omega arith)) in
+    (((omega arith, omega arith), whole), (omega arith, omega arith))
 
 -- src/append.rt:59:9
 add-i : tie.Need-add-i Inv-loop μ-loop
@@ -86,7 +87,7 @@ loop-again : tie.Need-loop-again Inv-loop μ-loop
 loop-again c = let u = c .before .before in
     let next = u .before .before .before .next-operation in
     let t = u .before .before .before .before .before in
-    (omega arith, u .write .kept .0 ∙ t .loop .inv .1, t .loop .inv .2 ∙ write-next _ _ _ _ _ (omega arith) _ (next .ensures .0) _ (u .write .ensures))
+    (omega arith, u .fill .kept .0 ∙ t .loop .inv .1, t .loop .inv .2 ∙ write-next _ _ _ _ _ (omega arith) _ (next .ensures .0) _ (u .fill .ensures))
 
 -- src/append.rt:48:1
 same-length : tie.Need-same-length Inv-loop μ-loop
@@ -110,11 +111,11 @@ write-all-spec =
     sub-next-operation
     sub-next-operation-2
     next-operation-requires
-    add-write
-    sub-write
-    part-write-start
-    part-write-end
-    write-requires
+    add-fill
+    sub-fill
+    part-fill-start
+    part-fill-end
+    fill-requires
     add-i
     loop-less
     loop-again

@@ -52,7 +52,7 @@ add-if3 c = let k = few c .1 in omega arith
 
 -- src/commit.rt:51:9
 returns-3 : tie.Need-returns-3
-returns-3 c = let b = c .before in log-full _ _ _ (right-size (b .before .before)) (right-form b) (c .if3 .taken)
+returns-3 c = let b = c .before in log-full _ _ _ (right-size (b .before .before)) (right-form b) (omega (arith, c .if3 .taken))
 
 -- src/commit.rt:53:9
 meets-all-requires : tie.Need-meets-all-requires
