@@ -2,11 +2,11 @@
 use Prim.Native.Nat.{ℕ, zero, suc, _+_, _-_, _*_, _<_, _≤_}
 use mathlib.Core.Path.{_≡_, refl, sym, ap, ap₂, _∙_}
 use mathlib.Core.Logic.{⊎-elim}
-use mathlib.Core.Bool.{Bool, true, false, cond, _&&_}
+use mathlib.Core.Bool.{Bool, true, false, cond}
 use mathlib.Core.List.{List, [], _∷_, _++_, append-assoc}
 use native.Mathlib.Nat.{add-sub-cancel-left, sub-zero}
 use native.Mathlib.Omega.{arith}
-use lib.ListN.{length, take, drop, getD, take-append-drop, length-append, length-take, length-drop}
+use lib.ListN.{length, take, drop, getD, take-append-drop, length-append}
 use lib.Seq.{length-take-le, take-at, drop-at, drop-drop}
 use lib.Dec.{eqb}
 use types.Run.{OneOf}
@@ -16,7 +16,7 @@ use Rattle.carts.specs.Cart.{cartAt, held, titleForm, printable}
 use Rattle.carts.specs.Title.{shownByNumbers, foundByNumbers, titled, titledFrom, titledIn, foundByTitle, theOne, shownByTitle, searchAnswer}
 use Rattle.carts.specs.Fields.{foundCount}
 use Rattle.carts.specs.declared.titles.Found.{Found}
-use Rattle.carts.specs.declared.titles.Found.the-variants.{One, None, Several}
+use Rattle.carts.specs.declared.titles.Found.the-variants.{One}
 use Rattle.carts.proofs.titles.Found.{the-type}
 use Rattle.carts.proofs.TestLaws.{and-left, all-at, by-cond, within-low, within-high, within-of, every-at}
 use Rattle.replication.specs.Request.{Request, nothing, byNumbers, byTitle, numbersIn, requestOf, numbersForm, requestFields, needed, foundIn, shownFrom}

@@ -2,28 +2,30 @@
 use Prim.Native.Nat.{ℕ, zero, suc, _+_, _-_, _*_, _<_, _≤_}
 use mathlib.Core.Path.{_≡_, refl, sym, ap, _∙_}
 use mathlib.Core.Bool.{Bool, true, false, cond, not, false≢true}
-use mathlib.Core.List.{List, [], _∷_, _++_}
+use mathlib.Core.List.{List, [], _∷_}
 use native.Mathlib.Nat.{add-sub-cancel-left}
 use native.Mathlib.Omega.{arith}
 use lib.ListN.{length, take, drop, getD}
 use lib.Dec.{eqb, leb, ltb}
 use borrow.Author.Tests.{eqb-true, ne-eqb, leb-true, le-leb, lt-leb, lt-ltb, le-ltb, ltb-false}
-use Rattle.carts.specs.Bytes.{zeros, part, over, byte, u16Bytes, all, every, allZero}
+use Rattle.carts.specs.Bytes.{zeros, part, over, byte, u16, u16Bytes, all, every, allZero}
 use Rattle.carts.proofs.PartLaws.{length-part}
 use Rattle.carts.proofs.TestLaws.{and-left, and-right, all-at}
 use Rattle.replication.specs.Answer.{refused, waits, answered}
 use Rattle.replication.specs.Memory.{Memory, copyAt, sessionAt, withSession, sequenceOf, withSequence, nth, studioOf}
-use Rattle.replication.specs.Request.{Request, requestOf, requestFields, requestForm, isWaiting, needed, foundIn, shownFrom}
+use Rattle.replication.specs.Request.{Request, requestOf, requestFields, requestForm, isWaiting, needed}
 use Rattle.replication.specs.Layout.{waitingForm, sessionForm}
-use Rattle.replication.specs.Rows.{Row, row, stopped, memoryRows, sessionRow, readRows, collectRows}
+use Rattle.replication.specs.Rows.{Row, row, stopped, sessionRow, readRows, collectRows}
 use Rattle.replication.specs.Calls.{After, after, withSessions, numberAfter, answerFrom, block, read, collect}
-use Rattle.replication.specs.Values.{sessionValue, waitsBy, neededBy}
+use Rattle.replication.specs.Values.{sessionValue, waitsBy, neededBy, dueOf}
 use Rattle.replication.specs.declared.control.Control.{Control}
 use Rattle.replication.specs.declared.session.Session.{Session}
+use Rattle.replication.specs.declared.read.Due.{Due}
 use Rattle.replication.proofs.RowLaws.{session-numbered, unless-stopped, unless-accepted}
 use Rattle.replication.proofs.DecideLaws.{CallRows, accepted-formed, accepted-who, accepted-rest, right-session}
 use Rattle.replication.proofs.Formed.{Formed, few, applied-known}
 use Rattle.replication.proofs.Chains.{few-commits}
+use Rattle.replication.proofs.LayoutLaws.{lent}
 use Rattle.replication.proofs.RequestLaws.{waiting-is, needed-is}
 use Rattle.replication.proofs.OutputLaws.{Shown, value-waiting}
 
@@ -170,25 +172,38 @@ collect-asked c m s room f e k = go (isWaiting (requestOf x)) (ltb room (needed 
           fits = ltb-false room _ g;
         }
 
+-- what an accepted call goes by, as the code reads it
+pub due-is : (c : Control) (sessions own : List ℕ) (s number studio state : ℕ) → own ≡ sessionAt sessions s → number ≡ u16 own 2 → studio ≡ studioOf c s → state ≡ nth (c .applied) studio
+    → _≡_ {A = Due} record { number = number; studio = studio; state = state } (dueOf c sessions s)
+unfolding sequenceOf
+due-is c sessions own s number studio state o n i a = rw (n, o, a, i)
+
+pub due-known : (c : Control) (m : Memory) (s : ℕ) (due : Due) → due ≡ dueOf c (m .sessions) s → Caller c m s → (due .studio ≤ 4) × (due .state < 65536)
+due-known c m s due d w = rw d (w .studio .1, w .state)
+
+-- bytes put in a session's place: `own` is what the code has made of them
+pub put-own : (sessions own x y : List ℕ) (s n : ℕ) → own ≡ over x 2 2 (u16Bytes n) → x ≡ y
+    → over sessions (80 * (s - 1)) (80 * (s - 1) + 80 - 80 * (s - 1)) own ≡ withSession sessions s (withSequence n y)
+unfolding withSession withSequence
+put-own sessions own x y s n e f = rw (e, f, add-sub-cancel-left)
+
+pub own-lent : (sessions : List ℕ) (s : ℕ) → take (80 * (s - 1) + 80 - 80 * (s - 1)) (drop (80 * (s - 1)) sessions) ≡ sessionAt sessions s
+unfolding sessionAt
+own-lent sessions s = lent 80 (s - 1) sessions
+
 -- the test of an accepted call: the session's number, and what its studio has applied
-module _ (c : Control) (m : Memory) (s number studio state : ℕ) (n : number ≡ sequenceOf (sessionAt (m .sessions) s)) (i : studio ≡ studioOf c s) (a : state ≡ nth (c .applied) studio)
-    (q : Request) (x : List ℕ) (behind : After) (out : List ℕ) where
-  block-behind : state < number → behind ≡ block c m s q x behind out
+module _ (c : Control) (m : Memory) (s : ℕ) (due : Due) (d : due ≡ dueOf c (m .sessions) s) (q : Request) (x : List ℕ) (behind : After) (out : List ℕ) where
+  block-behind : due .state < due .number → behind ≡ block c m s q x behind out
   unfolding block
-  block-behind h = rw (← n, ← i, ← a, lt-leb number state h)
+  block-behind h = let k : nth (c .applied) (studioOf c s) < sequenceOf (sessionAt (m .sessions) s) = rw d at h in rw (lt-leb _ _ k)
 
-  -- `own` is what the code has put in the session's place
-  block-answers : number ≤ state → (found : ℕ) (new : List ℕ) → Shown (copyAt (m .library) studio) q out found new → (next : ℕ) → next ≡ numberAfter number state
-      → (own : List ℕ) → own ≡ withSequence next x
-      → after (answered state found) c (withSessions m (over (m .sessions) (80 * (s - 1)) (80 * (s - 1) + 80 - 80 * (s - 1)) own)) new ≡ block c m s q x behind out
-  unfolding block answerFrom withSession
-  block-answers h found new g next k own o = rw (← n, ← i, ← a, le-leb number state h, o, k, g .0, g .1, add-sub-cancel-left)
-
--- the session's own bytes with another number
-own-number : (sessions own : List ℕ) (s next : ℕ) → own ≡ over (take (80 * (s - 1) + 80 - 80 * (s - 1)) (drop (80 * (s - 1)) sessions)) 2 2 (u16Bytes next)
-    → own ≡ withSequence next (sessionAt sessions s)
-unfolding withSequence sessionAt
-own-number sessions own s next e = e ∙ rw add-sub-cancel-left
+  block-answers : due .number ≤ due .state → (found : ℕ) (new : List ℕ) → Shown (copyAt (m .library) (due .studio)) q out found new
+      → (next : ℕ) → next ≡ numberAfter (due .number) (due .state) → (sessions : List ℕ) → sessions ≡ withSession (m .sessions) s (withSequence next x)
+      → after (answered (due .state) found) c (withSessions m sessions) new ≡ block c m s q x behind out
+  unfolding block answerFrom
+  block-answers h found new g next k sessions o =
+      let l : sequenceOf (sessionAt (m .sessions) s) ≤ nth (c .applied) (studioOf c s) = rw d at h in
+      rw (o, k, g .0, g .1, d, le-leb _ _ l)
 
 -- a whole read
 module _ (c : Control) (m : Memory) (s : ℕ) (request out : List ℕ) (v : ℕ)
@@ -204,21 +219,20 @@ module _ (c : Control) (m : Memory) (s : ℕ) (request out : List ℕ) (v : ℕ)
     pub read-asks : Asked request (length out)
     read-asks = read-asked _ request (length out) (accepted-rest c m _ _ (session-numbered s (studioOf c s)) (sym e ∙ z))
 
-    module _ (number studio state : ℕ) (n : number ≡ sequenceOf (sessionAt (m .sessions) s)) (i : studio ≡ studioOf c s) (a : state ≡ nth (c .applied) studio) where
-      pub read-waits : state < number → (own : List ℕ) → own ≡ withSequence number request
-          → after (waits number) c (withSessions m (over (m .sessions) (80 * (s - 1)) (80 * (s - 1) + 80 - 80 * (s - 1)) own)) out ≡ read c m s request out
-      unfolding read readRows withSession
-      read-waits h own o =
-          rw (o, n, add-sub-cancel-left) (block-behind c m s number studio state n i a (requestOf request) (sessionAt (m .sessions) s) _ out h ∙ unless-accepted _ _ _ (sym e ∙ z))
-
-      pub read-answers : number ≤ state → (found : ℕ) (new : List ℕ) → Shown (copyAt (m .library) studio) (requestOf request) out found new
-          → (next : ℕ) → next ≡ numberAfter number state
-          → (own : List ℕ) → own ≡ over (take (80 * (s - 1) + 80 - 80 * (s - 1)) (drop (80 * (s - 1)) (m .sessions))) 2 2 (u16Bytes next)
-          → after (answered state found) c (withSessions m (over (m .sessions) (80 * (s - 1)) (80 * (s - 1) + 80 - 80 * (s - 1)) own)) new ≡ read c m s request out
+    module _ (due : Due) (d : due ≡ dueOf c (m .sessions) s) where
+      pub read-waits : due .state < due .number → (sessions : List ℕ) → sessions ≡ withSession (m .sessions) s (withSequence (due .number) request)
+          → after (waits (due .number)) c (withSessions m sessions) out ≡ read c m s request out
       unfolding read readRows
-      read-answers h found new g next k own o =
-          block-answers c m s number studio state n i a (requestOf request) (sessionAt (m .sessions) s) _ out h found new g next k own (own-number (m .sessions) own s next o)
-          ∙ unless-accepted _ _ _ (sym e ∙ z)
+      read-waits h sessions o =
+          rw (o, d) (block-behind c m s due d (requestOf request) (sessionAt (m .sessions) s) _ out h ∙ unless-accepted _ _ _ (sym e ∙ z))
+
+      pub read-answers : due .number ≤ due .state → (found : ℕ) (new : List ℕ) → Shown (copyAt (m .library) (due .studio)) (requestOf request) out found new
+          → (next : ℕ) → next ≡ numberAfter (due .number) (due .state)
+          → (sessions : List ℕ) → sessions ≡ withSession (m .sessions) s (withSequence next (sessionAt (m .sessions) s))
+          → after (answered (due .state) found) c (withSessions m sessions) new ≡ read c m s request out
+      unfolding read readRows
+      read-answers h found new g next k sessions o =
+          block-answers c m s due d (requestOf request) (sessionAt (m .sessions) s) _ out h found new g next k sessions o ∙ unless-accepted _ _ _ (sym e ∙ z)
 
 -- a whole collect
 module _ (c : Control) (m : Memory) (s : ℕ) (out : List ℕ) (v : ℕ)
@@ -236,15 +250,15 @@ module _ (c : Control) (m : Memory) (s : ℕ) (out : List ℕ) (v : ℕ)
         let k = session-numbered s (studioOf c s) in
         collect-asked c m s (length out) (accepted-formed c m _ _ k (sym e ∙ z)) (accepted-who c m _ _ k (sym e ∙ z)) (accepted-rest c m _ _ k (sym e ∙ z))
 
-    module _ (number studio state : ℕ) (n : number ≡ sequenceOf (sessionAt (m .sessions) s)) (i : studio ≡ studioOf c s) (a : state ≡ nth (c .applied) studio) where
-      pub collect-waits : state < number → after (waits number) c m out ≡ collect c m s out
+    module _ (due : Due) (d : due ≡ dueOf c (m .sessions) s) where
+      pub collect-waits : due .state < due .number → after (waits (due .number)) c m out ≡ collect c m s out
       unfolding collect collectRows
-      collect-waits h =
-          rw n (block-behind c m s number studio state n i a (requestOf (sessionAt (m .sessions) s)) (zeros 80) _ out h ∙ unless-accepted _ _ _ (sym e ∙ z))
+      collect-waits h = rw d (block-behind c m s due d (requestOf (sessionAt (m .sessions) s)) (zeros 80) _ out h ∙ unless-accepted _ _ _ (sym e ∙ z))
 
-      pub collect-answers : number ≤ state → (x : List ℕ) → x ≡ sessionAt (m .sessions) s → (found : ℕ) (new : List ℕ) → Shown (copyAt (m .library) studio) (requestOf x) out found new
-          → (next : ℕ) → next ≡ numberAfter number state → (own : List ℕ) → own ≡ withSequence next (zeros 80)
-          → after (answered state found) c (withSessions m (over (m .sessions) (80 * (s - 1)) (80 * (s - 1) + 80 - 80 * (s - 1)) own)) new ≡ collect c m s out
+      pub collect-answers : due .number ≤ due .state → (x : List ℕ) → x ≡ sessionAt (m .sessions) s
+          → (found : ℕ) (new : List ℕ) → Shown (copyAt (m .library) (due .studio)) (requestOf x) out found new
+          → (next : ℕ) → next ≡ numberAfter (due .number) (due .state) → (sessions : List ℕ) → sessions ≡ withSession (m .sessions) s (withSequence next (zeros 80))
+          → after (answered (due .state) found) c (withSessions m sessions) new ≡ collect c m s out
       unfolding collect collectRows
-      collect-answers h x q found new g next k own o =
-          block-answers c m s number studio state n i a (requestOf (sessionAt (m .sessions) s)) (zeros 80) _ out h found new (rw q at g) next k own o ∙ unless-accepted _ _ _ (sym e ∙ z)
+      collect-answers h x q found new g next k sessions o =
+          block-answers c m s due d (requestOf (sessionAt (m .sessions) s)) (zeros 80) _ out h found new (rw q at g) next k sessions o ∙ unless-accepted _ _ _ (sym e ∙ z)

@@ -4,12 +4,12 @@ use crate::answer::ReadResult;
 use crate::control::Control;
 use crate::output;
 use crate::read;
+use crate::read::Due;
 use crate::rows;
 use crate::session::Session;
-use carts::bytes;
 ghost use mathlib.Core.Path.{_≡_};
 ghost use mathlib.Core.List.{_++_};
-ghost use Prim.Native.Nat.{ℕ, _+_, _*_, _-_, _<_, _≤_};
+ghost use Prim.Native.Nat.{_+_, _-_, _<_};
 ghost use Rattle.replication.specs.Answer.{readAnswer};
 ghost use Rattle.replication.specs.Memory.{memory, sessionAt, studioOf};
 ghost use Rattle.replication.specs.Request.{requestOf};
@@ -66,24 +66,23 @@ pub fn collect(
             control,
         };
     }
-    let number = bytes::u16_at(read::session_at(sessions, session), 2);
-    let studio = control.studio_of(session);
-    let state = control.applied_by(studio);
-    if state < number {
+    let due = Due::at(control, sessions, session);
+    if due.state < due.number {
         return ReadResult {
-            answer: ReadAnswer::Waits(number),
+            answer: ReadAnswer::Waits(due.number),
             control,
         };
     }
-    let own = read::session_at(sessions, session);
-    let found = output::answer(library, studio, own, output);
-    let start = Session::SIZE * (session as usize - 1);
-    let end = start + Session::SIZE;
+    let asked = read::session_at(sessions, session);
+    let found = output::answer(library, due.studio, asked, output);
     let nothing = [0u8; 80];
-    let next = read::number_after(number, state);
-    read::store(&mut sessions[start..end], &nothing, next);
+    let next = read::number_after(due.number, due.state);
+    read::store(sessions, session, &nothing, next);
     ReadResult {
-        answer: ReadAnswer::Answered { state, found },
+        answer: ReadAnswer::Answered {
+            state: due.state,
+            found,
+        },
         control,
     }
 }

@@ -1,10 +1,5 @@
-use mathlib.Core.Path.{_≡_, ap, _∙_}
-use native.Mathlib.Nat.{add-sub-cancel-left}
 use native.Mathlib.Omega.{arith}
-use Rattle.replication.specs.Memory.{copyAt}
-use Rattle.replication.specs.Values.{sessionValue}
-use Rattle.replication.specs.declared.session.Session.{Session}
-use Rattle.replication.proofs.LayoutLaws.{lent, length-lent}
+use Rattle.replication.proofs.LayoutLaws.{length-lent}
 use Rattle.replication.proofs.OutputLaws.{value-waiting, shown-lent}
 use borrow.Author.Needs.{needs}
 use Rattle.replication.proofs.output.answer.Statement.{statement}

@@ -1,13 +1,7 @@
-use mathlib.Core.Path.{_≡_, sym, ap, _∙_}
-use mathlib.Core.Bool.{true}
-use mathlib.Core.List.{List}
-use Prim.Native.Nat.{ℕ, _≤_}
-use native.Mathlib.Nat.{add-sub-cancel-left}
+use mathlib.Core.Path.{sym, _∙_}
+use Prim.Native.Nat.{_≤_}
 use native.Mathlib.Omega.{arith}
-use lib.ListN.{length, take, drop, length-take}
-use Rattle.carts.specs.Bytes.{part, over}
-use Rattle.carts.specs.Title.{foundByTitle, shownByTitle}
-use Rattle.replication.specs.Request.{needed}
+use lib.ListN.{length, length-take}
 use Rattle.replication.proofs.OutputLaws.{by-case, case-nothing, case-numbers, title-short, room-for-numbers, room-for-title, shows-nothing, shows-numbers, shows-title}
 use borrow.Author.Needs.{needs}
 use Rattle.replication.proofs.output.show.Statement.{statement}

@@ -5,7 +5,7 @@ use mathlib.Core.Bool.{cond}
 use native.Mathlib.Omega.{arith}
 use borrow.Rule.Slice.PartMut.{same-len-mid}
 use lib.ListN.{length}
-use Rattle.carts.specs.Bytes.{over, u16}
+use Rattle.carts.specs.Bytes.{over}
 use Rattle.carts.specs.Cart.{cartAt, held}
 use Rattle.carts.specs.Title.{shownByNumbers, foundByNumbers}
 use Rattle.carts.proofs.CartLaws.{length-cart}
