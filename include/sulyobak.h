@@ -7,7 +7,7 @@
  * replaced.
  *
  * Link with libsulyobak.a (the command `rt staticlib sulyobak` writes it to target/staticlib). It needs memcpy and memset and no other
- * function, allocates nothing, keeps nothing between calls, and runs on x86-64 Linux.
+ * function, allocates nothing, keeps nothing between calls, takes up to 28 kB of stack (measured), and runs on x86-64 Linux.
  *
  * WHAT THE ENGINE LOOKS AFTER. Every byte and every number passed in is tested: any control, any bytes and any argument have their
  * answer. A refused call returns its number and changes no byte of your memory. Every call ends. Each function here is proved to
@@ -16,7 +16,8 @@
  * WHAT REMAINS THE CALLER'S. No library can test these:
  *   - every pointer is valid for as many bytes as its length says, and not null where the length is 0; what is not const is writable;
  *   - the buffers of one call do not overlap: the three memories, output, and what is read (operations, request, session_studios);
- *   - one call at a time on the same memory, and nobody else reads or writes it while a call runs;
+ *   - one call at a time on the same memory, and nobody else reads or writes it while a call runs (calls on different memories may
+ *     run at the same time);
  *   - the control that the last call handed back goes into the next one, and memory is kept as that call left it. (Where control
  *     or memory are damaged so that they are no longer of the layout, each call says so with the number 2. A control that is old, but
  *     still of the layout for this memory, cannot be told from the right one.)

@@ -9,6 +9,8 @@ use Rattle.replication.specs.Log.{nextOperation, nextTransaction, record
 use Rattle.replication.specs.Memory.{recordAt, sequenceOf}
 
 use Rattle.replication.specs.Memory.{sessionAt, sequenceOf, nth, studioOf}
+
+use Rattle.replication.specs.Memory.{recordAt, sessionAt, sequenceOf, nth, studioOf}
 use Rattle.replication.specs.Layout.{waitingForm}
 use Rattle.replication.specs.declared.session.Session.{Session}
 use Rattle.replication.specs.declared.session.Waiting.{Waiting}
