@@ -6,10 +6,6 @@ use lib.ListN.{length, drop}
 use lib.Dec.{leb, eqb}
 use Rattle.carts.specs.Bytes.{part, byte, u16, within, all, every, allZero, pairwise}
 use Rattle.replication.specs.Log.{nextOperation, nextTransaction, recordsOf, upFrom}
-use Rattle.replication.specs.Memory.{recordAt, sequenceOf}
-
-use Rattle.replication.specs.Memory.{sessionAt, sequenceOf, nth, studioOf}
-
 use Rattle.replication.specs.Memory.{recordAt, sessionAt, sequenceOf, nth, studioOf}
 use Rattle.replication.specs.Layout.{waitingForm}
 use Rattle.replication.specs.declared.session.Session.{Session}
