@@ -5,6 +5,7 @@ use mathlib.Core.Bool.{Bool, true, false, cond, _&&_, and-false, and-true}
 use mathlib.Core.List.{List, [], _∷_}
 use native.Mathlib.Omega.{arith}
 use native.Mathlib.Numerals.{add-one}
+use native.Mathlib.Decide.{ℕ-discrete}
 use lib.ListN.{length, drop}
 use lib.Dec.{leb, ltb, eqb, leb·suc-suc, eqb·suc-zero}
 use borrow.Author.Tests.{eq-eqb, ne-eqb, lt-ltb, le-ltb, le-leb, lt-leb, eqb-true, eqb-false, leb-true, ltb-true, ltb-false}
@@ -138,17 +139,24 @@ module _ (log : List ℕ) (left r end v : ℕ) (h : 0 < left) (e : v ≡ nextOpe
   pub span-here : v ≡ 0 → spanFrom left log r end ≡ 1
   span-here z = turn ∙ rw (eq-eqb v 0 z)
 
-  pub span-astray : (v ≡ 0 → ⊥) → (v ≡ r + 1 → ⊥) → spanFrom left log r end ≡ 0
-  span-astray z q = turn ∙ rw (ne-eqb v 0 z, ne-eqb v (r + 1) q)
-
   pub span-full : (v ≡ 0 → ⊥) → end ≤ r + 1 → spanFrom left log r end ≡ 0
   span-full z q = turn ∙ rw (ne-eqb v 0 z, le-ltb (r + 1) end q) (simp and-false)
 
-  pub span-tied : (v ≡ 0 → ⊥) → (nextTransaction log (r + 1) ≡ 0 → ⊥) → spanFrom left log r end ≡ 0
-  span-tied z q = turn ∙ rw (ne-eqb v 0 z, ne-eqb (nextTransaction log (r + 1)) 0 q) (simp and-false)
+  pub span-step : (v ≡ 0 → ⊥) → r + 1 < end → (w : ℕ) → w ≡ nextTransaction log (r + 1)
+      → spanFrom left log r end ≡ cond (eqb v (r + 1) && eqb w 0) (raise 1 (spanFrom (left - 1) log (r + 1) end)) 0
+  span-step z l w t = turn ∙ rw (ne-eqb v 0 z, lt-ltb (r + 1) end l, ← t)
 
-  pub span-step : (v ≡ 0 → ⊥) → v ≡ r + 1 → r + 1 < end → nextTransaction log (r + 1) ≡ 0 → spanFrom left log r end ≡ raise 1 (spanFrom (left - 1) log (r + 1) end)
-  span-step z q l t = turn ∙ rw (ne-eqb v 0 z, eq-eqb v (r + 1) q, lt-ltb (r + 1) end l, eq-eqb (nextTransaction log (r + 1)) 0 t)
+-- the flag so far, and the next record's
+pub span-join : (ok b : Bool) (d n : ℕ) → cond ok (raise d (cond b (raise 1 n) 0)) 0 ≡ cond (ok && b) (raise (d + 1) n) 0
+unfolding raise
+span-join true true d n = raise-raise d n
+span-join true false d n = refl
+span-join false b d n = refl
+
+pub cond-none : (ok : Bool) (d n : ℕ) → n ≡ 0 → cond ok (raise d n) 0 ≡ 0
+unfolding raise
+cond-none true d n e = rw e
+cond-none false d n e = refl
 
 pub span-out : (log : List ℕ) (left r end : ℕ) → left ≤ 0 → spanFrom left log r end ≡ 0
 unfolding spanFrom
@@ -189,14 +197,22 @@ module _ (log : List ℕ) (left first r end : ℕ) (h : 0 < left) where
   chain-false e = chain-turn ∙ rw e
 
   -- the link leads elsewhere
-  pub chain-gap : (first ≡ r → ⊥) → chainForm left log first r end ≡ false
+  chain-gap : (first ≡ r → ⊥) → chainForm left log first r end ≡ false
   chain-gap n = chain-false (own-gap log first r end n)
 
+  -- no transaction of the layout stands at r
+  chain-none : ownForm 8 log (recordsOf log r) r end ≡ false → chainForm left log first r end ≡ false
+  chain-none e = go (ℕ-discrete first r)
+    where
+      go : Dec (first ≡ r) → chainForm left log first r end ≡ false
+      go (yes q) = chain-false (rw q e)
+      go (no n) = chain-gap n
+
   -- the log ends before
-  pub chain-past : first ≡ r → 1 ≤ r → end ≤ r → chainForm left log first r end ≡ false
-  chain-past e k l =
+  pub chain-past : 1 ≤ r → end ≤ r → chainForm left log first r end ≡ false
+  chain-past k l =
       let some : 1 ≤ length (recordsOf log r) = records-some log r k in
-      chain-false (rw e (own-beyond 8 log r end (recordsOf log r) (omega arith)))
+      chain-none (own-beyond 8 log r end (recordsOf log r) (omega arith))
 
 module _ (log : List ℕ) (r end v : ℕ) (k : 1 ≤ r) (s : v ≡ spanOf log r end) where
   pub span-zero : v ≡ 0 → ownForm 8 log (recordsOf log r) r end ≡ false
@@ -221,12 +237,16 @@ module _ (log : List ℕ) (r end v : ℕ) (k : 1 ≤ r) (s : v ≡ spanOf log r 
       rw (← (f .1)) (leb-true (r + length (recordsOf log r)) end (own-ends 8 log (recordsOf log r) r end (f .0)))
 
 -- a turn of a loop over transactions: v is the span of the one at r
-module _ (log : List ℕ) (left first r end v : ℕ) (h : 0 < left) (q : first ≡ r) (k : 1 ≤ r) (s : v ≡ spanOf log r end) where
+module _ (log : List ℕ) (left first r end v : ℕ) (h : 0 < left) (k : 1 ≤ r) (s : v ≡ spanOf log r end) where
   pub chain-bad : v ≡ 0 → chainForm left log first r end ≡ false
-  chain-bad z = chain-false log left first r end h (rw q (span-zero log r end v k s z))
+  chain-bad z = chain-none log left first r end h (span-zero log r end v k s z)
 
-  pub chain-step : (v ≡ 0 → ⊥) → chainForm left log first r end ≡ chainForm (left - 1) log (nextTransaction log r) (r + v) end
-  chain-step z = let f = span-some log r end v k s z in chain-turn log left first r end h ∙ rw (q, f .0, f .1)
+  pub chain-step : (v ≡ 0 → ⊥) → chainForm left log first r end ≡ (eqb first r && chainForm (left - 1) log (nextTransaction log r) (r + v) end)
+  chain-step z = go (ℕ-discrete first r)
+    where
+      go : Dec (first ≡ r) → chainForm left log first r end ≡ (eqb first r && chainForm (left - 1) log (nextTransaction log r) (r + v) end)
+      go (yes q) = let f = span-some log r end v k s z in chain-turn log left first r end h ∙ rw (q, f .0, f .1, eq-eqb r r refl)
+      go (no n) = chain-gap log left first r end h n ∙ rw (ne-eqb first r n)
 
 pub chain-done : (log : List ℕ) (left first r end : ℕ) → left ≤ 0 → chainForm left log first r end ≡ (eqb first 0 && eqb r end)
 unfolding chainForm all

@@ -8,30 +8,31 @@ ghost use lib.Dec.{eqb};
 ghost use Rattle.replication.specs.Log.{chainForm};
 ghost use Rattle.replication.specs.Values.{spanOf};
 
+// The links are compared by flags, so that the loops do not wait for one load after the other.
+
 // How many records the transaction at record first has, of `used` in the log; 0 where they are not of the layout.
 fn span(log: &[u8], first: u32, used: u32) -> u32
     requires { ⌜ (length (now log) ≡ 40960) × ((1 ≤ first) × ((first ≤ used) × (used ≤ 512))) ⌝ }
     ensures { λ v. ⌜ v ≡ spanOf (now (log .entry)) first (used + 1) ⌝ }
 {
+    let mut ok = true;
     let mut r = first;
     let mut left: u32 = 8;
     while 0 < left {
         let links = Record::at(log, r);
         let next = links.next_operation;
         if next == 0 {
-            return r - first + 1;
-        }
-        if next != r + 1 {
+            if ok {
+                return r - first + 1;
+            }
             return 0;
         }
         if used <= r {
             return 0;
         }
-        let later = Record::at(log, next);
-        if later.next_transaction != 0 {
-            return 0;
-        }
-        r = next;
+        let later = Record::at(log, r + 1);
+        ok &= (next == r + 1) & (later.next_transaction == 0);
+        r += 1;
         left -= 1;
     }
     0
@@ -45,13 +46,12 @@ pub fn is_chain(log: &[u8], commits: u32, used: u32) -> bool
     if commits == 0 {
         return used == 0;
     }
+    let mut ok = true;
     let mut first: u32 = 1;
     let mut r: u32 = 1;
     let mut left = commits;
     while 0 < left {
-        if first != r {
-            return false;
-        }
+        ok &= first == r;
         if used < r {
             return false;
         }
@@ -64,8 +64,5 @@ pub fn is_chain(log: &[u8], commits: u32, used: u32) -> bool
         r += n;
         left -= 1;
     }
-    if first != 0 {
-        return false;
-    }
-    r == used + 1
+    ok & (first == 0) & (r == used + 1)
 }

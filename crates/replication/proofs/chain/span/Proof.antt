@@ -1,12 +1,14 @@
 -- The loop counts the records from the first on; what is still to be counted is `spanFrom left log r`.
 use denote.Ref.{now}
-use mathlib.Core.Path.{_≡_, sym, ap, _∙_}
+use mathlib.Core.Path.{_≡_, refl, sym, ap, _∙_}
+use mathlib.Core.Bool.{Bool, true, false, cond, _&&_}
 use Prim.Native.Nat.{ℕ, _≤_, _<_, _+_, _-_}
 use native.Mathlib.Omega.{arith}
+use lib.Dec.{eqb}
 use Rattle.replication.specs.Log.{nextOperation, nextTransaction}
 use Rattle.replication.specs.Values.{spanOf}
 use Rattle.replication.specs.declared.record.Record.{Record}
-use Rattle.replication.proofs.SpanLaws.{raise, raise-none, raise-raise, raise-one, raise-of-none, spanFrom, span-of, span-here, span-astray, span-full, span-tied, span-step, span-out}
+use Rattle.replication.proofs.SpanLaws.{raise, raise-none, raise-one, spanFrom, span-of, span-here, span-full, span-step, span-join, span-out, cond-none}
 use Rattle.replication.proofs.chain.span.Statement.{statement}
 use Rattle.replication.proofs.chain.span.Tie as tie
 use Rattle.replication.proofs.chain.span.Reads as reads
@@ -14,99 +16,99 @@ use Rattle.replication.proofs.chain.span.Lts as lts
 use Rattle.replication.proofs.record.Record.at.Reads as at-reads
 
 abbrev Inv-loop : tie.InvT-loop
-Inv-loop log first used r₀ left₀ r left = (first ≤ r) × (r ≤ used) × (left ≤ 8) × (spanOf log first (used + 1) ≡ raise (r - first) (spanFrom left log r (used + 1)))
+Inv-loop log first used ok₀ r₀ left₀ ok r left = (first ≤ r) × (r ≤ used) × (left ≤ 8) × (spanOf log first (used + 1) ≡ cond ok (raise (r - first) (spanFrom left log r (used + 1))) 0)
 
 abbrev μ-loop : tie.MeasureT-loop
-μ-loop log first used r₀ left₀ r left = left
+μ-loop log first used ok₀ r₀ left₀ ok r left = left
 
 -- what the two readings of links are
 next-is : (c : tie.After-at Inv-loop μ-loop) → c .at .result .«next_operation» ≡ nextOperation (now (c .before .before .before .before .args .log)) (c .before .before .loop .r)
 next-is c = ap (λ (x : Record). x .«next_operation») (c .at .ensures .0)
 
-later-is : (c : tie.After-at2 Inv-loop μ-loop) → c .at2 .result .«next_transaction» ≡ nextTransaction (now (c .before .before .before .before .before .before .before .before .args .log)) (c .before .before .before .before .before .before .loop .r + 1)
-later-is c =
-    ap (λ (x : Record). x .«next_transaction») (c .at2 .ensures .0)
-    ∙ ap (λ (n : ℕ). nextTransaction (now (c .before .before .before .before .before .before .before .before .args .log)) n) (c .before .before .if2 .left)
+later-is : (c : tie.After-at2 Inv-loop μ-loop) → c .at2 .result .«next_transaction» ≡ nextTransaction (now (c .before .before .before .before .before .before .before .args .log)) (c .before .before .before .before .before .loop .r + 1)
+later-is c = ap (λ (x : Record). x .«next_transaction») (c .at2 .ensures .0)
 
--- src/chain.rt:18:5
+-- src/chain.rt:21:5
 loop-holds : tie.Need-loop-holds Inv-loop μ-loop
 loop-holds c = let a = c .before .args in
     let e : a .first - a .first ≡ 0 = omega arith in
     (omega arith, omega arith, omega arith, rw e (span-of (a .log .now) (a .first) (a .used + 1) (omega arith) (omega arith) ∙ sym (raise-none _)))
 
--- src/chain.rt:19:13
+-- src/chain.rt:22:13
 at-requires : tie.Need-at-requires Inv-loop μ-loop
 at-requires c κs = (omega arith, (omega arith, omega arith))
 
--- src/chain.rt:22:20
+-- src/chain.rt:26:24
 sub-result : tie.Need-sub-result Inv-loop μ-loop
 sub-result c = omega arith
 
--- src/chain.rt:22:20
+-- src/chain.rt:26:24
 add-result : tie.Need-add-result Inv-loop μ-loop
 add-result c = omega arith
 
--- src/chain.rt:22:13
+-- src/chain.rt:26:17
 returns : tie.Need-returns Inv-loop μ-loop
-returns c = let t = c .before .before .before in
+returns c = let a = c .before .before in
+    let t = a .before .before in
     let g = t .before .before .args in
-    sym (t .loop .inv .3 ∙ raise-one _ _ (span-here (g .log .now) (t .loop .left) (t .loop .r) (g .used + 1) _ (c .before .before .loop-test .taken) (next-is (c .before)) (c .if1 .taken)))
+    let n = spanFrom (t .loop .left) (g .log .now) (t .loop .r) (g .used + 1) in
+    sym (t .loop .inv .3 ∙ ap (λ (b : Bool). cond b (raise (t .loop .r - g .first) n) 0) (c .if2 .taken)
+    ∙ raise-one _ _ (span-here (g .log .now) (t .loop .left) (t .loop .r) (g .used + 1) _ (a .before .loop-test .taken) (next-is a) (c .before .if1 .taken)))
 
--- src/chain.rt:24:20
-add-if2 : tie.Need-add-if2 Inv-loop μ-loop
-add-if2 c = omega arith
-
--- src/chain.rt:25:13
+-- src/chain.rt:28:13
 returns-2 : tie.Need-returns-2 Inv-loop μ-loop
 returns-2 c = let a = c .before .before in
     let t = a .before .before in
     let g = t .before .before .args in
-    sym (t .loop .inv .3 ∙ raise-of-none _ _ (span-astray (g .log .now) (t .loop .left) (t .loop .r) (g .used + 1) _ (a .before .loop-test .taken) (next-is a) (c .before .if1 .left) (c .if2 .taken)))
+    sym (t .loop .inv .3 ∙ ap (λ (b : Bool). cond b (raise (t .loop .r - g .first) (spanFrom (t .loop .left) (g .log .now) (t .loop .r) (g .used + 1))) 0) (c .if2 .left))
 
--- src/chain.rt:28:13
+-- src/chain.rt:31:13
 returns-3 : tie.Need-returns-3 Inv-loop μ-loop
-returns-3 c = let a = c .before .before .before in
+returns-3 c = let a = c .before .before in
     let t = a .before .before in
     let g = t .before .before .args in
-    sym (t .loop .inv .3 ∙ raise-of-none _ _ (span-full (g .log .now) (t .loop .left) (t .loop .r) (g .used + 1) _ (a .before .loop-test .taken) (next-is a) (c .before .before .if1 .left) (omega arith)))
+    sym (t .loop .inv .3 ∙ cond-none (t .loop .ok) (t .loop .r - g .first) _ (span-full (g .log .now) (t .loop .left) (t .loop .r) (g .used + 1) _ (a .before .loop-test .taken) (next-is a) (c .before .if1 .left) (omega arith)))
 
--- src/chain.rt:30:13
+-- src/chain.rt:33:37
+add-at : tie.Need-add-at Inv-loop μ-loop
+add-at c = omega arith
+
+-- src/chain.rt:33:13
 at-requires-2 : tie.Need-at-requires-2 Inv-loop μ-loop
 at-requires-2 c κs = (omega arith, (omega arith, omega arith))
 
--- src/chain.rt:32:13
-returns-4 : tie.Need-returns-4 Inv-loop μ-loop
-returns-4 c = let b = c .before .before in
-    let e = b .before .before in
-    let a = e .before .before in
-    let t = a .before .before in
-    let g = t .before .before .args in
-    sym (t .loop .inv .3 ∙ raise-of-none _ _ (span-tied (g .log .now) (t .loop .left) (t .loop .r) (g .used + 1) _ (a .before .loop-test .taken) (next-is a) (e .before .if1 .left) (λ z. c .if4 .taken (later-is b ∙ z))))
+-- src/chain.rt:34:24
+add-ok : tie.Need-add-ok Inv-loop μ-loop
+add-ok c = omega arith
 
 -- src/chain.rt:35:9
+add-r : tie.Need-add-r Inv-loop μ-loop
+add-r c = omega arith
+
+-- src/chain.rt:36:9
 sub-left : tie.Need-sub-left Inv-loop μ-loop
 sub-left c = omega arith
 
--- src/chain.rt:18:5
+-- src/chain.rt:21:5
 loop-less : tie.Need-loop-less Inv-loop μ-loop
 loop-less c = omega arith
 
--- src/chain.rt:18:5
+-- src/chain.rt:21:5
 loop-again : tie.Need-loop-again Inv-loop μ-loop
-loop-again c = let b = c .before .before in
-    let e = b .before .before in
-    let a = e .before .before in
+loop-again c = let l = c .before in
+    let e = l .before .before in
+    let a = e .before in
     let t = a .before .before in
     let g = t .before .before .args in
     let d : t .loop .r + 1 - g .first ≡ t .loop .r - g .first + 1 = omega arith in
-    let s = span-step (g .log .now) (t .loop .left) (t .loop .r) (g .used + 1) _ (a .before .loop-test .taken) (next-is a) (e .before .if1 .left) (e .if2 .left) (omega arith) (sym (later-is b) ∙ c .if4 .left) in
-    (omega arith, omega arith, omega arith, rw (e .if2 .left, d) (t .loop .inv .3 ∙ ap (raise (t .loop .r - g .first)) s ∙ raise-raise _ _))
+    let s = span-step (g .log .now) (t .loop .left) (t .loop .r) (g .used + 1) _ (a .before .loop-test .taken) (next-is a) (e .if1 .left) (omega arith) _ (later-is l) in
+    (omega arith, omega arith, omega arith, rw d (t .loop .inv .3 ∙ ap (λ (n : ℕ). cond (t .loop .ok) (raise (t .loop .r - g .first) n) 0) s ∙ span-join (t .loop .ok) (eqb (a .at .result .«next_operation») (t .loop .r + 1) && eqb (l .at2 .result .«next_transaction») 0) (t .loop .r - g .first) (spanFrom (t .loop .left - 1) (g .log .now) (t .loop .r + 1) (g .used + 1))))
 
--- src/chain.rt:12:1
-returns-5 : tie.Need-returns-5 Inv-loop μ-loop
-returns-5 c = let t = c .before in
+-- src/chain.rt:14:1
+returns-4 : tie.Need-returns-4 Inv-loop μ-loop
+returns-4 c = let t = c .before in
     let g = t .before .before .args in
-    sym (t .loop .inv .3 ∙ raise-of-none _ _ (span-out (g .log .now) (t .loop .left) (t .loop .r) (g .used + 1) (c .loop-test .left)))
+    sym (t .loop .inv .3 ∙ cond-none (t .loop .ok) (t .loop .r - g .first) _ (span-out (g .log .now) (t .loop .left) (t .loop .r) (g .used + 1) (c .loop-test .left)))
 
 pub span-spec : {M : Type 1} → statement M
 span-spec =
@@ -119,12 +121,13 @@ span-spec =
     sub-result
     add-result
     returns
-    add-if2
     returns-2
     returns-3
+    add-at
     at-requires-2
-    returns-4
+    add-ok
+    add-r
     sub-left
     loop-less
     loop-again
-    returns-5)
+    returns-4)
