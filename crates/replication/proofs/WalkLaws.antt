@@ -14,8 +14,8 @@ use Rattle.replication.specs.declared.record.Record.{Record}
 use Rattle.replication.proofs.Formed.{Formed}
 use Rattle.replication.proofs.Chains.{Placed, chained, placed}
 
-pub some : (n : ℕ) → (n ≡ 0 → ⊥) → 1 ≤ n
-some n h = omega arith
+pub more : (n : ℕ) → (n ≡ 0 → ⊥) → (n ≡ 1 → ⊥) → 2 ≤ n
+more n h k = omega arith
 
 pub walk-none : (n : ℕ) (log : List ℕ) (r : ℕ) → n ≡ 0 → r ≡ walk n log r
 unfolding walk
@@ -39,6 +39,26 @@ module _ (n : ℕ) (log : List ℕ) (r : ℕ) (h : n ≡ 0 → ⊥) where
 
     pub walk-later : (x : Record) → x ≡ linksOf log r → walkable (n - 1) log (x .«next_transaction») ≡ true
     walk-later x e = rw e (and-right (within 1 512 r) (walkable (n - 1) log (nextTransaction log r)) both)
+
+-- a walk of one transaction, and of two at once, by the links x and y that it reads
+pub walk-one : (n : ℕ) (log : List ℕ) (r : ℕ) → n ≡ 1 → (x : Record) → x ≡ linksOf log r → x .«next_transaction» ≡ walk n log r
+walk-one n log r h x e =
+    walk-none (n - 1) log (x .«next_transaction») (omega arith) ∙ walk-on n log r (λ z. omega arith) x e
+
+module _ (n : ℕ) (log : List ℕ) (r : ℕ) (h : n ≡ 0 → ⊥) (k : n ≡ 1 → ⊥) (x : Record) (e : x ≡ linksOf log r) where
+  pub walk-there : walkable n log r ≡ true → (1 ≤ x .«next_transaction») × (x .«next_transaction» ≤ 512)
+  walk-there w = walk-here (n - 1) log (x .«next_transaction») (λ z. omega arith) (walk-later n log r h w x e)
+
+  module _ (y : Record) (f : y ≡ linksOf log (x .«next_transaction»)) where
+    pub walk-two : walk (n - 2) log (y .«next_transaction») ≡ walk n log r
+    walk-two =
+        let q : n - 2 ≡ n - 1 - 1 = omega arith in
+        ap (λ (i : ℕ). walk i log (y .«next_transaction»)) q ∙ walk-on (n - 1) log (x .«next_transaction») (λ z. omega arith) y f ∙ walk-on n log r h x e
+
+    pub walk-after : walkable n log r ≡ true → walkable (n - 2) log (y .«next_transaction») ≡ true
+    walk-after w =
+        let q : n - 2 ≡ n - 1 - 1 = omega arith in
+        ap (λ (i : ℕ). walkable i log (y .«next_transaction»)) q ∙ walk-later (n - 1) log (x .«next_transaction») (λ z. omega arith) (walk-later n log r h w x e) y f
 
 -- a chain of n transactions can be walked along to each of them, and past the last
 chain-walkable : (n : ℕ) (log : List ℕ) (first r end : ℕ) → 1 ≤ r → end ≤ 513 → chainForm n log first r end ≡ true → (k : ℕ) → k ≤ n → walkable k log first ≡ true

@@ -7,7 +7,7 @@ ghost use lib.ListN.{length};
 ghost use Rattle.replication.specs.Log.{walk};
 ghost use Rattle.replication.specs.Values.{walkable};
 
-// The first record of the transaction `left` further on than the one at record r.
+// The first record of the transaction `left` further on than the one at record r: two transactions at each call.
 pub fn walk(log: &[u8], left: u32, r: u32) -> u32
     requires { ⌜ (length (now log) ≡ 40960) × (walkable left (now log) r ≡ true) ⌝ }
     ensures { λ v. ⌜ v ≡ walk left (now (log .entry)) r ⌝ }
@@ -16,5 +16,9 @@ pub fn walk(log: &[u8], left: u32, r: u32) -> u32
         return r;
     }
     let links = Record::at(log, r);
-    walk(log, left - 1, links.next_transaction)
+    if left == 1 {
+        return links.next_transaction;
+    }
+    let later = Record::at(log, links.next_transaction);
+    walk(log, left - 2, later.next_transaction)
 }

@@ -76,9 +76,12 @@ loop-again c = let n = c .before .before in
     let t = e .before .before in
     let g = t .before .before .before .args in
     let s = chain-step (g .log .now) (t .loop .left) (t .loop .first) (t .loop .r) (g .used + 1) _ (e .before .loop-test .taken) (omega arith) (n .span .ensures) (c .before .if3 .left) in
-    let x : ℕ → Bool = λ (k : ℕ). chainForm (t .loop .left - 1) (g .log .now) k (t .loop .r + n .span .result) (g .used + 1) in
-    (omega arith, next-before c, t .loop .inv .2 ∙ ap (λ (b : Bool). t .loop .ok && b) s ∙ sym (and-assoc (t .loop .ok) (eqb (t .loop .first) (t .loop .r)) (x (nextTransaction (g .log .now) (t .loop .r))))
-    ∙ ap (λ (k : ℕ). (t .loop .ok && eqb (t .loop .first) (t .loop .r)) && x k) (sym (ap (λ (y : Record). y .«next_transaction») (c .at .ensures .0))))
+    let x : ℕ → Bool = λ (k : ℕ). chainForm (t .loop .left - 1) (g .log .now) k (t .loop .r + n .span .result) (g .used + 1) in (
+      omega arith,
+      next-before c,
+      t .loop .inv .2 ∙ ap (λ (b : Bool). t .loop .ok && b) s ∙ sym (and-assoc (t .loop .ok) (eqb (t .loop .first) (t .loop .r)) (x (nextTransaction (g .log .now) (t .loop .r))))
+          ∙ ap (λ (k : ℕ). (t .loop .ok && eqb (t .loop .first) (t .loop .r)) && x k) (sym (ap (λ (y : Record). y .«next_transaction») (c .at .ensures .0))),
+    )
 
 -- src/chain.rt:67:31
 add-result : tie.Need-add-result Inv-loop μ-loop
