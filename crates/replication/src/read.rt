@@ -1,6 +1,7 @@
 // Read: answered from the studio's copy where it has reached the session's number, else stored.
 use crate::answer::ReadAnswer;
 use crate::answer::ReadResult;
+use crate::cell;
 use crate::control::Control;
 use crate::output;
 use crate::rows;
@@ -33,11 +34,7 @@ pub fn store(sessions: &mut [u8], session: u32, x: &[u8], number: u32)
     requires { ⌜ (length (now x) ≡ 80) × (number < 65536) ⌝ }
     ensures { λ _. ⌜ now (sessions .exit) ≡ withSession (now (sessions .entry)) session (withSequence number (now (x .entry))) ⌝ }
 {
-    let start = Session::SIZE * (session as usize - 1);
-    let end = start + Session::SIZE;
-    let own = &mut sessions[start..end];
-    bytes::copy_all(own, x);
-    bytes::put_u16(own, 2, number);
+    cell::fill(sessions, session, x, 2, number);
 }
 
 // A session has another number.
@@ -46,9 +43,7 @@ pub fn put_number(sessions: &mut [u8], session: u32, number: u32)
     requires { ⌜ number < 65536 ⌝ }
     ensures { λ _. ⌜ now (sessions .exit) ≡ withSession (now (sessions .entry)) session (withSequence number (sessionAt (now (sessions .entry)) session)) ⌝ }
 {
-    let start = Session::SIZE * (session as usize - 1);
-    let end = start + Session::SIZE;
-    bytes::put_u16(&mut sessions[start..end], 2, number);
+    cell::put(sessions, session, 2, number);
 }
 
 // A session's number, its studio, and the state that the studio's copy has reached.
