@@ -1,6 +1,6 @@
 -- Laws of carts and copies.
 use Prim.Native.Nat.{ℕ, zero, suc, _+_, _-_, _*_, _<_, _≤_}
-use mathlib.Core.Path.{_≡_, refl, ap}
+use mathlib.Core.Path.{_≡_, refl, ap, _∙_}
 use mathlib.Core.Bool.{Bool, true, false, cond, _&&_, and-assoc, and-true, or-false}
 use mathlib.Core.List.{List, [], _∷_}
 use native.Mathlib.Nat.{add-sub-cancel}
@@ -10,8 +10,9 @@ use lib.ListN.{length, getD, take, drop, drop-of-length-le}
 use lib.Seq.{drop-cons, take-nil, drop-nil}
 use lib.Dec.{ltb, eqb, eqb·suc-zero}
 use borrow.Author.Tests.{ltb-true, ltb-false, ne-eqb}
-use Rattle.carts.specs.Bytes.{byte, within, isZero, every, allZero, all}
-use Rattle.carts.specs.Cart.{cartAt, printable, titleForm, held, heldForm, cartForm}
+use Rattle.carts.specs.Bytes.{byte, u32, within, isZero, every, allZero, all}
+use Rattle.carts.specs.Cart.{cartAt, printable, titleForm, noAudio, held, heldForm, cartForm}
+use Rattle.carts.proofs.FieldLaws.{Head, bytes, by-fields}
 use Rattle.carts.proofs.PartLaws.{length-part}
 
 -- a cart of a copy has 80 bytes
@@ -47,6 +48,24 @@ unfolding titleForm all every
 title-asked true n t = ap (λ b. within 1 64 n && (every printable (take n t) && b)) (and-true (allZero (drop n t)))
 title-asked false zero t = and-true (allZero t)
 title-asked false (suc n) t = rw eqb·suc-zero
+
+-- a number is 0 where each of its bytes is
+four-zero : (a b c d : ℕ) (r : Bool) → (eqb a 0 && (eqb b 0 && (eqb c 0 && (eqb d 0 && r)))) ≡ (eqb (a + 256 * b + 65536 * c + 16777216 * d) 0 && r)
+four-zero zero zero zero zero r = refl
+four-zero (suc a) b c d r = rw (eqb·suc-zero, ne-eqb (suc a + 256 * b + 65536 * c + 16777216 * d) 0 (λ e. omega arith))
+four-zero zero (suc b) c d r = rw (eqb·suc-zero, ne-eqb (0 + 256 * suc b + 65536 * c + 16777216 * d) 0 (λ e. omega arith))
+four-zero zero zero (suc c) d r = rw (eqb·suc-zero, ne-eqb (0 + 256 * 0 + 65536 * suc c + 16777216 * d) 0 (λ e. omega arith))
+four-zero zero zero zero (suc d) r = rw (eqb·suc-zero, ne-eqb (0 + 256 * 0 + 65536 * 0 + 16777216 * suc d) 0 (λ e. omega arith))
+
+-- so audio and length are absent where both are 0
+both-zero : (h : Head) (t : List ℕ) → 0 ≤ length t → noAudio (bytes h t) ≡ (eqb (u32 (bytes h t) 4) 0 && eqb (u32 (bytes h t) 8) 0)
+unfolding noAudio allZero every u32
+both-zero h t g =
+    four-zero (h .b4) (h .b5) (h .b6) (h .b7) (eqb (h .b8) 0 && (eqb (h .b9) 0 && (eqb (h .b10) 0 && (eqb (h .b11) 0 && true))))
+    ∙ ap (λ b. eqb (u32 (bytes h t) 4) 0 && b) (four-zero (h .b8) (h .b9) (h .b10) (h .b11) true ∙ and-true (eqb (u32 (bytes h t) 8) 0))
+
+pub no-audio : (s : List ℕ) → length s ≡ 80 → noAudio s ≡ (eqb (u32 s 4) 0 && eqb (u32 s 8) 0)
+no-audio s l = by-fields (λ (s : List ℕ). noAudio s ≡ (eqb (u32 s 4) 0 && eqb (u32 s 8) 0)) 0 both-zero s (omega arith)
 
 -- a cart's first byte says which form it must have
 pub cart-empty : (c : ℕ) (s : List ℕ) → byte s 0 ≡ 0 → cartForm c s ≡ allZero s

@@ -103,7 +103,7 @@ pub fn is_audio_as_asked(s: &[u8], asked: bool) -> bool
     is_as_asked(
         asked,
         (1 <= audio) & (1 <= milliseconds),
-        bytes::all_zero(&s[4..12]),
+        (audio == 0) & (milliseconds == 0),
     )
 }
 
