@@ -1,0 +1,57 @@
+-- Laws of text: runs, numbers in base ten, texts of different lengths.
+use Prim.Native.Nat.{ℕ, zero, suc, _+_, _*_, _-_, _<_, _≤_}
+use mathlib.Core.Path.{_≡_, refl, sym, ap, _∙_}
+use mathlib.Core.Bool.{Bool, true, false, cond, and-false}
+use mathlib.Core.List.{List, [], _∷_}
+use native.Mathlib.Numerals.{add-one}
+use native.Mathlib.Omega.{arith}
+use lib.ListN.{length, getD, drop, drop-of-length-le}
+use lib.Seq.{drop-cons}
+use borrow.Author.Tests.{le-leb, lt-leb}
+use lib.Dec.{leb, eqb}
+use Rattle.carts.specs.Bytes.{pairwise}
+use Rattle.transcript.specs.declared.text.Number.{Number}
+use Rattle.transcript.specs.declared.text.Number.the-variants.{Value, Missing, TooLarge}
+use Rattle.transcript.specs.Text.{numeral, numberOf}
+
+-- texts of different lengths differ
+pub unlike : (r : ℕ → ℕ → Bool) (a b : List ℕ) → (length a ≡ length b → ⊥) → pairwise r a b ≡ false
+unfolding pairwise
+unlike r [] [] h = absurd (h refl)
+unlike r [] (y ∷ b) h = refl
+unlike r (x ∷ a) [] h = refl
+unlike r (x ∷ a) (y ∷ b) h = rw (unlike r a b (λ e. h (ap suc e))) (and-false (r x y))
+
+-- a number does not fall as digits are added
+numeral-up : (v : ℕ) (ds : List ℕ) → v ≤ numeral v ds
+unfolding numeral
+numeral-up v [] = omega arith
+numeral-up v (d ∷ ds) = let h = numeral-up (10 * v + (d - 48)) ds in omega arith
+
+-- a turn of the loop that reads digits, and its end
+pub numeral-more : (ds : List ℕ) (i v : ℕ) → i < length ds → numeral v (drop i ds) ≡ numeral (10 * v + (getD ds i 0 - 48)) (drop (i + 1) ds)
+unfolding numeral
+numeral-more ds i v h = rw (add-one, drop-cons ds i 0)
+
+pub numeral-end : (ds : List ℕ) (i v : ℕ) → length ds ≤ i → numeral v (drop i ds) ≡ v
+unfolding numeral
+numeral-end ds i v h = rw (drop-of-length-le ds h)
+
+-- what is said of digits
+pub number-none : (most : ℕ) (ds : List ℕ) → length ds ≡ 0 → Missing ≡ numberOf most ds
+unfolding numberOf
+number-none most [] e = refl
+number-none most (d ∷ ds) e = absurd (omega arith)
+
+pub number-fits : (most v : ℕ) (ds : List ℕ) → (length ds ≡ 0 → ⊥) → numeral 0 ds ≡ v → v ≤ most → Value v ≡ numberOf most ds
+unfolding numberOf
+number-fits most v [] n e h = absurd (n refl)
+number-fits most v (d ∷ ds) n e h = rw (e, le-leb v most h)
+
+pub number-large : (most v : ℕ) (ds rest : List ℕ) → (length ds ≡ 0 → ⊥) → numeral 0 ds ≡ numeral v rest → most < v → TooLarge ≡ numberOf most ds
+unfolding numberOf
+number-large most v [] rest n e h = absurd (n refl)
+number-large most v (d ∷ ds) rest n e h =
+    let u = numeral-up v rest in
+    let l : most < numeral v rest = omega arith in
+    rw (e, lt-leb (numeral v rest) most l)

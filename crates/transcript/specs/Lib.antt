@@ -1,0 +1,3 @@
+-- What the contracts of transcripts cite.
+pub mod Build
+pub mod Text

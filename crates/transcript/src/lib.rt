@@ -1,0 +1,3 @@
+// Transcripts: a person's lines read as calls, and the one-copy order of their answers replayed on a single library.
+pub mod build;
+pub mod text;
