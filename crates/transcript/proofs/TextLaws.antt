@@ -7,7 +7,7 @@ use native.Mathlib.Numerals.{add-one}
 use native.Mathlib.Omega.{arith}
 use lib.ListN.{length, getD, drop, drop-of-length-le}
 use lib.Seq.{drop-cons}
-use borrow.Author.Tests.{le-leb, lt-leb}
+use borrow.Author.Tests.{leb-true, le-leb, lt-leb}
 use lib.Dec.{leb, eqb}
 use Rattle.carts.specs.Bytes.{pairwise}
 use Rattle.transcript.specs.declared.text.Number.{Number}
@@ -55,3 +55,13 @@ number-large most v (d ∷ ds) rest n e h =
     let u = numeral-up v rest in
     let l : most < numeral v rest = omega arith in
     rw (e, lt-leb (numeral v rest) most l)
+
+value-at-most : (b : Bool) (n v most : ℕ) → (b ≡ true → n ≤ most) → cond b (Value n) TooLarge ≡ Value v → v ≤ most
+value-at-most true n v most h e = let z : n ≡ v = cc in let l = h refl in omega arith
+value-at-most false n v most h e = let z : _≡_ {A = ℕ} 0 1 = cc in absurd (omega arith)
+
+-- a value that is read is at most its bound
+pub number-at-most : (most v : ℕ) (ds : List ℕ) → numberOf most ds ≡ Value v → v ≤ most
+unfolding numberOf
+number-at-most most v [] e = let z : _≡_ {A = ℕ} 0 1 = cc in absurd (omega arith)
+number-at-most most v (d ∷ ds) e = let n = numeral 0 (d ∷ ds) in value-at-most (leb n most) n v most (leb-true n most) e

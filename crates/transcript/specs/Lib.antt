@@ -1,3 +1,4 @@
 -- What the contracts of transcripts cite.
 pub mod Build
+pub mod Cursor
 pub mod Text

@@ -1,3 +1,4 @@
 // Transcripts: a person's lines read as calls, and the one-copy order of their answers replayed on a single library.
 pub mod build;
+pub mod cursor;
 pub mod text;
