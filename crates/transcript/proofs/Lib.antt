@@ -1,3 +1,4 @@
 -- Laws for the proofs of this crate.
 pub mod BuildLaws
+pub mod CursorLaws
 pub mod TextLaws

@@ -12,7 +12,8 @@ use lib.Dec.{leb, eqb}
 use Rattle.carts.specs.Bytes.{pairwise}
 use Rattle.transcript.specs.declared.text.Number.{Number}
 use Rattle.transcript.specs.declared.text.Number.the-variants.{Value, Missing, TooLarge}
-use Rattle.transcript.specs.Text.{numeral, numberOf}
+use Rattle.transcript.specs.declared.text.Class.{Class}
+use Rattle.transcript.specs.Text.{inClass, runLength, numeral, numberOf}
 
 -- texts of different lengths differ
 pub unlike : (r : ℕ → ℕ → Bool) (a b : List ℕ) → (length a ≡ length b → ⊥) → pairwise r a b ≡ false
@@ -21,6 +22,19 @@ unlike r [] [] h = absurd (h refl)
 unlike r [] (y ∷ b) h = refl
 unlike r (x ∷ a) [] h = refl
 unlike r (x ∷ a) (y ∷ b) h = rw (unlike r a b (λ e. h (ap suc e))) (and-false (r x y))
+
+-- a turn of the loop along a run, and its two ends
+pub run-more : (class : Class) (s : List ℕ) (i : ℕ) → i < length s → inClass class (getD s i 0) ≡ true → i + runLength class (drop i s) ≡ i + 1 + runLength class (drop (i + 1) s)
+unfolding runLength
+run-more class s i h e = rw (add-one, drop-cons s i 0, e) (omega arith)
+
+pub run-stops : (class : Class) (s : List ℕ) (i : ℕ) → i < length s → inClass class (getD s i 0) ≡ false → i + runLength class (drop i s) ≡ i
+unfolding runLength
+run-stops class s i h e = rw (drop-cons s i 0, e) (omega arith)
+
+pub run-ends : (class : Class) (s : List ℕ) (i : ℕ) → length s ≤ i → i + runLength class (drop i s) ≡ i
+unfolding runLength
+run-ends class s i h = rw (drop-of-length-le s h) (omega arith)
 
 -- a number does not fall as digits are added
 numeral-up : (v : ℕ) (ds : List ℕ) → v ≤ numeral v ds

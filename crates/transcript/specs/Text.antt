@@ -1,11 +1,10 @@
 -- Text: classes of bytes, runs, and numbers in base ten.
-use mathlib.Core.Path.{_≡_}
-use mathlib.Core.Bool.{Bool, true, false, cond, not, _&&_, _||_}
+use mathlib.Core.Bool.{Bool, cond, not, _&&_, _||_}
 use mathlib.Core.List.{List, [], _∷_}
-use Prim.Native.Nat.{ℕ, _+_, _*_, _-_, _<_, _≤_}
-use lib.ListN.{length}
+use Prim.Native.Nat.{ℕ, suc, _+_, _*_, _-_}
+use lib.ListN.{length, drop}
 use lib.Dec.{leb, eqb}
-use Rattle.carts.specs.Bytes.{byte}
+use Rattle.carts.specs.Bytes.{part}
 use Rattle.transcript.specs.declared.text.Class.{Class}
 use Rattle.transcript.specs.declared.text.Class.the-variants.{Space, Word, Digit, Other}
 use Rattle.transcript.specs.declared.text.Number.{Number}
@@ -18,12 +17,18 @@ inClass Word b = (leb 97 b && leb b 122) || eqb b 45
 inClass Digit b = leb 48 b && leb b 57
 inClass (Other x) b = not (eqb b x)
 
--- r is where the run of bytes of a class from `at` on ends
-pub record Run (s : List ℕ) (at : ℕ) (class : Class) (r : ℕ) : Type 0 where
-  pub low : at ≤ r
-  pub high : at ≤ length s → r ≤ length s
-  pub inside : (k : ℕ) → k < r → at ≤ k → inClass class (byte s k) ≡ true
-  pub stops : r < length s → inClass class (byte s r) ≡ false
+-- how many bytes of a class a text begins with
+unfoldable pub runLength : Class → List ℕ → ℕ
+runLength class [] = 0
+runLength class (x ∷ xs) = let more = suc (runLength class xs) in cond (inClass class x) more 0
+
+-- where the run of bytes of a class from `at` on ends
+abbrev pub runEnd : List ℕ → ℕ → Class → ℕ
+runEnd s at class = at + runLength class (drop at s)
+
+-- n bytes from `at` on, or none where they are not all there
+abbrev pub partIn : List ℕ → ℕ → ℕ → List ℕ
+partIn s at n = cond (leb (at + n) (length s)) (part s at n) []
 
 -- the number that digits say in base ten, after v
 unfoldable pub numeral : ℕ → List ℕ → ℕ

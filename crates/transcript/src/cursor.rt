@@ -7,7 +7,7 @@ ghost use mathlib.Core.Path.{_≡_};
 ghost use mathlib.Core.Bool.{true};
 ghost use Prim.Native.Nat.{ℕ, _+_, _*_, _-_, _<_, _≤_};
 ghost use lib.ListN.{length};
-ghost use Rattle.transcript.specs.Cursor.{movedTo, stoppedBy, Titled};
+ghost use Rattle.transcript.specs.Cursor.{movedTo, stoppedBy, nextByte, nextWord, wordEnd, pastWord, pastMark, numberAt, endedAt, Titled};
 
 // What can be wrong with a line.
 pub enum Mistake {
@@ -94,25 +94,33 @@ impl Cursor {
 }
 
 // The next byte that is no space; 0 at the line's end.
-pub fn peek(s: &[u8], c: Cursor) -> u8 {
+pub fn peek(s: &[u8], c: Cursor) -> u8
+    ensures { λ r. ⌜ r ≡ nextByte (now (s .entry)) c ⌝ }
+{
     text::letter(s, text::run_end(s, c.at, Class::Space))
 }
 
 // The word at the next byte that is no space.
-pub fn peek_word(s: &[u8], c: Cursor) -> &[u8] {
+pub fn peek_word(s: &[u8], c: Cursor) -> &[u8]
+    ensures { λ r. ⌜ now r ≡ nextWord (now (s .entry)) c ⌝ }
+{
     let start = text::run_end(s, c.at, Class::Space);
     let end = text::run_end(s, start, Class::Word);
     text::part_of(s, start, end - start)
 }
 
 // Past the word at the next byte that is no space.
-pub fn past_word(s: &[u8], c: Cursor) -> Cursor {
+pub fn past_word(s: &[u8], c: Cursor) -> Cursor
+    ensures { λ r. ⌜ r ≡ movedTo c (wordEnd (now (s .entry)) c) ⌝ }
+{
     let start = text::run_end(s, c.at, Class::Space);
     c.moved(text::run_end(s, start, Class::Word))
 }
 
 // Past a word that has to stand here, or the mistake.
-pub fn word(s: &[u8], c: Cursor, expected: &[u8], mistake: Mistake) -> Cursor {
+pub fn word(s: &[u8], c: Cursor, expected: &[u8], mistake: Mistake) -> Cursor
+    ensures { λ r. ⌜ r ≡ pastWord (now (s .entry)) c (now (expected .entry)) mistake ⌝ }
+{
     if text::same(peek_word(s, c), expected) {
         return past_word(s, c);
     }
@@ -120,19 +128,22 @@ pub fn word(s: &[u8], c: Cursor, expected: &[u8], mistake: Mistake) -> Cursor {
 }
 
 // Past a byte that has to stand here, or the mistake.
-pub fn mark(s: &[u8], c: Cursor, expected: u8, mistake: Mistake) -> Cursor {
+pub fn mark(s: &[u8], c: Cursor, expected: u8, mistake: Mistake) -> Cursor
+    ensures { λ r. ⌜ r ≡ pastMark (now (s .entry)) c expected mistake ⌝ }
+{
     let at = text::run_end(s, c.at, Class::Space);
-    if at < s.len() {
-        if s[at] == expected {
-            return c.moved(at + 1);
-        }
+    if s.len() <= at {
+        return c.stopped(mistake);
+    }
+    if s[at] == expected {
+        return c.moved(at + 1);
     }
     c.stopped(mistake)
 }
 
 // A number of at most a bound.
 pub fn number(s: &[u8], c: Cursor, most: u32) -> Taken
-    ensures { λ r. ⌜ r .value ≤ most ⌝ }
+    ensures { λ r. ⌜ (r ≡ numberAt (now (s .entry)) c most) × (r .value ≤ most) ⌝ }
 {
     let start = text::run_end(s, c.at, Class::Space);
     let end = text::run_end(s, start, Class::Digit);
@@ -198,7 +209,9 @@ pub fn title(s: &[u8], c: Cursor) -> Quoted
 }
 
 // Nothing more on the line but a comment, or the mistake.
-pub fn ended(s: &[u8], c: Cursor) -> Cursor {
+pub fn ended(s: &[u8], c: Cursor) -> Cursor
+    ensures { λ r. ⌜ r ≡ endedAt (now (s .entry)) c ⌝ }
+{
     let next = peek(s, c);
     if (next == 0) | (next == 35) {
         return c;

@@ -1,13 +1,11 @@
 // Text: bytes, parts, runs and numbers of a line. Every function is total: a place past the end reads as 0.
 use carts::bytes;
 ghost use mathlib.Core.Path.{_≡_};
-ghost use mathlib.Core.Bool.{true, false, cond};
-ghost use mathlib.Core.List.{[]};
 ghost use Prim.Native.Nat.{ℕ, _+_, _*_, _-_, _<_, _≤_};
 ghost use lib.ListN.{length};
-ghost use lib.Dec.{leb, eqb};
-ghost use Rattle.carts.specs.Bytes.{byte, part, pairwise};
-ghost use Rattle.transcript.specs.Text.{inClass, Run, numeral, numberOf};
+ghost use lib.Dec.{eqb};
+ghost use Rattle.carts.specs.Bytes.{byte, pairwise};
+ghost use Rattle.transcript.specs.Text.{inClass, runEnd, partIn, numberOf};
 
 // A class of bytes: spaces, letters of a word, digits, or every byte but one.
 pub enum Class {
@@ -36,7 +34,7 @@ pub fn letter(s: &[u8], at: usize) -> u8
 
 // The n bytes from a place on, or none where they are not all there.
 pub fn part_of(s: &[u8], at: usize, n: usize) -> &[u8]
-    ensures { λ r. ⌜ now r ≡ cond (leb (at + n) (length (now (s .entry)))) (part (now (s .entry)) at n) [] ⌝ }
+    ensures { λ r. ⌜ now r ≡ partIn (now (s .entry)) at n ⌝ }
 {
     if s.len() < at {
         return &s[0..0];
@@ -71,7 +69,7 @@ pub fn is_in(class: Class, b: u8) -> bool
 
 // Where a run of bytes of one class, from a place on, ends.
 pub fn run_end(s: &[u8], at: usize, class: Class) -> usize
-    ensures { λ r. ⌜ Run (now (s .entry)) at class r ⌝ }
+    ensures { λ r. ⌜ (r ≡ runEnd (now (s .entry)) at class) × (at ≤ r) × (at ≤ length (now (s .entry)) → r ≤ length (now (s .entry))) ⌝ }
 {
     let mut i = at;
     while i < s.len() {
