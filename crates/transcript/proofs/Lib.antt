@@ -1,4 +1,5 @@
 -- Laws for the proofs of this crate.
 pub mod BuildLaws
 pub mod CursorLaws
+pub mod ParseLaws
 pub mod TextLaws

@@ -1,6 +1,6 @@
 -- The bytes of operations, requests and studios.
 use mathlib.Core.List.{List, [], _∷_, _++_}
-use Prim.Native.Nat.{ℕ, _+_, _-_, _/_, _%_}
+use Prim.Native.Nat.{ℕ, _-_, _*_, _/_, _%_}
 use lib.ListN.{length, take}
 use Rattle.carts.specs.Bytes.{zeros, u16Bytes}
 
@@ -16,3 +16,20 @@ titleField title = take 64 title ++ zeros (64 - length title)
 unfoldable pub operationBytes : ℕ → ℕ → ℕ → ℕ → List ℕ → List ℕ
 operationBytes kind cart audio milliseconds title =
     kind ∷ length title ∷ (u16Bytes cart ++ (u32Bytes audio ++ (u32Bytes milliseconds ++ (zeros 4 ++ titleField title))))
+
+-- u16 numbers, one after the other
+unfoldable pub u16List : List ℕ → List ℕ
+u16List [] = []
+u16List (n ∷ ns) = u16Bytes (n % 65536) ++ u16List ns
+
+-- a request by at most 32 numbers
+unfoldable pub numbersBytes : List ℕ → List ℕ
+numbersBytes ns = 1 ∷ length ns ∷ (zeros 14 ++ (u16List ns ++ zeros (64 - 2 * length ns)))
+
+-- at most 16 studio bytes, the sessions left over unused
+unfoldable pub lowBytes : List ℕ → List ℕ
+lowBytes [] = []
+lowBytes (n ∷ ns) = n % 256 ∷ lowBytes ns
+
+unfoldable pub studioBytes : List ℕ → List ℕ
+studioBytes ns = lowBytes ns ++ zeros (16 - length ns)

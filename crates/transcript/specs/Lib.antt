@@ -1,4 +1,5 @@
 -- What the contracts of transcripts cite.
 pub mod Build
 pub mod Cursor
+pub mod Parse
 pub mod Text

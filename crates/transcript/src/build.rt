@@ -5,7 +5,7 @@ ghost use Prim.Native.Nat.{ℕ, _+_, _*_, _-_, _<_, _≤_};
 ghost use mathlib.Core.List.{_++_};
 ghost use lib.ListN.{length, take, drop};
 ghost use Rattle.carts.specs.Bytes.{over};
-ghost use Rattle.transcript.specs.Build.{u32Bytes, operationBytes};
+ghost use Rattle.transcript.specs.Build.{u32Bytes, operationBytes, u16List, numbersBytes, studioBytes};
 
 // The u32 at an index becomes v.
 pub fn put_u32(s: &mut [u8], at: usize, v: u32)
@@ -43,4 +43,40 @@ pub fn put_operation(s: &mut [u8], kind: u8, cart: u32, audio: u32, milliseconds
     put_u32(s, 4, audio);
     put_u32(s, 8, milliseconds);
     put_title(&mut s[16..80], title);
+}
+
+// A request by at most 32 cart numbers.
+pub fn put_numbers(request: &mut [u8], numbers: &[u32])
+    requires { ⌜ (length (now request) ≡ 80) × (length (now numbers) ≤ 32) ⌝ }
+    ensures { λ _. ⌜ now (request .exit) ≡ numbersBytes (now (numbers .entry)) ⌝ }
+{
+    bytes::clear(request);
+    request[0] = 1;
+    request[1] = numbers.len() as u8;
+    put_u16s(&mut request[16..80], numbers);
+}
+
+// Numbers of two bytes, one after the other at the start of a field.
+fn put_u16s(field: &mut [u8], numbers: &[u32])
+    requires { ⌜ (length (now field) ≡ 64) × (length (now numbers) ≤ 32) ⌝ }
+    ensures { λ _. ⌜ now (field .exit) ≡ u16List (now (numbers .entry)) ++ drop (2 * length (now (numbers .entry))) (now (field .entry)) ⌝ }
+{
+    let mut i = 0;
+    while i < numbers.len() {
+        bytes::put_u16(field, 2 * i, numbers[i] % 65536);
+        i += 1;
+    }
+}
+
+// The studios of at most 16 sessions; the sessions left over are unused.
+pub fn put_studios(places: &mut [u8], studios: &[u32])
+    requires { ⌜ (length (now places) ≡ 16) × (length (now studios) ≤ 16) ⌝ }
+    ensures { λ _. ⌜ now (places .exit) ≡ studioBytes (now (studios .entry)) ⌝ }
+{
+    bytes::clear(places);
+    let mut i = 0;
+    while i < studios.len() {
+        places[i] = (studios[i] % 256) as u8;
+        i += 1;
+    }
 }

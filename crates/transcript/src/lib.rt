@@ -1,4 +1,5 @@
 // Transcripts: a person's lines read as calls, and the one-copy order of their answers replayed on a single library.
 pub mod build;
 pub mod cursor;
+pub mod parse;
 pub mod text;
