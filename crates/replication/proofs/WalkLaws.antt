@@ -1,6 +1,6 @@
 -- Laws of the walk: one transaction at a time, and where it comes to in a log of the layout.
 use mathlib.Core.Path.{_≡_, refl, sym, ap, _∙_}
-use mathlib.Core.Bool.{Bool, true, false, cond, _&&_}
+use mathlib.Core.Bool.{true, _&&_}
 use mathlib.Core.List.{List}
 use Prim.Native.Nat.{ℕ, zero, suc, _+_, _-_, _≤_, _<_}
 use native.Mathlib.Omega.{arith}
@@ -40,8 +40,8 @@ module _ (n : ℕ) (log : List ℕ) (r : ℕ) (h : n ≡ 0 → ⊥) where
     pub walk-later : (x : Record) → x ≡ linksOf log r → walkable (n - 1) log (x .«next_transaction») ≡ true
     walk-later x e = rw e (and-right (within 1 512 r) (walkable (n - 1) log (nextTransaction log r)) both)
 
--- a chain of n transactions can be walked along to each of them
-chain-walkable : (n : ℕ) (log : List ℕ) (first r end : ℕ) → 1 ≤ r → end ≤ 513 → chainForm n log first r end ≡ true → (k : ℕ) → k < n → walkable k log first ≡ true
+-- a chain of n transactions can be walked along to each of them, and past the last
+chain-walkable : (n : ℕ) (log : List ℕ) (first r end : ℕ) → 1 ≤ r → end ≤ 513 → chainForm n log first r end ≡ true → (k : ℕ) → k ≤ n → walkable k log first ≡ true
 unfolding walkable
 chain-walkable n log first r end a b h zero l = refl
 chain-walkable zero log first r end a b h (suc k) l = let z : ⊥ = omega arith in absurd z
@@ -51,10 +51,13 @@ chain-walkable (suc n) log first r end a b h (suc k) l =
     let fits = x .fits in
     rw (x .same, within-of 1 512 r a (omega arith)) (chain-walkable n log (nextTransaction log r) (r + x .size) end (omega arith) b (x .rest) k (omega arith))
 
+pub whole-walkable : (c : Control) (m : Memory) → Formed c m → (k : ℕ) → k ≤ c .commits → walkable k (m .log) (firstRecord c) ≡ true
+whole-walkable c m f k l = let u = f .log .used in chain-walkable (c .commits) (m .log) (firstRecord c) 1 (c .used + 1) (omega arith) (omega arith) (f .log .chain) k l
+
 -- in a log of the layout, to the transaction k further on than the first
 module _ (c : Control) (m : Memory) (f : Formed c m) (k : ℕ) (l : k < c .commits) where
   pub log-walkable : walkable k (m .log) (firstRecord c) ≡ true
-  log-walkable = let u = f .log .used in chain-walkable (c .commits) (m .log) (firstRecord c) 1 (c .used + 1) (omega arith) (omega arith) (f .log .chain) k l
+  log-walkable = whole-walkable c m f k (omega arith)
 
   at-transaction : Placed (m .log) 1 (c .used + 1) (walk k (m .log) (firstRecord c))
   at-transaction = placed (c .commits) (m .log) (firstRecord c) 1 (c .used + 1) (f .log .chain) k l

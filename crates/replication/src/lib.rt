@@ -1,6 +1,9 @@
 // Log, sessions and studios of document 01: control, and what the calls answer.
 pub mod answer;
+pub mod append;
+pub mod cell;
 pub mod chain;
+pub mod commit;
 pub mod control;
 pub mod layout;
 pub mod record;

@@ -1,0 +1,161 @@
+-- Laws of commit: rows 4 to 8, what is known where no row stops it, and an accepted commit.
+use Prim.Native.Nat.{ℕ, _+_, _-_, _*_, _/_, _%_, _<_, _≤_}
+use mathlib.Core.Path.{_≡_, refl, sym, ap, _∙_}
+use mathlib.Core.Bool.{Bool, true, false, cond, not}
+use mathlib.Core.List.{List, [], _∷_, _++_}
+use native.Mathlib.Omega.{arith}
+use lib.ListN.{length}
+use lib.Dec.{eqb, ltb}
+use borrow.Author.Tests.{lt-ltb, le-ltb, ltb-false}
+use Rattle.carts.specs.Bytes.{part, over, u16Bytes, within, every, allZero}
+use Rattle.carts.specs.Operation.{operationFields, operationForm, operationsOf, meetsAll, actAll}
+use Rattle.carts.proofs.TestLaws.{all-at, every-at, at-every, within-low, within-high}
+use Rattle.replication.specs.Answer.{refused, done}
+use Rattle.replication.specs.Memory.{Memory, memory, copyAt, withCopy, sessionAt, withSession, withSequence, studioOf}
+use Rattle.replication.specs.Log.{noRoom, firstRecord, appended}
+use Rattle.replication.specs.Request.{requestOf, isWaiting}
+use Rattle.replication.specs.Rows.{Row, row, stopped, sizeForm, memoryRows, sessionRow, commitRows}
+use Rattle.replication.specs.Values.{sessionValue, waitsBy, walkable}
+use Rattle.replication.specs.Calls.{after, commit, refusedCommit, committed}
+use Rattle.replication.specs.declared.control.Control.{Control}
+use Rattle.replication.specs.declared.session.Session.{Session}
+use Rattle.replication.proofs.RowLaws.{numbered, row-stops, row-passes, none-stops, session-numbered, unless-stopped, unless-accepted}
+use Rattle.replication.proofs.DecideLaws.{by-rest, accepted-formed, accepted-who, accepted-rest, right-session}
+use Rattle.replication.proofs.RequestLaws.{waiting-is}
+use Rattle.replication.proofs.AppendLaws.{length-operations}
+use Rattle.replication.proofs.WalkLaws.{whole-walkable}
+use Rattle.replication.proofs.Chains.{few-commits}
+use Rattle.replication.proofs.Formed.{Formed}
+
+-- the size, and the operations as they are stored
+pub size-few : (bytes : List ℕ) → sizeForm bytes ≡ true → (1 ≤ length bytes / 80) × (length bytes / 80 ≤ 8)
+unfolding sizeForm
+size-few bytes e =
+    let w : within 80 640 (length bytes) ≡ true = all-at 0 (within 80 640 (length bytes) ∷ eqb (length bytes % 80) 0 ∷ []) e in
+    let low = within-low 80 640 (length bytes) w in
+    let high = within-high 80 640 (length bytes) w in
+    (omega arith, omega arith)
+
+form-fields : (op : List ℕ) → operationForm op ≡ true → operationFields op ≡ true
+unfolding operationForm
+form-fields op e = all-at 0 (operationFields op ∷ allZero (part op 12 4) ∷ []) e
+
+pub forms-fields : (ops : List (List ℕ)) → every operationForm ops ≡ true → every operationFields ops ≡ true
+forms-fields ops e = at-every operationFields ops [] (λ i l. form-fields _ (every-at operationForm ops [] i e l))
+
+-- rows 5 to 8
+abbrev pub OperationRows : ℕ → List ℕ → List ℕ → List Row
+OperationRows used primary bytes =
+    row 5 (not (sizeForm bytes))
+    ∷ row 6 (not (every operationForm (operationsOf bytes)))
+    ∷ row 7 (noRoom used (length (operationsOf bytes)))
+    ∷ row 8 (not (meetsAll primary (operationsOf bytes)))
+    ∷ []
+
+module _ (used : ℕ) (primary bytes : List ℕ) where
+  pub size-wrong : sizeForm bytes ≡ false → 5 ≡ stopped (OperationRows used primary bytes)
+  unfolding stopped
+  size-wrong e = rw e
+
+  -- where none stops the commit
+  pub right-operations : stopped (OperationRows used primary bytes) ≡ 0
+      → (sizeForm bytes ≡ true) × ((every operationForm (operationsOf bytes) ≡ true) × (used + length bytes / 80 ≤ 512))
+  unfolding stopped noRoom
+  right-operations e = go (sizeForm bytes) (every operationForm (operationsOf bytes)) (ltb 512 (used + length (operationsOf bytes))) (meetsAll primary (operationsOf bytes)) refl e
+    where
+      go : (a b c d : Bool) → ltb 512 (used + length (operationsOf bytes)) ≡ c → _≡_ {A = ℕ} (cond (not a) 5 (cond (not b) 6 (cond c 7 (cond (not d) 8 0)))) 0
+          → (a ≡ true) × ((b ≡ true) × (used + length bytes / 80 ≤ 512))
+      go true true true d f y = absurd (omega arith)
+      go true true false d f y = (refl, (refl, rw (length-operations bytes) at (ltb-false 512 (used + length (operationsOf bytes)) f)))
+      go true false c d f y = absurd (omega arith)
+      go false b c d f y = absurd (omega arith)
+
+  module _ (s : sizeForm bytes ≡ true) where
+    pub form-wrong : every operationForm (operationsOf bytes) ≡ false → 6 ≡ stopped (OperationRows used primary bytes)
+    unfolding stopped
+    form-wrong e = rw (s, e)
+
+    module _ (f : every operationForm (operationsOf bytes) ≡ true) where
+      pub log-full : 512 < used + length bytes / 80 → 7 ≡ stopped (OperationRows used primary bytes)
+      unfolding stopped noRoom
+      log-full h = rw (s, f, length-operations bytes, lt-ltb 512 (used + length bytes / 80) h)
+
+      module _ (r : used + length bytes / 80 ≤ 512) where
+        pub carts-wrong : meetsAll primary (operationsOf bytes) ≡ false → 8 ≡ stopped (OperationRows used primary bytes)
+        unfolding stopped noRoom
+        carts-wrong e = rw (s, f, length-operations bytes, le-ltb 512 (used + length bytes / 80) r, e)
+
+        pub may-commit : meetsAll primary (operationsOf bytes) ≡ true → 0 ≡ stopped (OperationRows used primary bytes)
+        unfolding stopped noRoom
+        may-commit e = rw (s, f, length-operations bytes, le-ltb 512 (used + length bytes / 80) r, e)
+
+-- row 4, by the session's value
+pub waiting-by : (x : List ℕ) (v : Session) (b : Bool) → v ≡ sessionValue x → b ≡ waitsBy (v .waiting) → b ≡ isWaiting (requestOf x)
+unfolding sessionValue
+waiting-by x v b e f = f ∙ ap (λ (z : Session). waitsBy (z .waiting)) e ∙ sym (waiting-is x)
+
+-- the number of the row that stops a commit, or 0
+abbrev pub CommitStops : Control → Memory → ℕ → List ℕ → ℕ
+CommitStops c m s bytes =
+    stopped (memoryRows c m ++ commitRows s (studioOf c s) (requestOf (sessionAt (m .sessions) s)) (c .used) (copyAt (m .library) 0) bytes)
+
+-- neither memory nor who calls stops it: v and w are what the code has found of them, b whether a read is waiting
+module _ (c : Control) (m : Memory) (s : ℕ) (bytes : List ℕ) (v : ℕ) (e : v ≡ stopped (memoryRows c m)) (z : v ≡ 0) (w : ℕ)
+    (f : w ≡ stopped (sessionRow s (studioOf c s) ∷ [])) (y : w ≡ 0) (b : Bool) (q : b ≡ isWaiting (requestOf (sessionAt (m .sessions) s))) where
+  rest-decides : (n : ℕ) → n ≡ stopped (row 4 (isWaiting (requestOf (sessionAt (m .sessions) s))) ∷ OperationRows (c .used) (copyAt (m .library) 0) bytes) → n ≡ CommitStops c m s bytes
+  unfolding commitRows
+  rest-decides n g = by-rest c m _ _ (session-numbered s (studioOf c s)) v e z w f y n g
+
+  pub read-waits : b ≡ true → 4 ≡ CommitStops c m s bytes
+  read-waits t = rest-decides 4 (row-stops 4 _ _ (sym q ∙ t))
+
+  pub operations-decide : b ≡ false → (n : ℕ) → n ≡ stopped (OperationRows (c .used) (copyAt (m .library) 0) bytes) → n ≡ CommitStops c m s bytes
+  operations-decide t n g = rest-decides n (g ∙ sym (row-passes 4 _ _ (sym q ∙ t)))
+
+-- what is known where no row stops a commit
+pub record Known (c : Control) (m : Memory) (s : ℕ) (bytes : List ℕ) : Type 0 where
+  pub formed : Formed c m
+  pub session : (1 ≤ s) × (s ≤ 16)
+  pub fields : every operationFields (operationsOf bytes) ≡ true
+  pub some : 1 ≤ length bytes / 80
+  pub room : c .used + length bytes / 80 ≤ 512
+  pub few : c .commits ≤ 512
+  pub walks : walkable (c .commits) (m .log) (firstRecord c) ≡ true
+
+-- the new count has two bytes
+pub next-small : (c : Control) (n : ℕ) (next : Control) → next ≡ committed c n → c .commits ≤ 512 → next .commits < 65536
+unfolding committed
+next-small c n next e h = rw e (omega arith)
+
+-- the whole call; v is the number that the rows give
+module _ (c : Control) (m : Memory) (s : ℕ) (bytes : List ℕ) (v : ℕ) (e : v ≡ CommitStops c m s bytes) where
+  pub commit-refused : (v ≡ 0 → ⊥) → after (refused v) c m [] ≡ commit c m s bytes
+  unfolding commit refusedCommit
+  commit-refused n = rw e (unless-stopped _ _ _ (λ z. n (e ∙ z)))
+
+  pub commit-known : v ≡ 0 → Known c m s bytes
+  unfolding commitRows numbered every
+  commit-known z =
+      let waits : Row = row 4 (isWaiting (requestOf (sessionAt (m .sessions) s))) in
+      let rest = accepted-rest c m _ _ (session-numbered s (studioOf c s)) (sym e ∙ z) in
+      let o = right-operations (c .used) (copyAt (m .library) 0) bytes (none-stops (waits ∷ []) _ refl rest .1) in
+      let f = accepted-formed c m _ _ (session-numbered s (studioOf c s)) (sym e ∙ z) in
+      record {
+        formed = f;
+        session = right-session s (studioOf c s) (accepted-who c m _ _ (session-numbered s (studioOf c s)) (sym e ∙ z)) .0;
+        fields = forms-fields (operationsOf bytes) (o .1 .0);
+        some = size-few bytes (o .0) .0;
+        room = o .1 .1;
+        few = few-commits c m f;
+        walks = whole-walkable c m f (c .commits) (omega arith);
+      }
+
+  -- the head end's copy, the log and the sessions as the code leaves them
+  pub commit-accepted : v ≡ 0 → (next : Control) → next ≡ committed c (length bytes / 80) → (copy log sessions : List ℕ)
+      → copy ≡ actAll (part (m .library) 0 10240) (operationsOf bytes) → log ≡ appended c (m .log) (operationsOf bytes)
+      → sessions ≡ over (m .sessions) (80 * (s - 1)) 80 (over (part (m .sessions) (80 * (s - 1)) 80) 2 2 (u16Bytes (next .commits)))
+      → after (done (next .commits)) next (memory (over (m .library) 0 10240 copy) log sessions) [] ≡ commit c m s bytes
+  unfolding commit committed copyAt withCopy sessionAt withSession withSequence
+  commit-accepted z next q copy log sessions l g t =
+      let k : next ≡ committed c (length (operationsOf bytes)) = q ∙ ap (committed c) (sym (length-operations bytes)) in
+      rw (t, l, g, k) (unless-accepted _ _ _ (sym e ∙ z))

@@ -1,0 +1,86 @@
+use mathlib.Core.Path.{_≡_, sym, _∙_}
+use mathlib.Core.Bool.{true}
+use Prim.Native.Nat.{_≤_, _/_}
+use native.Mathlib.Omega.{arith}
+use lib.ListN.{length}
+use borrow.Author.Tests.{not-true, not-false}
+use Rattle.carts.specs.Bytes.{every}
+use Rattle.carts.specs.Operation.{operationForm, operationsOf}
+use Rattle.replication.specs.Rows.{sizeForm}
+use Rattle.replication.proofs.CommitLaws.{size-few, forms-fields, size-wrong, form-wrong, log-full, carts-wrong, may-commit}
+use borrow.Author.Needs.{needs}
+use Rattle.replication.proofs.commit.stopped_by_operations.Statement.{statement}
+use Rattle.replication.proofs.commit.stopped_by_operations.Tie as tie
+use Rattle.replication.proofs.commit.stopped_by_operations.Reads as reads
+use Rattle.replication.proofs.commit.stopped_by_operations.Lts as lts
+use Rattle.carts.proofs.operation.all_operations.Reads as all-operations-reads
+use Rattle.carts.proofs.operation.meets_all.Reads as meets-all-reads
+use Rattle.replication.proofs.commit.is_size.Reads as is-size-reads
+
+-- src/commit.rt:43:9
+is-size-requires : tie.Need-is-size-requires
+is-size-requires c κs = search needs
+
+-- src/commit.rt:44:9
+returns : tie.Need-returns
+returns c = let r = c .before .is-size in size-wrong _ _ _ (sym (r .ensures) ∙ not-true (r .result) (c .if1 .taken))
+
+-- src/commit.rt:46:9
+all-operations-requires : tie.Need-all-operations-requires
+all-operations-requires c κs = search needs
+
+right-size : (c : tie.Else1) → sizeForm (c .before .before .before .before .args .operations .now) ≡ true
+right-size c = let r = c .before .is-size in sym (r .ensures) ∙ not-false (r .result) (c .if1 .left)
+
+right-form : (c : tie.Else2) → every operationForm (operationsOf (c .before .before .before .before .before .before .args .operations .now)) ≡ true
+right-form c = let r = c .before .all-operations in sym (r .ensures) ∙ not-false (r .result) (c .if2 .left)
+
+few : (c : tie.Else2) → let n = length (c .before .before .before .before .before .before .args .operations .now) / 80 in (1 ≤ n) × (n ≤ 8)
+few c = size-few _ (right-size (c .before .before))
+
+-- src/commit.rt:47:9
+returns-2 : tie.Need-returns-2
+returns-2 c = let r = c .before .all-operations in form-wrong _ _ _ (right-size (c .before .before)) (sym (r .ensures) ∙ not-true (r .result) (c .if2 .taken))
+
+-- src/commit.rt:49:13
+cast-n : tie.Need-cast-n
+cast-n c = let k = few c .1 in omega arith
+
+-- src/commit.rt:50:24
+add-if3 : tie.Need-add-if3
+add-if3 c = let k = few c .1 in omega arith
+
+-- src/commit.rt:51:9
+returns-3 : tie.Need-returns-3
+returns-3 c = let b = c .before in log-full _ _ _ (right-size (b .before .before)) (right-form b) (c .if3 .taken)
+
+-- src/commit.rt:53:9
+meets-all-requires : tie.Need-meets-all-requires
+meets-all-requires c κs = (c .before .before .before .before .before .before .before .pre .1, forms-fields _ (right-form (c .before)))
+
+-- src/commit.rt:54:9
+returns-4 : tie.Need-returns-4
+returns-4 c = let r = c .before .meets-all in
+    let b = c .before .before .before in
+    carts-wrong _ _ _ (right-size (b .before .before)) (right-form b) (omega (arith, c .before .before .if3 .left)) (sym (r .ensures) ∙ not-true (r .result) (c .if4 .taken))
+
+-- src/commit.rt:35:1
+returns-5 : tie.Need-returns-5
+returns-5 c = let r = c .before .meets-all in
+    let b = c .before .before .before in
+    may-commit _ _ _ (right-size (b .before .before)) (right-form b) (omega (arith, c .before .before .if3 .left)) (sym (r .ensures) ∙ not-false (r .result) (c .if4 .left))
+
+pub stopped-by-operations-spec : {M : Type 1} → statement M
+stopped-by-operations-spec =
+    tie.close
+    (tie.spec
+    is-size-requires
+    returns
+    all-operations-requires
+    returns-2
+    cast-n
+    add-if3
+    returns-3
+    meets-all-requires
+    returns-4
+    returns-5)

@@ -1,0 +1,122 @@
+// Commit: a transaction acts on the head end's copy and is appended to the log.
+use crate::answer::CountAnswer;
+use crate::answer::CountResult;
+use crate::append;
+use crate::cell;
+use crate::control::Control;
+use crate::record::Record;
+use crate::rows;
+use crate::session::Session;
+use carts::cart::Cart;
+use carts::operation;
+ghost use mathlib.Core.Path.{_≡_};
+ghost use mathlib.Core.Bool.{not};
+ghost use mathlib.Core.List.{[], _∷_, _++_};
+ghost use Prim.Native.Nat.{_+_, _*_, _-_, _<_, _≤_};
+ghost use lib.ListN.{length};
+ghost use Rattle.carts.specs.Bytes.{every};
+ghost use Rattle.carts.specs.Operation.{operationForm, operationsOf, meetsAll};
+ghost use Rattle.replication.specs.Answer.{countAnswer};
+ghost use Rattle.replication.specs.Memory.{memory, copyAt, sessionAt, studioOf};
+ghost use Rattle.replication.specs.Log.{noRoom};
+ghost use Rattle.replication.specs.Request.{requestOf, isWaiting};
+ghost use Rattle.replication.specs.Rows.{row, stopped, sizeForm, memoryRows, commitRows};
+ghost use Rattle.replication.specs.Calls.{after, commit};
+
+// The bytes are those of 1 to 8 operations.
+fn is_size(operations: &[u8]) -> bool
+    ensures { λ r. ⌜ r ≡ sizeForm (now (operations .entry)) ⌝ }
+{
+    let n = operations.len();
+    (Cart::SIZE <= n) & (n <= 8 * Cart::SIZE) & (n % Cart::SIZE == 0)
+}
+
+// Rows 5 to 8: the number of the row that stops a commit of these operations, or 0.
+fn stopped_by_operations(used: u32, primary: &[u8], operations: &[u8]) -> u32
+    requires { ⌜ (used ≤ 512) × (length (now primary) ≡ 10240) ⌝ }
+    ensures { λ r. ⌜ r ≡ stopped (row 5 (not (sizeForm (now (operations .entry))))
+        ∷ row 6 (not (every operationForm (operationsOf (now (operations .entry)))))
+        ∷ row 7 (noRoom used (length (operationsOf (now (operations .entry)))))
+        ∷ row 8 (not (meetsAll (now (primary .entry)) (operationsOf (now (operations .entry)))))
+        ∷ []) ⌝ }
+{
+    if !is_size(operations) {
+        return 5;
+    }
+    if !operation::all_operations(operations) {
+        return 6;
+    }
+    let n = (operations.len() / Cart::SIZE) as u32;
+    if Record::COUNT < used + n {
+        return 7;
+    }
+    if !operation::meets_all(primary, operations) {
+        return 8;
+    }
+    0
+}
+
+// A read is waiting in a session.
+fn has_waiting(sessions: &[u8], session: u32) -> bool
+    requires { ⌜ (length (now sessions) ≡ 1280) × ((1 ≤ session) × (session ≤ 16)) ⌝ }
+    ensures { λ r. ⌜ r ≡ isWaiting (requestOf (sessionAt (now (sessions .entry)) session)) ⌝ }
+{
+    let start = Session::SIZE * (session as usize - 1);
+    Session::from_bytes(&sessions[start..start + Session::SIZE]).is_waiting()
+}
+
+// The number of the row that stops a commit, or 0.
+pub fn decide_commit(
+    control: Control,
+    library: &[u8],
+    log: &[u8],
+    sessions: &[u8],
+    session: u32,
+    operations: &[u8],
+) -> u32
+    ensures { λ r. ⌜ r ≡ stopped (memoryRows control (memory (now (library .entry)) (now (log .entry)) (now (sessions .entry)))
+        ++ commitRows session (studioOf control session) (requestOf (sessionAt (now (sessions .entry)) session)) (control .used)
+        (copyAt (now (library .entry)) 0) (now (operations .entry))) ⌝ }
+{
+    let by_memory = rows::stopped_by_memory(control, library, log, sessions);
+    if by_memory != 0 {
+        return by_memory;
+    }
+    let by_session = rows::stopped_by_session(control, session);
+    if by_session != 0 {
+        return by_session;
+    }
+    if has_waiting(sessions, session) {
+        return 4;
+    }
+    stopped_by_operations(control.used, &library[0..Cart::COPY_SIZE], operations)
+}
+
+// Document 01's commit.
+pub fn commit(
+    control: Control,
+    library: &mut [u8],
+    log: &mut [u8],
+    sessions: &mut [u8],
+    session: u32,
+    operations: &[u8],
+) -> CountResult
+    ensures { λ r. ⌜ after (countAnswer (r .answer)) (r .control) (memory (now (library .exit)) (now (log .exit)) (now (sessions .exit))) []
+        ≡ commit control (memory (now (library .entry)) (now (log .entry)) (now (sessions .entry))) session (now (operations .entry)) ⌝ }
+{
+    let stopped = decide_commit(control, library, log, sessions, session, operations);
+    if stopped != 0 {
+        return CountResult {
+            answer: CountAnswer::Refused(stopped),
+            control,
+        };
+    }
+    let next = control.committed((operations.len() / Cart::SIZE) as u32);
+    operation::apply_all(&mut library[0..Cart::COPY_SIZE], operations);
+    append::append_transaction(control, log, operations);
+    cell::put(sessions, session, 2, next.commits);
+    CountResult {
+        answer: CountAnswer::Number(next.commits),
+        control: next,
+    }
+}
