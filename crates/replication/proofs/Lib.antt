@@ -7,6 +7,8 @@ pub mod DecideLaws
 pub mod Examples
 pub mod Formed
 pub mod LayoutLaws
+pub mod OutputLaws
+pub mod ReadLaws
 pub mod RefreshLaws
 pub mod RequestLaws
 pub mod RowLaws

@@ -20,6 +20,9 @@ pub u16-drop : (s : List ℕ) (k : ℕ) → u16 (drop k s) 0 ≡ u16 s k
 unfolding u16
 u16-drop s k = rw (getD-drop k s 0 0, getD-drop k s 1 0, add-zero)
 
+pub u16-behind : (s : List ℕ) (k j : ℕ) → u16 (drop k s) j ≡ u16 s (k + j)
+u16-behind s k j = sym (u16-drop (drop k s) j) ∙ ap (λ (z : List ℕ). u16 z 0) (drop-drop j k s) ∙ u16-drop s (k + j)
+
 -- the first of the numbers left, and the others
 u16s-next : (n i : ℕ) (s : List ℕ) → i < n → u16s (n - i) (drop (2 * i) s) ≡ u16 s (2 * i) ∷ u16s (n - (i + 1)) (drop (2 * (i + 1)) s)
 unfolding u16s
@@ -30,14 +33,16 @@ unfolding u16s
 length-u16s zero s = refl
 length-u16s (suc n) s = ap suc (length-u16s n (drop 2 s))
 
+-- the same in a request
+pub numbers-next : (x : List ℕ) (n i : ℕ) → i < n → u16s (n - i) (drop (2 * i) (drop 16 x)) ≡ u16 x (16 + 2 * i) ∷ u16s (n - (i + 1)) (drop (2 * (i + 1)) (drop 16 x))
+numbers-next x n i h = rw (u16s-next n i (drop 16 x) h, u16-behind x 16 (2 * i))
+
 -- a turn of a loop over the numbers, and its end
 module _ (p : ℕ → Bool) (x : List ℕ) (n i : ℕ) (ok : Bool) {whole : Bool} (inv : whole ≡ (ok && every p (u16s (n - i) (drop (2 * i) (drop 16 x))))) where
   pub numbers-more : {new : Bool} → i < n → new ≡ (ok && p (u16 x (16 + 2 * i))) → whole ≡ (new && every p (u16s (n - (i + 1)) (drop (2 * (i + 1)) (drop 16 x))))
   unfolding every
   numbers-more h e =
-      let u : u16 (drop 16 x) (2 * i) ≡ u16 x (16 + 2 * i) = sym (u16-drop (drop 16 x) (2 * i)) ∙ ap (λ (z : List ℕ). u16 z 0) (drop-drop (2 * i) 16 x) ∙ u16-drop x (16 + 2 * i) in
-      test-more ok (p (u16 x (16 + 2 * i))) (every p (u16s (n - (i + 1)) (drop (2 * (i + 1)) (drop 16 x)))) inv
-      (rw (u16s-next n i (drop 16 x) h, u)) e
+      test-more ok (p (u16 x (16 + 2 * i))) (every p (u16s (n - (i + 1)) (drop (2 * (i + 1)) (drop 16 x)))) inv (rw (numbers-next x n i h)) e
 
   pub numbers-end : n ≤ i → ok ≡ whole
   unfolding every u16s

@@ -6,12 +6,14 @@ use lib.ListN.{length, drop}
 use lib.Dec.{leb, eqb}
 use Rattle.carts.specs.Bytes.{part, byte, u16, within, all, every, allZero, pairwise}
 use Rattle.replication.specs.Log.{nextOperation, nextTransaction, recordsOf, upFrom}
-use Rattle.replication.specs.Memory.{recordAt, sequenceOf}
+use Rattle.replication.specs.Memory.{recordAt, sessionAt, sequenceOf, nth, studioOf}
 use Rattle.replication.specs.Layout.{waitingForm}
 use Rattle.replication.specs.declared.session.Session.{Session}
 use Rattle.replication.specs.declared.session.Waiting.{Waiting}
 use Rattle.replication.specs.declared.session.Waiting.the-variants.{Nothing, Numbers, Title}
 use Rattle.replication.specs.declared.record.Record.{Record}
+use Rattle.replication.specs.declared.read.Due.{Due}
+use Rattle.replication.specs.declared.control.Control.{Control}
 
 -- a session's waiting read, or a request, as the code's case: by byte 0, with byte 1
 unfoldable pub waitingValue : List ℕ → Waiting
@@ -61,3 +63,7 @@ usable log r = all (within 1 512 r ∷ within 1 128 (u16 (recordAt log r) 2) ∷
 unfoldable pub walkable : ℕ → List ℕ → ℕ → Bool
 walkable zero log r = true
 walkable (suc n) log r = let rest = walkable n log (nextTransaction log r) in within 1 512 r && rest
+
+-- what an accepted read goes by: the session's number, its studio, and what that has applied
+abbrev pub dueOf : Control → List ℕ → ℕ → Due
+dueOf c sessions s = record { number = sequenceOf (sessionAt sessions s); studio = studioOf c s; state = nth (c .applied) (studioOf c s) }

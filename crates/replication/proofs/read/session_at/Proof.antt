@@ -1,0 +1,46 @@
+use mathlib.Core.Path.{refl}
+use Prim.Native.Nat.{_*_, _-_}
+use native.Mathlib.Nat.{add-sub-cancel-left}
+use native.Mathlib.Omega.{arith}
+use Rattle.carts.proofs.PartLaws.{length-part}
+use Rattle.replication.specs.Memory.{sessionAt}
+use borrow.Author.Needs.{needs}
+use Rattle.replication.proofs.read.session_at.Statement.{statement}
+use Rattle.replication.proofs.read.session_at.Tie as tie
+use Rattle.replication.proofs.read.session_at.Reads as reads
+use Rattle.replication.proofs.read.session_at.Lts as lts
+
+-- src/read.rt:25:34
+sub-start : tie.Need-sub-start
+sub-start c = search needs
+
+-- src/read.rt:25:17
+mul-start : tie.Need-mul-start
+mul-start c = search needs
+
+-- src/read.rt:26:22
+add-result : tie.Need-add-result
+add-result c = search needs
+
+-- src/read.rt:26:5
+sub-result : tie.Need-sub-result
+sub-result c = search needs
+
+-- src/read.rt:26:5
+part-result-start : tie.Need-part-result-start
+part-result-start c = search needs
+
+-- src/read.rt:26:5
+part-result-end : tie.Need-part-result-end
+part-result-end c = search needs
+
+-- src/read.rt:21:1
+returns : tie.Need-returns
+unfolding sessionAt
+returns c = let a = c .before .args in
+    rw add-sub-cancel-left (refl, length-part (a .sessions .now) (80 * (a .session - 1)) 80 (omega arith))
+
+pub session-at-spec : {M : Type 1} → statement M
+session-at-spec =
+    tie.close
+    (tie.spec sub-start mul-start add-result sub-result part-result-start part-result-end returns)

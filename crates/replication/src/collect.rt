@@ -1,0 +1,88 @@
+// Collect: the stored read, answered where the studio's copy has reached the session's number.
+use crate::answer::ReadAnswer;
+use crate::answer::ReadResult;
+use crate::control::Control;
+use crate::output;
+use crate::read;
+use crate::read::Due;
+use crate::rows;
+use crate::session::Session;
+ghost use mathlib.Core.Path.{_≡_};
+ghost use mathlib.Core.List.{_++_};
+ghost use Prim.Native.Nat.{_+_, _-_, _<_};
+ghost use Rattle.replication.specs.Answer.{readAnswer};
+ghost use Rattle.replication.specs.Memory.{memory, sessionAt, studioOf};
+ghost use Rattle.replication.specs.Request.{requestOf};
+ghost use Rattle.replication.specs.Rows.{stopped, memoryRows, collectRows};
+ghost use Rattle.replication.specs.Calls.{after, collect};
+
+// The number of the row that stops a collect, or 0.
+pub fn decide_collect(
+    control: Control,
+    library: &[u8],
+    log: &[u8],
+    sessions: &[u8],
+    session: u32,
+    room: usize,
+) -> u32
+    ensures { λ r. ⌜ r ≡ stopped (memoryRows control (memory (now (library .entry)) (now (log .entry)) (now (sessions .entry)))
+        ++ collectRows session (studioOf control session) (requestOf (sessionAt (now (sessions .entry)) session)) room) ⌝ }
+{
+    let by_memory = rows::stopped_by_memory(control, library, log, sessions);
+    if by_memory != 0 {
+        return by_memory;
+    }
+    let by_session = rows::stopped_by_session(control, session);
+    if by_session != 0 {
+        return by_session;
+    }
+    let own = Session::from_bytes(read::session_at(sessions, session));
+    if !own.is_waiting() {
+        return 14;
+    }
+    if room < own.needed() {
+        return 13;
+    }
+    0
+}
+
+// Document 01's collect.
+pub fn collect(
+    control: Control,
+    library: &[u8],
+    log: &[u8],
+    sessions: &mut [u8],
+    session: u32,
+    output: &mut [u8],
+) -> ReadResult
+    ensures { λ r. ⌜ after (readAnswer (r .answer)) (r .control) (memory (now (library .entry)) (now (log .entry)) (now (sessions .exit))) (now (output .exit))
+        ≡ collect control (memory (now (library .entry)) (now (log .entry)) (now (sessions .entry))) session (now (output .entry)) ⌝ }
+{
+    let room = output.len();
+    let stopped = decide_collect(control, library, log, sessions, session, room);
+    if stopped != 0 {
+        return ReadResult {
+            answer: ReadAnswer::Refused(stopped),
+            control,
+        };
+    }
+    let due = Due::at(control, sessions, session);
+    if due.state < due.number {
+        return ReadResult {
+            answer: ReadAnswer::Waits(due.number),
+            control,
+        };
+    }
+    let asked = read::session_at(sessions, session);
+    let found = output::answer(library, due.studio, asked, output);
+    let nothing = [0u8; 80];
+    let next = read::number_after(due.number, due.state);
+    read::store(sessions, session, &nothing, next);
+    ReadResult {
+        answer: ReadAnswer::Answered {
+            state: due.state,
+            found,
+        },
+        control,
+    }
+}
