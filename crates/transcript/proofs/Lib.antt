@@ -1,5 +1,7 @@
 -- Laws for the proofs of this crate.
 pub mod BuildLaws
 pub mod CursorLaws
+pub mod HistoryLaws
 pub mod ParseLaws
+pub mod ReplayLaws
 pub mod TextLaws
