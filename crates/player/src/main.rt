@@ -24,6 +24,7 @@ fn echo(line: u32, bytes: &[u8], call: Call) {
     print::words(b"\n");
 }
 
+// A line, where it is whole.
 fn play_line(
     p: Player,
     library: &mut [u8],
@@ -32,7 +33,11 @@ fn play_line(
     cells: &mut [u32],
     store: &mut [u8],
     line: &[u8],
+    is_whole: bool,
 ) -> Player {
+    if !is_whole {
+        return p;
+    }
     let next = p.next_line();
     let mut payload = [0u8; 640];
     let call = parse::parse(line, &mut payload);
@@ -54,19 +59,11 @@ fn play_lines(
     let mut at: usize = 0;
     while at < bytes.len() {
         let end = text::run_end(bytes, at, Class::Other(10));
-        if cut & (bytes.len() <= end) {
-            return player;
-        }
-        player = play_line(
-            player,
-            library,
-            log,
-            sessions,
-            cells,
-            store,
-            &bytes[at..end],
-        );
-        at = end + 1;
+        let next = end + 1;
+        let is_whole = !cut | (end < bytes.len());
+        let line = &bytes[at..end];
+        player = play_line(player, library, log, sessions, cells, store, line, is_whole);
+        at = next;
     }
     player
 }

@@ -8,6 +8,7 @@ use replication::answer::CountResult;
 use replication::answer::ReadAnswer;
 use replication::answer::ReadResult;
 use replication::answer::SetupAnswer;
+use replication::answer::SetupResult;
 use replication::collect::collect;
 use replication::commit::commit;
 use replication::control::Control;
@@ -121,7 +122,6 @@ impl Player {
     }
 }
 
-// Setup: a fresh system. The answers before it have their order by themselves.
 fn play_setup(
     p: Player,
     library: &mut [u8],
@@ -133,6 +133,17 @@ fn play_setup(
     places: &[u8],
 ) -> Player {
     let result = setup(library, log, sessions, studios, places);
+    finish_setup(p, result, cells, store, studios)
+}
+
+// What a setup answered. The answers before it have their order by themselves.
+fn finish_setup(
+    p: Player,
+    result: SetupResult,
+    cells: &[u32],
+    store: &[u8],
+    studios: u32,
+) -> Player {
     let next = p.with_control(result.control);
     let answer = result.answer;
     match answer {
@@ -167,6 +178,18 @@ fn play_commit(
     ops: &[u8],
 ) -> Player {
     let result = commit(p.control, library, log, sessions, session, ops);
+    finish_commit(p, result, cells, store, session, ops)
+}
+
+// What a commit answered.
+fn finish_commit(
+    p: Player,
+    result: CountResult,
+    cells: &mut [u32],
+    store: &mut [u8],
+    session: u32,
+    ops: &[u8],
+) -> Player {
     let next = p.with_control(result.control);
     let answer = result.answer;
     match answer {

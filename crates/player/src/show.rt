@@ -66,7 +66,10 @@ pub fn asked(request: &[u8], i: u32) -> u32 {
     wide(text::letter(request, at)) + 256 * wide(text::letter(request, at + 1))
 }
 
-pub fn wide(b: u8) -> u32 {
+// A byte as a number.
+pub fn wide(b: u8) -> u32
+    ensures { λ r. ⌜ r < 256 ⌝ }
+{
     b as u32
 }
 
