@@ -74,7 +74,7 @@ fn summary(p: Player) {
     print::count(p.line, b"line");
     print::words(b"; calls accepted ");
     print::number(tally.accepted);
-    print::words(b", waiting ");
+    print::words(b", waited ");
     print::number(tally.waited);
     print::words(b", refused ");
     print::number(tally.refused);
@@ -100,9 +100,9 @@ fn play_text(bytes: &[u8], cut: bool) {
         cut,
     );
     if cut {
-        print::words(
-            b"LEFT OUT: what stands after the first 65536 bytes, and the line that they cut\n",
-        );
+        print::words(b"\nLEFT OUT: the lines after line ");
+        print::number(player.line);
+        print::words(b": the transcript has more than 65536 bytes\n");
     }
     summary(player);
     order::show_order(player.history, &cells, &store);

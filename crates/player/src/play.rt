@@ -244,7 +244,7 @@ fn places(request: &[u8]) -> usize
     show::wide(text::letter(request, 1)) as usize
 }
 
-// The cart shown at place i.
+// The cart shown at place i of a read by numbers.
 fn shown_at(block: &[u8], i: usize)
     requires { ⌜ i < 256 ⌝ }
 {
@@ -252,10 +252,6 @@ fn shown_at(block: &[u8], i: usize)
     let cart = text::part_of(block, 80 + 80 * i, 80);
     if text::letter(cart, 0) == 1 {
         print::cart(cart);
-        return;
-    }
-    if text::letter(block, 0) == 2 {
-        print::words(b"no cart is shown\n");
         return;
     }
     print::words(b"cart ");
@@ -273,6 +269,21 @@ fn shown(block: &[u8], n: usize)
     }
 }
 
+// What a read by title found.
+fn found_by_title(block: &[u8], found: u32) {
+    print::words(b"    ");
+    if found == 1 {
+        print::cart(text::part_of(block, 80, 80));
+        return;
+    }
+    if found == 0 {
+        print::words(b"no cart has this title\n");
+        return;
+    }
+    print::number(found);
+    print::words(b" carts have this title, so none is shown\n");
+}
+
 // An answered read: its request stands at the start of the block, its output after it.
 fn answered(p: Player, cells: &mut [u32], store: &mut [u8], block: &[u8], e: Entry) -> Player {
     print::words(b"  answered at edit ");
@@ -281,7 +292,11 @@ fn answered(p: Player, cells: &mut [u32], store: &mut [u8], block: &[u8], e: Ent
     print::number(e.found);
     print::words(b":\n");
     let n = places(block);
-    shown(block, n);
+    if text::letter(block, 0) == 2 {
+        found_by_title(block, e.found);
+    } else {
+        shown(block, n);
+    }
     let payload = text::part_of(block, 0, 80 + 80 * n);
     p.with_history(p.history.add(cells, store, e, payload))
         .accepted()

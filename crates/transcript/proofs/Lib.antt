@@ -2,6 +2,5 @@
 pub mod BuildLaws
 pub mod CursorLaws
 pub mod HistoryLaws
-pub mod ParseLaws
 pub mod ReplayLaws
 pub mod TextLaws

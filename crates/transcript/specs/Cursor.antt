@@ -1,10 +1,10 @@
 -- Cursors over a line, and titles in it.
 use mathlib.Core.Path.{_≡_}
-use mathlib.Core.Bool.{true, false, cond, _||_}
+use mathlib.Core.Bool.{Bool, true, false, cond, _||_}
 use mathlib.Core.List.{List}
 use Prim.Native.Nat.{ℕ, _+_, _-_, _<_, _≤_}
 use lib.ListN.{length}
-use lib.Dec.{eqb, ltb}
+use lib.Dec.{eqb, leb, ltb}
 use Rattle.carts.specs.Bytes.{byte, part, pairwise, every}
 use Rattle.carts.specs.Cart.{printable}
 use Rattle.transcript.specs.declared.text.Class.the-variants.{Space, Word, Digit}
@@ -59,8 +59,11 @@ abbrev pub numberAt : List ℕ → Cursor → ℕ → Taken
 numberAt s c most = taken c (digitsEnd s c) (numberOf most (partIn s (nextPlace s c) (digitsEnd s c - nextPlace s c)))
 
 -- nothing more, or a comment
+abbrev pub isOver : List ℕ → Cursor → Bool
+isOver s c = leb (length s) (nextPlace s c) || eqb (nextByte s c) 35
+
 abbrev pub endedAt : List ℕ → Cursor → Cursor
-endedAt s c = cond (eqb (nextByte s c) 0 || eqb (nextByte s c) 35) c (stoppedBy c TooMuch)
+endedAt s c = cond (isOver s c) c (stoppedBy c TooMuch)
 
 -- n letters of a title, printable and few enough that their number fits a byte, stand in the line from `start` on
 pub record Titled (s : List ℕ) (start n : ℕ) : Type 0 where

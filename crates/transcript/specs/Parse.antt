@@ -1,13 +1,15 @@
 -- Calls that lines are read as.
 use mathlib.Core.Bool.{cond}
+use mathlib.Core.List.{List}
 use Prim.Native.Nat.{ℕ, _≤_}
 use Rattle.transcript.specs.declared.cursor.Cursor.{Cursor}
+use Rattle.transcript.specs.Cursor.{nextPlace}
 use Rattle.transcript.specs.declared.parse.Call.{Call}
 use Rattle.transcript.specs.declared.parse.Call.the-variants.{Nothing, Show, Setup, Commit, Send, Refresh, Read, Collect, Unreadable}
 
--- the call where the cursor is good, else its mistake and place
-abbrev pub wholeCall : Cursor → Call → Call
-wholeCall c call = cond (c .good) call (Unreadable (c .mistake) (c .at))
+-- the call where the cursor is good, else its mistake and the place of the next byte that is no space
+abbrev pub wholeCall : List ℕ → Cursor → Call → Call
+wholeCall s c call = cond (c .good) call (Unreadable (c .mistake) (nextPlace s c))
 
 -- a commit has one to eight operations
 abbrev pub callFits : Call → Type 0

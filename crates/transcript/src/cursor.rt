@@ -7,7 +7,7 @@ ghost use mathlib.Core.Path.{_≡_};
 ghost use mathlib.Core.Bool.{true};
 ghost use Prim.Native.Nat.{ℕ, _+_, _*_, _-_, _<_, _≤_};
 ghost use lib.ListN.{length};
-ghost use Rattle.transcript.specs.Cursor.{movedTo, stoppedBy, nextByte, nextWord, wordEnd, pastWord, pastMark, numberAt, endedAt, Titled};
+ghost use Rattle.transcript.specs.Cursor.{movedTo, stoppedBy, nextByte, nextWord, wordEnd, pastWord, pastMark, numberAt, isOver, endedAt, Titled};
 
 // What can be wrong with a line.
 pub enum Mistake {
@@ -208,12 +208,22 @@ pub fn title(s: &[u8], c: Cursor) -> Quoted
     }
 }
 
-// Nothing more on the line but a comment, or the mistake.
+// Nothing more on the line but a comment.
+pub fn is_over(s: &[u8], c: Cursor) -> bool
+    ensures { λ r. ⌜ r ≡ isOver (now (s .entry)) c ⌝ }
+{
+    let at = text::run_end(s, c.at, Class::Space);
+    if s.len() <= at {
+        return true;
+    }
+    s[at] == 35
+}
+
+// The cursor, where nothing more is on the line; else the mistake.
 pub fn ended(s: &[u8], c: Cursor) -> Cursor
     ensures { λ r. ⌜ r ≡ endedAt (now (s .entry)) c ⌝ }
 {
-    let next = peek(s, c);
-    if (next == 0) | (next == 35) {
+    if is_over(s, c) {
         return c;
     }
     c.stopped(Mistake::TooMuch)

@@ -41,7 +41,7 @@ pub struct Counted {
 // The call, where the whole line was read; else what is wrong with it.
 fn whole(s: &[u8], c: Cursor, call: Call) -> Call
     requires { ⌜ callFits call ⌝ }
-    ensures { λ r. ⌜ (r ≡ wholeCall (endedAt (now (s .entry)) c) call) × callFits r ⌝ }
+    ensures { λ r. ⌜ (r ≡ wholeCall (now (s .entry)) (endedAt (now (s .entry)) c) call) × callFits r ⌝ }
 {
     let end = cursor::ended(s, c);
     if end.good {
@@ -50,7 +50,7 @@ fn whole(s: &[u8], c: Cursor, call: Call) -> Call
     let mistake = end.mistake;
     Call::Unreadable {
         mistake,
-        at: end.at,
+        at: text::run_end(s, end.at, Class::Space),
     }
 }
 
@@ -274,8 +274,7 @@ pub fn parse(s: &[u8], payload: &mut [u8]) -> Call
     ensures { λ r. ⌜ callFits r ⌝ }
 {
     let c = Cursor::new(0);
-    let first = cursor::peek(s, c);
-    if (first == 0) | (first == 35) {
+    if cursor::is_over(s, c) {
         return Call::Nothing;
     }
     let word = cursor::peek_word(s, c);
