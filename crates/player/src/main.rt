@@ -1,0 +1,142 @@
+// Plays a transcript, the file that its first argument names or standard input: each call's answer, a summary, and the
+// one-copy order replayed on a single library. docs/TRANSCRIPT.md has the format and the limits.
+mod order;
+mod play;
+mod print;
+mod show;
+
+use play::Player;
+use transcript::parse;
+use transcript::parse::Call;
+use transcript::text;
+use transcript::text::Class;
+
+// A call is shown with its line's number; a comment and a blank line as they are.
+fn echo(line: u32, bytes: &[u8], call: Call) {
+    match call {
+        Call::Nothing => print::words(bytes),
+        _ => {
+            print::number(line);
+            print::words(b": ");
+            print::words(bytes);
+        }
+    }
+    print::words(b"\n");
+}
+
+// A line, where it is whole.
+fn play_line(
+    p: Player,
+    library: &mut [u8],
+    log: &mut [u8],
+    sessions: &mut [u8],
+    cells: &mut [u32],
+    store: &mut [u8],
+    line: &[u8],
+    is_whole: bool,
+) -> Player {
+    if !is_whole {
+        return p;
+    }
+    let next = p.next_line();
+    let mut payload = [0u8; 640];
+    let call = parse::parse(line, &mut payload);
+    echo(next.line, line, call);
+    play::play_call(next, library, log, sessions, cells, store, call, &payload)
+}
+
+// Every line; the last is left out where the text was cut in it.
+fn play_lines(
+    library: &mut [u8],
+    log: &mut [u8],
+    sessions: &mut [u8],
+    cells: &mut [u32],
+    store: &mut [u8],
+    bytes: &[u8],
+    cut: bool,
+) -> Player {
+    let mut player = Player::new();
+    let mut at: usize = 0;
+    while at < bytes.len() {
+        let end = text::run_end(bytes, at, Class::Other(10));
+        let next = end + 1;
+        let is_whole = !cut | (end < bytes.len());
+        let line = &bytes[at..end];
+        player = play_line(player, library, log, sessions, cells, store, line, is_whole);
+        at = next;
+    }
+    player
+}
+
+fn summary(p: Player) {
+    let tally = p.tally;
+    print::words(b"\nSummary: ");
+    print::count(p.line, b"line");
+    print::words(b"; calls accepted ");
+    print::number(tally.accepted);
+    print::words(b", waited ");
+    print::number(tally.waited);
+    print::words(b", refused ");
+    print::number(tally.refused);
+    print::words(b"; lines that could not be read ");
+    print::number(tally.unreadable);
+    print::words(b"\n");
+}
+
+// All memory is on the stack.
+fn play_text(bytes: &[u8], cut: bool) {
+    let mut library = [0u8; 51200];
+    let mut log = [0u8; 40960];
+    let mut sessions = [0u8; 1280];
+    let mut cells = [0u32; 8192];
+    let mut store = [0u8; 524288];
+    let player = play_lines(
+        &mut library,
+        &mut log,
+        &mut sessions,
+        &mut cells,
+        &mut store,
+        bytes,
+        cut,
+    );
+    if cut {
+        print::words(b"\nLEFT OUT: the lines after line ");
+        print::number(player.line);
+        print::words(b": the transcript has more than 65536 bytes\n");
+    }
+    summary(player);
+    order::show_order(player.history, &cells, &store);
+}
+
+// There is more to read.
+fn has_more(fd: i32) -> bool {
+    let mut one = [0u8; 1];
+    libc::read(fd, &mut one) > 0
+}
+
+fn play_from(fd: i32) {
+    let mut text = io::large_buffer();
+    let n = io::read_full(fd, &mut text);
+    let cut = (n == 65536) & has_more(fd);
+    play_text(&text[..n], cut);
+}
+
+fn main() {
+    if os::arg_count() < 2 {
+        play_from(libc::STDIN_FILENO);
+        return;
+    }
+    let mut path = io::buffer();
+    let length = os::arg(1, &mut path);
+    if os::errno() != 0 {
+        os::fail(b"path");
+        return;
+    }
+    let fd = os::open_read(&path[..length]);
+    if fd < 0 {
+        os::fail(&path[..length]);
+        return;
+    }
+    play_from(fd);
+    libc::close(fd);
+}

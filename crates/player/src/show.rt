@@ -1,0 +1,143 @@
+// The state of all copies and sessions.
+use crate::print;
+use replication::control::Control;
+use replication::session::Session;
+use replication::session::Waiting;
+use transcript::text;
+ghost use Prim.Native.Nat.{_<_, _≤_};
+
+// Cart c of a copy, where it is held; the answer is whether it is.
+fn cart_of(library: &[u8], copy: usize, c: usize) -> bool
+    requires { ⌜ (copy < 5) × (c < 128) ⌝ }
+{
+    let cart = text::part_of(library, 10240 * copy + 80 * c, 80);
+    if text::letter(cart, 0) != 1 {
+        return false;
+    }
+    print::words(b"    ");
+    print::cart(cart);
+    true
+}
+
+// The held carts of a copy.
+fn carts_of(library: &[u8], copy: usize)
+    requires { ⌜ copy < 5 ⌝ }
+{
+    let mut some = false;
+    let mut c: usize = 0;
+    while c < 128 {
+        some |= cart_of(library, copy, c);
+        c += 1;
+    }
+    if !some {
+        print::words(b"    no cart is held\n");
+    }
+}
+
+fn studio_line(control: Control, library: &[u8], i: u32)
+    requires { ⌜ (1 ≤ i) × (i ≤ 4) ⌝ }
+{
+    if control.studios < i {
+        return;
+    }
+    print::words(b"  studio ");
+    print::number(i);
+    print::words(b": sent ");
+    print::number(control.sent_to(i));
+    print::words(b", applied ");
+    print::number(control.applied_by(i));
+    print::words(b"\n");
+    carts_of(library, i as usize);
+}
+
+// The cart numbers that a request of n numbers asks for.
+pub fn numbers(request: &[u8], n: u32) {
+    let mut i: u32 = 0;
+    while i < n {
+        print::words(b" ");
+        print::number(asked(request, i));
+        i += 1;
+    }
+}
+
+// The number asked at place i of a request.
+pub fn asked(request: &[u8], i: u32) -> u32 {
+    let at = 16 + 2 * (i as usize);
+    wide(text::letter(request, at)) + 256 * wide(text::letter(request, at + 1))
+}
+
+// A byte as a number.
+pub fn wide(b: u8) -> u32
+    ensures { λ r. ⌜ r < 256 ⌝ }
+{
+    b as u32
+}
+
+fn waiting_read(own: &[u8], session: Session) {
+    let waits = session.waiting;
+    match waits {
+        Waiting::Nothing => print::words(b", nothing waits\n"),
+        Waiting::Numbers(n) => {
+            print::words(b", a read waits for carts");
+            numbers(own, n);
+            print::words(b"\n");
+        }
+        Waiting::Title(n) => {
+            print::words(b", a read waits for title ");
+            print::title(text::part_of(own, 16, n as usize));
+            print::words(b"\n");
+        }
+    }
+}
+
+fn session_line(control: Control, sessions: &[u8], j: u32)
+    requires { ⌜ (1 ≤ j) × (j ≤ 16) ⌝ }
+{
+    let at = control.studio_of(j);
+    if at == 0 {
+        return;
+    }
+    let own = text::part_of(sessions, 80 * (j as usize - 1), 80);
+    if own.len() != 80 {
+        return;
+    }
+    let value = Session::from_bytes(own);
+    print::words(b"  session ");
+    print::number(j);
+    print::words(b" at studio ");
+    print::number(at);
+    print::words(b": number ");
+    print::number(value.number);
+    waiting_read(own, value);
+}
+
+fn studios(control: Control, library: &[u8]) {
+    let mut i: u32 = 1;
+    while i <= 4 {
+        studio_line(control, library, i);
+        i += 1;
+    }
+}
+
+fn sessions_of(control: Control, sessions: &[u8]) {
+    let mut j: u32 = 1;
+    while j <= 16 {
+        session_line(control, sessions, j);
+        j += 1;
+    }
+}
+
+pub fn show(control: Control, library: &[u8], sessions: &[u8]) {
+    if control.studios == 0 {
+        print::words(b"  there is no system yet\n");
+        return;
+    }
+    print::words(b"  head end: ");
+    print::count(control.commits, b"edit");
+    print::words(b", ");
+    print::number(control.used);
+    print::words(b" of 512 log records\n");
+    carts_of(library, 0);
+    studios(control, library);
+    sessions_of(control, sessions);
+}

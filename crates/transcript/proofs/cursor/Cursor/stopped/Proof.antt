@@ -1,0 +1,15 @@
+use Rattle.transcript.proofs.cursor.Cursor.stopped.Statement.{statement}
+use Rattle.transcript.proofs.cursor.Cursor.stopped.Tie as tie
+use Rattle.transcript.proofs.cursor.Cursor.stopped.Reads as reads
+use Rattle.transcript.proofs.cursor.Cursor.stopped.Lts as lts
+
+-- src/cursor.rt:81:13
+returns : tie.Need-returns
+returns c = rw (c .if1 .taken)
+
+-- src/cursor.rt:77:5
+returns-2 : tie.Need-returns-2
+returns-2 c = rw (c .if1 .left)
+
+pub stopped-spec : {M : Type 1} → statement M
+stopped-spec = tie.close (tie.spec returns returns-2)

@@ -1,0 +1,7 @@
+-- What the contracts of transcripts cite.
+pub mod Build
+pub mod Cursor
+pub mod History
+pub mod Parse
+pub mod Replay
+pub mod Text
