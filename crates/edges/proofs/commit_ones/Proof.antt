@@ -1,0 +1,93 @@
+use Rattle.edges.proofs.commit_ones.Statement.{statement}
+use Rattle.edges.proofs.commit_ones.Tie as tie
+use Rattle.edges.proofs.commit_ones.Reads as reads
+use Rattle.edges.proofs.commit_ones.Lts as lts
+use Rattle.edges.proofs.fresh.Reads as fresh-reads
+use Rattle.edges.proofs.put_one.Reads as put-one-reads
+use Rattle.edges.proofs.say_count.Reads as say-count-reads
+use Rattle.replication.proofs.commit.commit.Reads as commit-reads
+
+abbrev Inv-loop : tie.InvT-loop
+Inv-loop library₀ log₀ sessions₀ count what control₀ answer₀ i₀ library log sessions control answer i =
+    ?
+
+abbrev μ-loop : tie.MeasureT-loop
+μ-loop library₀ log₀ sessions₀ count what control₀ answer₀ i₀ library log sessions control answer i =
+    ?
+
+-- src/main.rt:82:9
+fresh-requires : tie.Need-fresh-requires Inv-loop μ-loop
+fresh-requires c κs = ?
+
+-- src/main.rt:85:5
+loop-holds : tie.Need-loop-holds Inv-loop μ-loop
+loop-holds c = ?
+
+-- src/main.rt:87:17
+slice-aggregate-put-one : tie.Need-slice-aggregate-put-one Inv-loop μ-loop
+slice-aggregate-put-one c = ?
+
+-- src/main.rt:87:9
+put-one-requires : tie.Need-put-one-requires Inv-loop μ-loop
+put-one-requires c κs = ?
+
+-- src/main.rt:88:71
+slice-aggregate-commit : tie.Need-slice-aggregate-commit Inv-loop μ-loop
+slice-aggregate-commit c = ?
+
+-- src/main.rt:88:13
+commit-requires : tie.Need-commit-requires Inv-loop μ-loop
+commit-requires c κs = ?
+
+-- src/main.rt:91:9
+add-i : tie.Need-add-i Inv-loop μ-loop
+add-i c = ?
+
+-- src/main.rt:85:5
+loop-less : tie.Need-loop-less Inv-loop μ-loop
+loop-less c = ?
+
+-- src/main.rt:85:5
+loop-again : tie.Need-loop-again Inv-loop μ-loop
+loop-again c = ?
+
+-- src/main.rt:93:5
+say-count-requires : tie.Need-say-count-requires Inv-loop μ-loop
+say-count-requires c κs = ?
+
+-- src/main.rt:73:1
+same-length : tie.Need-same-length Inv-loop μ-loop
+same-length c = ?
+
+-- src/main.rt:73:1
+same-length-2 : tie.Need-same-length-2 Inv-loop μ-loop
+same-length-2 c = ?
+
+-- src/main.rt:73:1
+same-length-3 : tie.Need-same-length-3 Inv-loop μ-loop
+same-length-3 c = ?
+
+-- src/main.rt:73:1
+returns : tie.Need-returns Inv-loop μ-loop
+returns c = ?
+
+pub commit-ones-spec : {M : Type 1} → statement M
+commit-ones-spec =
+    tie.close
+    (tie.spec
+    Inv-loop
+    μ-loop
+    fresh-requires
+    loop-holds
+    slice-aggregate-put-one
+    put-one-requires
+    slice-aggregate-commit
+    commit-requires
+    add-i
+    loop-less
+    loop-again
+    say-count-requires
+    same-length
+    same-length-2
+    same-length-3
+    returns)
