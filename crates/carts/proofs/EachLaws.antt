@@ -29,7 +29,7 @@ module _ (size : ℕ) (s : List ℕ) (k : ℕ) (x : List ℕ) (e : length x ≡ 
   part-other j ne = record-other s x size k j (omega arith) e ne
 
 -- the parts of one size, and what stands at each
-next-part : (size i : ℕ) (s : List ℕ) → part (drop size s) (size * i) size ≡ part s (size * suc i) size
+pub next-part : (size i : ℕ) (s : List ℕ) → part (drop size s) (size * i) size ≡ part s (size * suc i) size
 next-part size i s =
     let k : size + size * i ≡ size * suc i = rw mul-suc (omega arith) in
     ap (take size) (drop-drop (size * i) size s ∙ ap (λ k. drop k s) k)

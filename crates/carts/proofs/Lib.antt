@@ -11,6 +11,7 @@ pub mod PartLaws
 pub mod RecordLaws
 pub mod Samples
 pub mod ScanLaws
+pub mod StateLaws
 pub mod TestLaws
 pub mod TitleKept
 pub mod TitleLaws

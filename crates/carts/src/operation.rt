@@ -3,12 +3,13 @@ use crate::bytes;
 use crate::cart;
 use crate::cart::Cart;
 ghost use mathlib.Core.Path.{_≡_};
-ghost use mathlib.Core.Bool.{true};
-ghost use Prim.Native.Nat.{_≤_};
+ghost use mathlib.Core.Bool.{true, false, cond, not};
+ghost use Prim.Native.Nat.{_≤_, _/_};
 ghost use lib.ListN.{length};
-ghost use Rattle.carts.specs.Bytes.{u16, every};
-ghost use Rattle.carts.specs.Cart.{cartSize, cartCount, copySize};
-ghost use Rattle.carts.specs.Operation.{operationFields, operationForm, operationsOf, made, retitled, recut, withdrawn, actedOn, meets, act, meetsAll, actAll};
+ghost use lib.Dec.{eqb};
+ghost use Rattle.carts.specs.Bytes.{byte, u16, every, parts};
+ghost use Rattle.carts.specs.Cart.{cartSize, cartCount, copySize, cartAt, held};
+ghost use Rattle.carts.specs.Operation.{isNew, isWithdraw, operationFields, operationForm, operationsOf, made, retitled, recut, withdrawn, actedOn, meets, act, meetsAll, actAll};
 
 // The operation has the fields of its kind, as it is stored: bytes 12 to 15 are free.
 pub fn has_fields(op: &[u8]) -> bool
@@ -46,6 +47,13 @@ pub fn all_operations(ops: &[u8]) -> bool
     ok
 }
 
+// The cart's state is the right one: new asks for an empty cart, the other kinds for a held one.
+fn is_right_state(kind: u8, held: bool) -> bool
+    ensures { λ r. ⌜ r ≡ cond (isNew kind) (not held) held ⌝ }
+{
+    if kind == 1 { !held } else { held }
+}
+
 // The operation meets its cart in the right state.
 pub fn meets(copy: &[u8], op: &[u8]) -> bool
     requires { ⌜ (length (now copy) ≡ copySize) × (length (now op) ≡ cartSize) ⌝ }
@@ -53,7 +61,7 @@ pub fn meets(copy: &[u8], op: &[u8]) -> bool
     ensures { λ r. ⌜ r ≡ meets (now (copy .entry)) (now (op .entry)) ⌝ }
 {
     let held = cart::is_held(cart::cart_at(copy, bytes::u16_at(op, 2)));
-    if op[0] == 1 { !held } else { held }
+    is_right_state(op[0], held)
 }
 
 // New: the cart is held, with the operation's fields and title.
@@ -130,10 +138,10 @@ pub fn try_all(copy: &mut [u8], ops: &[u8]) -> bool
     requires { ⌜ (length (now copy) ≡ copySize) × (every operationFields (operationsOf (now ops)) ≡ true) ⌝ }
     ensures { λ r. ⌜ (r ≡ meetsAll (now (copy .entry)) (operationsOf (now (ops .entry)))) × (now (copy .exit) ≡ actAll (now (copy .entry)) (operationsOf (now (ops .entry)))) ⌝ }
 {
-    let count = ops.len() / Cart::SIZE;
+    let operations = ops.len() / Cart::SIZE;
     let mut ok = true;
     let mut i = 0;
-    while i < count {
+    while i < operations {
         let start = Cart::SIZE * i;
         let op = &ops[start..start + Cart::SIZE];
         ok &= meets(copy, op);
@@ -151,12 +159,54 @@ pub fn apply_all(copy: &mut [u8], ops: &[u8])
     try_all(copy, ops);
 }
 
-// Each operation meets its cart in the right state, after the ones before it; tried on a copy of the copy.
+// Cart c is held after the operation; `held` says whether it was before.
+fn is_held_then(held: bool, op: &[u8], c: u32) -> bool
+    requires { ⌜ length (now op) ≡ cartSize ⌝ }
+    ensures { λ r. ⌜ r ≡ cond (eqb (u16 (now (op .entry)) 2) c) (cond (isNew (byte (now (op .entry)) 0)) true (cond (isWithdraw (byte (now (op .entry)) 0)) false held)) held ⌝ }
+{
+    let kind = op[0];
+    if bytes::u16_at(op, 2) != c {
+        return held;
+    }
+    if kind == 1 {
+        return true;
+    }
+    if kind == 4 {
+        return false;
+    }
+    held
+}
+
+// Cart c is held after the first n operations; the copy itself is only read.
+fn is_held_after(copy: &[u8], ops: &[u8], n: usize, c: u32) -> bool
+    requires { ⌜ (length (now copy) ≡ copySize) × (every operationFields (operationsOf (now ops)) ≡ true) ⌝ }
+    requires { ⌜ (n ≤ length (now ops) / cartSize) × ((1 ≤ c) × (c ≤ cartCount)) ⌝ }
+    ensures { λ r. ⌜ r ≡ held (cartAt (actAll (now (copy .entry)) (parts cartSize n (now (ops .entry)))) c) ⌝ }
+{
+    let mut state = cart::is_held(cart::cart_at(copy, c));
+    let mut i = 0;
+    while i < n {
+        let start = Cart::SIZE * i;
+        state = is_held_then(state, &ops[start..start + Cart::SIZE], c);
+        i += 1;
+    }
+    state
+}
+
+// Each operation meets its cart in the right state, after the ones before it.
 pub fn meets_all(copy: &[u8], ops: &[u8]) -> bool
     requires { ⌜ (length (now copy) ≡ copySize) × (every operationFields (operationsOf (now ops)) ≡ true) ⌝ }
     ensures { λ r. ⌜ r ≡ meetsAll (now (copy .entry)) (operationsOf (now (ops .entry))) ⌝ }
 {
-    let mut scratch = [0u8; Cart::COPY_SIZE];
-    bytes::copy_all(&mut scratch, copy);
-    try_all(&mut scratch, ops)
+    let count = ops.len() / Cart::SIZE;
+    let mut ok = true;
+    let mut i = 0;
+    while i < count {
+        let start = Cart::SIZE * i;
+        let op = &ops[start..start + Cart::SIZE];
+        let held = is_held_after(copy, ops, i, bytes::u16_at(op, 2));
+        ok &= is_right_state(op[0], held);
+        i += 1;
+    }
+    ok
 }

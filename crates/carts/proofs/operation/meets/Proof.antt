@@ -1,5 +1,4 @@
 use Rattle.carts.specs.Operation.{meets, meetsCart}
-use borrow.Author.Tests.{eq-eqb, ne-eqb}
 use borrow.Author.Needs.{needs}
 use Rattle.carts.proofs.operation.meets.Statement.{statement}
 use Rattle.carts.proofs.operation.meets.Tie as tie
@@ -13,18 +12,16 @@ cart-at-requires c κs = search needs
 is-held-requires : tie.Need-is-held-requires
 is-held-requires c κs = search needs
 
-shared-slice-read-if1 : tie.Need-shared-slice-read-if1
-shared-slice-read-if1 c = search needs
+shared-slice-read-is-right-state : tie.Need-shared-slice-read-is-right-state
+shared-slice-read-is-right-state c = search needs
+
+is-right-state-requires : tie.Need-is-right-state-requires
+is-right-state-requires c κs = search needs
 
 returns : tie.Need-returns
 unfolding meets meetsCart
 returns c = let t = c .before .before in
-    simp (t .is-held .ensures, t .before .cart-at .ensures .0, t .before .before .u16-at .ensures .0, eq-eqb _ _ (c .if1 .taken))
-
-returns-2 : tie.Need-returns-2
-unfolding meets meetsCart
-returns-2 c = let t = c .before .before in
-    simp (t .is-held .ensures, t .before .cart-at .ensures .0, t .before .before .u16-at .ensures .0, ne-eqb _ _ (c .if1 .left))
+    simp (c .is-right-state .ensures, t .is-held .ensures, t .before .cart-at .ensures .0, t .before .before .u16-at .ensures .0)
 
 pub meets-spec : {M : Type 1} → statement M
 meets-spec =
@@ -33,6 +30,6 @@ meets-spec =
     u16-at-requires
     cart-at-requires
     is-held-requires
-    shared-slice-read-if1
-    returns
-    returns-2)
+    shared-slice-read-is-right-state
+    is-right-state-requires
+    returns)
