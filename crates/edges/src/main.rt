@@ -9,7 +9,7 @@ use replication::send;
 use replication::setup;
 use transcript::build;
 ghost use mathlib.Core.Path.{_≡_};
-ghost use Prim.Native.Nat.{_+_, _*_, _≤_};
+ghost use Prim.Native.Nat.{_+_, _*_, _<_, _≤_};
 ghost use lib.ListN.{length};
 
 // A line: what was done, and the answer.
@@ -47,18 +47,24 @@ fn put_one(op: &mut [u8], i: u32)
     }
 }
 
+// Operation i of a run, as operation k of a transaction of eight.
+fn put_at(ops: &mut [u8], k: usize, i: u32)
+    requires { ⌜ (length (now ops) ≡ 640) × (k < 8) ⌝ }
+    ensures { λ _. ⌜ length (now (ops .exit)) ≡ 640 ⌝ }
+{
+    let start = 80 * k;
+    put_one(&mut ops[start..start + 80], i);
+}
+
 // Operations `first` to `first` + 7 of a run.
 fn put_eight(ops: &mut [u8], first: u32)
     requires { ⌜ (length (now ops) ≡ 640) × (first ≤ 4096) ⌝ }
 {
-    put_one(&mut ops[0..80], first);
-    put_one(&mut ops[80..160], first + 1);
-    put_one(&mut ops[160..240], first + 2);
-    put_one(&mut ops[240..320], first + 3);
-    put_one(&mut ops[320..400], first + 4);
-    put_one(&mut ops[400..480], first + 5);
-    put_one(&mut ops[480..560], first + 6);
-    put_one(&mut ops[560..640], first + 7);
+    let mut k: usize = 0;
+    while k < 8 {
+        put_at(ops, k, first + k as u32);
+        k += 1;
+    }
 }
 
 // A fresh system of one studio, with session 1 at it.
@@ -111,7 +117,8 @@ fn commit_eights(library: &mut [u8], log: &mut [u8], sessions: &mut [u8]) {
     let mut op = [0u8; 80];
     put_one(&mut op, 200);
     let more = commit::commit(control, library, log, sessions, 1, &op);
-    say_count(b"one commit more", more.answer);
+    let last = more.answer;
+    say_count(b"one commit more", last);
 }
 
 // So many sends to studio 1; the last answer is told.
@@ -148,7 +155,8 @@ fn read_many(
     let mut request = [0u8; 80];
     build::put_numbers(&mut request, &numbers);
     let done = read::read(control, library, log, sessions, 1, &request, output);
-    say_read(what, done.answer);
+    let answer = done.answer;
+    say_read(what, answer);
 }
 
 fn main() {

@@ -15,59 +15,59 @@ abbrev μ-loop : tie.MeasureT-loop
 μ-loop library₀ log₀ sessions₀ count what control₀ answer₀ i₀ library log sessions control answer i =
     ?
 
--- src/main.rt:82:9
+-- src/main.rt:88:9
 fresh-requires : tie.Need-fresh-requires Inv-loop μ-loop
 fresh-requires c κs = ?
 
--- src/main.rt:85:5
+-- src/main.rt:91:5
 loop-holds : tie.Need-loop-holds Inv-loop μ-loop
 loop-holds c = ?
 
--- src/main.rt:87:17
+-- src/main.rt:93:17
 slice-aggregate-put-one : tie.Need-slice-aggregate-put-one Inv-loop μ-loop
 slice-aggregate-put-one c = ?
 
--- src/main.rt:87:9
+-- src/main.rt:93:9
 put-one-requires : tie.Need-put-one-requires Inv-loop μ-loop
 put-one-requires c κs = ?
 
--- src/main.rt:88:71
+-- src/main.rt:94:71
 slice-aggregate-commit : tie.Need-slice-aggregate-commit Inv-loop μ-loop
 slice-aggregate-commit c = ?
 
--- src/main.rt:88:13
+-- src/main.rt:94:13
 commit-requires : tie.Need-commit-requires Inv-loop μ-loop
 commit-requires c κs = ?
 
--- src/main.rt:91:9
+-- src/main.rt:97:9
 add-i : tie.Need-add-i Inv-loop μ-loop
 add-i c = ?
 
--- src/main.rt:85:5
+-- src/main.rt:91:5
 loop-less : tie.Need-loop-less Inv-loop μ-loop
 loop-less c = ?
 
--- src/main.rt:85:5
+-- src/main.rt:91:5
 loop-again : tie.Need-loop-again Inv-loop μ-loop
 loop-again c = ?
 
--- src/main.rt:93:5
+-- src/main.rt:99:5
 say-count-requires : tie.Need-say-count-requires Inv-loop μ-loop
 say-count-requires c κs = ?
 
--- src/main.rt:73:1
+-- src/main.rt:79:1
 same-length : tie.Need-same-length Inv-loop μ-loop
 same-length c = ?
 
--- src/main.rt:73:1
+-- src/main.rt:79:1
 same-length-2 : tie.Need-same-length-2 Inv-loop μ-loop
 same-length-2 c = ?
 
--- src/main.rt:73:1
+-- src/main.rt:79:1
 same-length-3 : tie.Need-same-length-3 Inv-loop μ-loop
 same-length-3 c = ?
 
--- src/main.rt:73:1
+-- src/main.rt:79:1
 returns : tie.Need-returns Inv-loop μ-loop
 returns c = ?
 

@@ -11,31 +11,31 @@ Inv-loop library log sessions count what now₀ answer₀ i₀ now answer i = ?
 abbrev μ-loop : tie.MeasureT-loop
 μ-loop library log sessions count what now₀ answer₀ i₀ now answer i = ?
 
--- src/main.rt:129:5
+-- src/main.rt:136:5
 loop-holds : tie.Need-loop-holds Inv-loop μ-loop
 loop-holds c = ?
 
--- src/main.rt:130:13
+-- src/main.rt:137:13
 send-requires : tie.Need-send-requires Inv-loop μ-loop
 send-requires c κs = ?
 
--- src/main.rt:133:9
+-- src/main.rt:140:9
 add-i : tie.Need-add-i Inv-loop μ-loop
 add-i c = ?
 
--- src/main.rt:129:5
+-- src/main.rt:136:5
 loop-less : tie.Need-loop-less Inv-loop μ-loop
 loop-less c = ?
 
--- src/main.rt:129:5
+-- src/main.rt:136:5
 loop-again : tie.Need-loop-again Inv-loop μ-loop
 loop-again c = ?
 
--- src/main.rt:135:5
+-- src/main.rt:142:5
 say-count-requires : tie.Need-say-count-requires Inv-loop μ-loop
 say-count-requires c κs = ?
 
--- src/main.rt:118:1
+-- src/main.rt:125:1
 returns : tie.Need-returns Inv-loop μ-loop
 returns c = ?
 
