@@ -44,7 +44,9 @@ pub struct Player {
 
 impl Player {
     // No system yet.
-    pub fn new() -> Player {
+    pub fn new() -> Player
+        ensures { λ r. ⌜ r .line ≡ 0 ⌝ }
+    {
         Player {
             line: 0,
             control: Control::new(0, [0; 16]),
@@ -59,25 +61,33 @@ impl Player {
     }
 
     // One line more.
-    pub fn next_line(self) -> Player {
+    pub fn next_line(self) -> Player
+        ensures { λ r. ⌜ (r .control ≡ self .control) × (r .history ≡ self .history) ⌝ }
+    {
         let mut next = self;
         next.line = std::num::wrapping_add_u32(self.line, 1);
         next
     }
 
-    fn with_control(self, control: Control) -> Player {
+    fn with_control(self, control: Control) -> Player
+        ensures { λ r. ⌜ (r .control ≡ control) × (r .history ≡ self .history) ⌝ }
+    {
         let mut next = self;
         next.control = control;
         next
     }
 
-    fn with_history(self, history: History) -> Player {
+    fn with_history(self, history: History) -> Player
+        ensures { λ r. ⌜ (r .control ≡ self .control) × (r .history ≡ history) ⌝ }
+    {
         let mut next = self;
         next.history = history;
         next
     }
 
-    fn accepted(self) -> Player {
+    fn accepted(self) -> Player
+        ensures { λ r. ⌜ (r .control ≡ self .control) × (r .history ≡ self .history) ⌝ }
+    {
         let mut tally = self.tally;
         tally.accepted = std::num::wrapping_add_u32(tally.accepted, 1);
         let mut next = self;
@@ -85,7 +95,9 @@ impl Player {
         next
     }
 
-    fn waited(self) -> Player {
+    fn waited(self) -> Player
+        ensures { λ r. ⌜ (r .control ≡ self .control) × (r .history ≡ self .history) ⌝ }
+    {
         let mut tally = self.tally;
         tally.waited = std::num::wrapping_add_u32(tally.waited, 1);
         let mut next = self;
@@ -93,7 +105,9 @@ impl Player {
         next
     }
 
-    fn refused(self, n: u32) -> Player {
+    fn refused(self, n: u32) -> Player
+        ensures { λ r. ⌜ (r .control ≡ self .control) × (r .history ≡ self .history) ⌝ }
+    {
         print::refusal(n);
         let mut tally = self.tally;
         tally.refused = std::num::wrapping_add_u32(tally.refused, 1);
@@ -103,7 +117,9 @@ impl Player {
     }
 
     // A line that is no call.
-    pub fn unreadable(self, mistake: Mistake, at: usize) -> Player {
+    pub fn unreadable(self, mistake: Mistake, at: usize) -> Player
+        ensures { λ r. ⌜ (r .control ≡ self .control) × (r .history ≡ self .history) ⌝ }
+    {
         print::words(b"  line ");
         print::number(self.line);
         print::words(b", column ");

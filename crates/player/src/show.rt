@@ -4,7 +4,9 @@ use replication::control::Control;
 use replication::session::Session;
 use replication::session::Waiting;
 use transcript::text;
+ghost use mathlib.Core.Path.{_≡_};
 ghost use Prim.Native.Nat.{_<_, _≤_};
+ghost use Rattle.transcript.specs.Replay.{askedAt};
 
 // Cart c of a copy, where it is held; the answer is whether it is.
 fn cart_of(library: &[u8], copy: usize, c: usize) -> bool
@@ -61,14 +63,16 @@ pub fn numbers(request: &[u8], n: u32) {
 }
 
 // The number asked at place i of a request.
-pub fn asked(request: &[u8], i: u32) -> u32 {
+pub fn asked(request: &[u8], i: u32) -> u32
+    ensures { λ r. ⌜ r ≡ askedAt (now (request .entry)) i ⌝ }
+{
     let at = 16 + 2 * (i as usize);
     wide(text::letter(request, at)) + 256 * wide(text::letter(request, at + 1))
 }
 
 // A byte as a number.
 pub fn wide(b: u8) -> u32
-    ensures { λ r. ⌜ r < 256 ⌝ }
+    ensures { λ r. ⌜ (r ≡ b) × (r < 256) ⌝ }
 {
     b as u32
 }
