@@ -163,7 +163,6 @@ fn main() {
     let mut library = [0u8; 51200];
     let mut log = [0u8; 40960];
     let mut sessions = [0u8; 1280];
-    let mut output = [0u8; 2560];
     let control = commit_ones(
         &mut library,
         &mut log,
@@ -203,14 +202,16 @@ fn main() {
         b"513 commits of one operation, the last",
     );
     let empty = fresh(&mut library, &mut log, &mut sessions);
+    let mut short = [0u8; 2559];
     read_many(
         empty,
         &library,
         &log,
         &mut sessions,
-        &mut output[0..2559],
+        &mut short,
         b"32 numbers, output of 2559 bytes",
     );
+    let mut output = [0u8; 2560];
     read_many(
         empty,
         &library,
