@@ -5,78 +5,12 @@ use crate::engine::Engine;
 use crate::lent::Lent;
 use simulator::{Answer, Control};
 
-#[link(name = "sulyobak", kind = "static")]
-unsafe extern "C" {
-    fn sulyobak_setup(
-        library: *mut u8,
-        library_len: usize,
-        log: *mut u8,
-        log_len: usize,
-        sessions: *mut u8,
-        sessions_len: usize,
-        studios: u32,
-        session_studios: *const u8,
-        session_studios_len: usize,
-    ) -> Answer;
-    fn sulyobak_commit(
-        library: *mut u8,
-        library_len: usize,
-        log: *mut u8,
-        log_len: usize,
-        sessions: *mut u8,
-        sessions_len: usize,
-        control: Control,
-        session: u32,
-        operations: *const u8,
-        operations_len: usize,
-    ) -> Answer;
-    fn sulyobak_send(
-        library: *mut u8,
-        library_len: usize,
-        log: *mut u8,
-        log_len: usize,
-        sessions: *mut u8,
-        sessions_len: usize,
-        control: Control,
-        studio: u32,
-    ) -> Answer;
-    fn sulyobak_refresh(
-        library: *mut u8,
-        library_len: usize,
-        log: *mut u8,
-        log_len: usize,
-        sessions: *mut u8,
-        sessions_len: usize,
-        control: Control,
-        studio: u32,
-    ) -> Answer;
-    fn sulyobak_read(
-        library: *mut u8,
-        library_len: usize,
-        log: *mut u8,
-        log_len: usize,
-        sessions: *mut u8,
-        sessions_len: usize,
-        control: Control,
-        session: u32,
-        request: *const u8,
-        request_len: usize,
-        output: *mut u8,
-        output_len: usize,
-    ) -> Answer;
-    fn sulyobak_collect(
-        library: *mut u8,
-        library_len: usize,
-        log: *mut u8,
-        log_len: usize,
-        sessions: *mut u8,
-        sessions_len: usize,
-        control: Control,
-        session: u32,
-        output: *mut u8,
-        output_len: usize,
-    ) -> Answer;
-}
+#[path = "../../calls.rs"]
+mod calls;
+use calls::{
+    sulyobak_collect, sulyobak_commit, sulyobak_read, sulyobak_refresh, sulyobak_send,
+    sulyobak_setup,
+};
 
 pub struct Real;
 
