@@ -1,7 +1,7 @@
 -- Laws of carts and copies.
 use Prim.Native.Nat.{ℕ, zero, suc, _+_, _-_, _*_, _<_, _≤_}
 use mathlib.Core.Path.{_≡_, refl, ap, _∙_}
-use mathlib.Core.Bool.{Bool, true, false, cond, _&&_, and-assoc, and-true, or-false}
+use mathlib.Core.Bool.{Bool, true, false, cond, not, _&&_, _||_, Bool·beq, and-assoc, and-true, and-false, or-false}
 use mathlib.Core.List.{List, [], _∷_}
 use native.Mathlib.Nat.{add-sub-cancel}
 use native.Mathlib.Numerals.{add-one}
@@ -19,6 +19,14 @@ use Rattle.carts.proofs.PartLaws.{length-part}
 pub length-cart : (copy : List ℕ) (c : ℕ) → length copy ≡ 10240 → c ≤ 128 → length (cartAt copy c) ≡ 80
 unfolding cartAt
 length-cart copy c e h = length-part copy (80 * (c - 1)) 80 (omega arith)
+
+-- a byte is a letter where one is asked for, else zero: it is one of the two, and zero where no letter is asked for
+pub title-byte : (b : ℕ) (p asked : Bool) → p ≡ printable b → ((eqb b 0 || p) && not (Bool·beq (eqb b 0) asked)) ≡ cond asked (printable b) (isZero b)
+unfolding printable within
+title-byte zero p true e = refl
+title-byte zero p false e = refl
+title-byte (suc b) p true e = rw eqb·suc-zero (and-true p ∙ e)
+title-byte (suc b) p false e = rw eqb·suc-zero (and-false p)
 
 -- m letters, then zeros
 abbrev pub letters : ℕ → List ℕ → Bool

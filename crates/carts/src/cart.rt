@@ -50,15 +50,13 @@ pub fn is_held(cart: &[u8]) -> bool
     cart[0] == 1
 }
 
-// The byte at index j of a title's field: a letter where the title of n letters has one, else zero.
+// The byte at index j of a title's field: a letter where the title of n letters has one, else zero. With no choice between two
+// tests, it vectorises in fewer instructions.
 fn is_title_byte(b: u8, j: u8, n: u8) -> bool
     ensures { λ r. ⌜ r ≡ cond (ltb j n) (printable b) (isZero b) ⌝ }
 {
-    if j < n {
-        bytes::is_printable(b)
-    } else {
-        b == 0
-    }
+    let zero = b == 0;
+    (zero | bytes::is_printable(b)) & (zero != (j < n))
 }
 
 // A title's field has n letters, then zeros.

@@ -14,8 +14,8 @@ use Rattle.replication.specs.declared.record.Record.{Record}
 use Rattle.replication.proofs.Formed.{Formed}
 use Rattle.replication.proofs.Chains.{Placed, chained, placed}
 
-pub more : (n : ℕ) → (n ≡ 0 → ⊥) → (n ≡ 1 → ⊥) → 2 ≤ n
-more n h k = omega arith
+pub some : (n : ℕ) → (n ≡ 0 → ⊥) → 1 ≤ n
+some n h = omega arith
 
 pub walk-none : (n : ℕ) (log : List ℕ) (r : ℕ) → n ≡ 0 → r ≡ walk n log r
 unfolding walk
@@ -40,25 +40,36 @@ module _ (n : ℕ) (log : List ℕ) (r : ℕ) (h : n ≡ 0 → ⊥) where
     pub walk-later : (x : Record) → x ≡ linksOf log r → walkable (n - 1) log (x .«next_transaction») ≡ true
     walk-later x e = rw e (and-right (within 1 512 r) (walkable (n - 1) log (nextTransaction log r)) both)
 
--- a walk of one transaction, and of two at once, by the links x and y that it reads
-pub walk-one : (n : ℕ) (log : List ℕ) (r : ℕ) → n ≡ 1 → (x : Record) → x ≡ linksOf log r → x .«next_transaction» ≡ walk n log r
-walk-one n log r h x e =
-    walk-none (n - 1) log (x .«next_transaction») (omega arith) ∙ walk-on n log r (λ z. omega arith) x e
+-- a walk of n = a + b transactions is one of a, and one of b from there
+walk-split : (a b n : ℕ) (log : List ℕ) (r : ℕ) → n ≡ a + b → walk b log (walk a log r) ≡ walk n log r
+unfolding walk
+walk-split zero b n log r e = let q : b ≡ n = omega arith in ap (λ (k : ℕ). walk k log r) q
+walk-split (suc a) b zero log r e = let z : ⊥ = omega arith in absurd z
+walk-split (suc a) b (suc n) log r e = walk-split a b n log (nextTransaction log r) (omega arith)
 
-module _ (n : ℕ) (log : List ℕ) (r : ℕ) (h : n ≡ 0 → ⊥) (k : n ≡ 1 → ⊥) (x : Record) (e : x ≡ linksOf log r) where
-  pub walk-there : walkable n log r ≡ true → (1 ≤ x .«next_transaction») × (x .«next_transaction» ≤ 512)
-  walk-there w = walk-here (n - 1) log (x .«next_transaction») (λ z. omega arith) (walk-later n log r h w x e)
+walkable-split : (a b n : ℕ) (log : List ℕ) (r : ℕ) → n ≡ a + b → walkable n log r ≡ true → (walkable a log r ≡ true) × (walkable b log (walk a log r) ≡ true)
+unfolding walkable walk
+walkable-split zero b n log r e w = let q : b ≡ n = omega arith in (refl, ap (λ (k : ℕ). walkable k log r) q ∙ w)
+walkable-split (suc a) b zero log r e w = let z : ⊥ = omega arith in absurd z
+walkable-split (suc a) b (suc n) log r e w =
+    let rest = walkable n log (nextTransaction log r) in
+    let s = walkable-split a b n log (nextTransaction log r) (omega arith) (and-right (within 1 512 r) rest w) in
+    (rw (and-left (within 1 512 r) rest w) (s .0), s .1)
 
-  module _ (y : Record) (f : y ≡ linksOf log (x .«next_transaction»)) where
-    pub walk-two : walk (n - 2) log (y .«next_transaction») ≡ walk n log r
-    walk-two =
-        let q : n - 2 ≡ n - 1 - 1 = omega arith in
-        ap (λ (i : ℕ). walk i log (y .«next_transaction»)) q ∙ walk-on (n - 1) log (x .«next_transaction») (λ z. omega arith) y f ∙ walk-on n log r h x e
+-- the first a transactions of a longer walk, to record q
+module _ (a n : ℕ) (log : List ℕ) (r : ℕ) (l : a < n) where
+  whole : n ≡ a + (n - a)
+  whole = omega arith
 
-    pub walk-after : walkable n log r ≡ true → walkable (n - 2) log (y .«next_transaction») ≡ true
-    walk-after w =
-        let q : n - 2 ≡ n - 1 - 1 = omega arith in
-        ap (λ (i : ℕ). walkable i log (y .«next_transaction»)) q ∙ walk-later (n - 1) log (x .«next_transaction») (λ z. omega arith) (walk-later n log r h w x e) y f
+  pub stretch-on : (q : ℕ) → q ≡ walk a log r → walk (n - a) log q ≡ walk n log r
+  stretch-on q e = ap (walk (n - a) log) e ∙ walk-split a (n - a) n log r whole
+
+  module _ (w : walkable n log r ≡ true) where
+    pub stretch-here : walkable a log r ≡ true
+    stretch-here = walkable-split a (n - a) n log r whole w .0
+
+    pub stretch-later : (q : ℕ) → q ≡ walk a log r → walkable (n - a) log q ≡ true
+    stretch-later q e = ap (walkable (n - a) log) e ∙ walkable-split a (n - a) n log r whole w .1
 
 -- a chain of n transactions can be walked along to each of them, and past the last
 chain-walkable : (n : ℕ) (log : List ℕ) (first r end : ℕ) → 1 ≤ r → end ≤ 513 → chainForm n log first r end ≡ true → (k : ℕ) → k ≤ n → walkable k log first ≡ true

@@ -49,7 +49,7 @@ pub fn append_transaction(control: Control, log: &mut [u8], ops: &[u8])
         write_all(log, first, ops);
         return;
     }
-    let last = walk::walk(log, control.commits - 1, 1);
+    let last = walk::walk_far(log, control.commits - 1, 1);
     write_all(log, first, ops);
     cell::put(log, last, 14, first);
 }

@@ -58,7 +58,7 @@ pub fn refresh(
         };
     }
     let applied = control.applied_by(studio);
-    let first = walk::walk(log, applied, 1);
+    let first = walk::walk_far(log, applied, 1);
     let start = Cart::COPY_SIZE * (studio as usize);
     let end = start + Cart::COPY_SIZE;
     transaction::apply_transaction(&mut library[start..end], log, first);

@@ -1,16 +1,19 @@
-use borrow.Author.Tests.{lt-ltb, le-ltb}
+use lib.Dec.{ltb}
+use Rattle.carts.proofs.CartLaws.{title-byte}
 use borrow.Author.Needs.{needs}
 use Rattle.carts.proofs.cart.is_title_byte.Statement.{statement}
 use Rattle.carts.proofs.cart.is_title_byte.Tie as tie
+use Rattle.carts.proofs.cart.is_title_byte.Reads as reads
+use Rattle.carts.proofs.cart.is_title_byte.Lts as lts
+use Rattle.carts.proofs.bytes.is_printable.Reads as is-printable-reads
 
+-- src/cart.rt:59:13
 is-printable-requires : tie.Need-is-printable-requires
 is-printable-requires c κs = search needs
 
+-- src/cart.rt:55:1
 returns : tie.Need-returns
-returns c = simp (lt-ltb _ _ (c .before .if1 .taken), c .is-printable .ensures)
-
-returns-2 : tie.Need-returns-2
-returns-2 c = simp (le-ltb _ _ (c .if1 .left))
+returns c = let a = c .before .args in title-byte (a .b) _ (ltb (a .j) (a .n)) (c .is-printable .ensures)
 
 pub is-title-byte-spec : {M : Type 1} → statement M
-is-title-byte-spec = tie.close (tie.spec is-printable-requires returns returns-2)
+is-title-byte-spec = tie.close (tie.spec is-printable-requires returns)

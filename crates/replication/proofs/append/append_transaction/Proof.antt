@@ -8,7 +8,7 @@ use Rattle.replication.proofs.append.append_transaction.Reads as reads
 use Rattle.replication.proofs.append.append_transaction.Lts as lts
 use Rattle.replication.proofs.cell.put.Reads as put-reads
 use Rattle.replication.proofs.append.write_all.Reads as write-all-reads
-use Rattle.replication.proofs.walk.walk.Reads as walk-reads
+use Rattle.replication.proofs.walk.walk_far.Reads as walk-far-reads
 
 -- src/append.rt:79:17
 add-first : tie.Need-add-first
@@ -32,12 +32,12 @@ later : (c : tie.Else1) → c .before .before .before .before .before .args .con
 later c e = omega (arith, c .if1 .left)
 
 -- src/append.rt:84:32
-sub-walk : tie.Need-sub-walk
-sub-walk c = search needs
+sub-walk-far : tie.Need-sub-walk-far
+sub-walk-far c = search needs
 
 -- src/append.rt:84:9
-walk-requires : tie.Need-walk-requires
-walk-requires c κs = let s = c .before .before .before .before .before .before .before in
+walk-far-requires : tie.Need-walk-far-requires
+walk-far-requires c κs = let s = c .before .before .before .before .before .before .before in
     (s .pre .0 .0, last-walkable (s .args .control) _ (later (c .before .before)) (s .pre .1) .0)
 
 -- src/append.rt:85:5
@@ -50,7 +50,7 @@ put-requires c κs = let w = c .before .before .before in
     let a = w .before .before in
     let s = a .before .before .before .before .before .before .before .before in
     let k = last-walkable (s .args .control) _ (later (a .before .before .before)) (s .pre .1) .1 in
-    let e = a .walk .ensures in
+    let e = a .walk-far .ensures in
     ((rw e (k .0), omega (arith, k .1, w .write-all2 .kept .0)), (omega arith, omega arith))
 
 -- src/append.rt:74:1
@@ -63,7 +63,7 @@ returns-2 c = let l = c .before .before in
     let w = l .before .before .before .before in
     let a = w .before .before in
     let s = a .before .before .before .before .before .before .before .before in
-    append-later (s .args .control) _ _ (later (a .before .before .before)) (s .pre .0 .1 .0) _ (a .walk .ensures) _ (w .write-all2 .ensures) _ (l .put .ensures)
+    append-later (s .args .control) _ _ (later (a .before .before .before)) (s .pre .0 .1 .0) _ (a .walk-far .ensures) _ (w .write-all2 .ensures) _ (l .put .ensures)
 
 pub append-transaction-spec : {M : Type 1} → statement M
 append-transaction-spec =
@@ -73,8 +73,8 @@ append-transaction-spec =
     write-all-requires
     same-length
     returns
-    sub-walk
-    walk-requires
+    sub-walk-far
+    walk-far-requires
     write-all-requires-2
     put-requires
     same-length-2

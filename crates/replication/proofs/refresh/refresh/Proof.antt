@@ -14,7 +14,7 @@ use Rattle.replication.proofs.control.Control.applied_by.Reads as appli
 use Rattle.replication.proofs.control.Control.with_applied.Reads as with-applied-reads
 use Rattle.replication.proofs.refresh.decide_refresh.Reads as decide-refresh-reads
 use Rattle.replication.proofs.transaction.apply_transaction.Reads as apply-transaction-reads
-use Rattle.replication.proofs.walk.walk.Reads as walk-reads
+use Rattle.replication.proofs.walk.walk_far.Reads as walk-far-reads
 
 -- src/refresh.rt:53:9
 decide-refresh-requires : tie.Need-decide-refresh-requires
@@ -38,8 +38,8 @@ applied-by-requires : tie.Need-applied-by-requires
 applied-by-requires c κs = let k = known c in (k .low, k .high)
 
 -- src/refresh.rt:61:9
-walk-requires : tie.Need-walk-requires
-walk-requires c κs = let k = known (c .before) in (k .log, rw (c .applied-by .ensures) (k .walks))
+walk-far-requires : tie.Need-walk-far-requires
+walk-far-requires c κs = let k = known (c .before) in (k .log, rw (c .applied-by .ensures) (k .walks))
 
 -- src/refresh.rt:62:17
 mul-start : tie.Need-mul-start
@@ -66,7 +66,7 @@ apply-transaction-requires : tie.Need-apply-transaction-requires
 apply-transaction-requires c κs = let w = c .before in
     let k = known (w .before .before) in
     let g = c .before .before .before .before .before .before .before .before .before .args in
-    (length-lent 10240 (g .studio) (g .library .now) (omega (arith, k .library, k .high)), (k .log, rw (w .walk .ensures, w .before .applied-by .ensures) (k .acts)))
+    (length-lent 10240 (g .studio) (g .library .now) (omega (arith, k .library, k .high)), (k .log, rw (w .walk-far .ensures, w .before .applied-by .ensures) (k .acts)))
 
 -- src/refresh.rt:65:13
 add-n : tie.Need-add-n
@@ -89,7 +89,7 @@ returns-2 c = let t = c .before .before .before in
     let e = a .before in
     let g = c .before .before .before .before .before .before .before .before .before .before .before .before .before .args in
     refresh-accepted _ _ _ _ (e .before .decide-refresh .ensures) (e .if1 .left) _ (ap (λ (n : ℕ). n + 1) (a .applied-by .ensures)) _ (c .with-applied .ensures) _
-    (library-after (g .library .now) (g .log .now) (g .studio) _ _ _ _ (t .apply-transaction .ensures) (w .walk .ensures) (a .applied-by .ensures))
+    (library-after (g .library .now) (g .log .now) (g .studio) _ _ _ _ (t .apply-transaction .ensures) (w .walk-far .ensures) (a .applied-by .ensures))
 
 pub refresh-spec : {M : Type 1} → statement M
 refresh-spec =
@@ -99,7 +99,7 @@ refresh-spec =
     same-length
     returns
     applied-by-requires
-    walk-requires
+    walk-far-requires
     mul-start
     add-end
     sub-apply-transaction

@@ -1,7 +1,7 @@
 use mathlib.Core.Path.{_∙_}
-use Prim.Native.Nat.{_≤_}
 use native.Mathlib.Omega.{arith}
-use Rattle.replication.proofs.WalkLaws.{more, walk-none, walk-one, walk-two, walk-here, walk-there, walk-after}
+use Prim.Native.Nat.{_≤_}
+use Rattle.replication.proofs.WalkLaws.{some, walk-none, walk-on, walk-here, walk-later}
 use Prim.Native.Nat.{ℕ, _<_}
 use borrow.Fn.Kinds.{In}
 use borrow.Fn.PlainCycle.{Measures, is, falls, and}
@@ -40,7 +40,28 @@ walk-at-requires : (t : ℕ) → walk-lts.Need-at-requires (
 walk-at-requires t c κs = let s = c .before .before in
     (s .pre .1 .0, walk-here _ _ _ (c .if1 .left) (s .pre .1 .1))
 
--- src/walk.rt:20:9
+-- src/walk.rt:19:15
+walk-sub-walk : (t : ℕ) → walk-lts.Need-sub-walk (
+  at-reads.Asked,
+  at-reads.Learnt,
+  walk-below t,
+  walk.Post,
+) (walk-at t) walk.Post
+walk-sub-walk t c = some (c .before .before .before .args .left) (c .before .if1 .left)
+
+-- src/walk.rt:19:5
+walk-walk-requires : (t : ℕ) → walk-lts.Need-walk-requires (
+  at-reads.Asked,
+  at-reads.Learnt,
+  walk-below t,
+  walk.Post,
+) (walk-at t) walk.Post
+walk-walk-requires t c κs = let s = c .before .before .before in
+    let n = c .before .if1 .left in
+    let h : 1 ≤ s .args .left = some (s .args .left) n in
+    (omega (arith, s .pre .0), (s .pre .1 .0, walk-later _ _ _ n (s .pre .1 .1) (c .at .result) (c .at .ensures .0)))
+
+-- src/walk.rt:11:1
 walk-returns-2 : (t : ℕ) → walk-lts.Need-returns-2 (
   at-reads.Asked,
   at-reads.Learnt,
@@ -48,54 +69,7 @@ walk-returns-2 : (t : ℕ) → walk-lts.Need-returns-2 (
   walk.Post,
 ) (walk-at t) walk.Post
 walk-returns-2 t c = let a = c .before in
-    walk-one _ _ _ (c .if2 .taken) (a .at .result) (a .at .ensures .0)
-
--- src/walk.rt:22:9
-walk-at-requires-2 : (t : ℕ) → walk-lts.Need-at-requires-2 (
-  at-reads.Asked,
-  at-reads.Learnt,
-  walk-below t,
-  walk.Post,
-) (walk-at t) walk.Post
-walk-at-requires-2 t c κs = let a = c .before in
-    let e = a .before in
-    let s = e .before .before in
-    (s .pre .1 .0, walk-there _ _ _ (e .if1 .left) (c .if2 .left) (a .at .result) (a .at .ensures .0) (s .pre .1 .1))
-
--- src/walk.rt:23:15
-walk-sub-walk : (t : ℕ) → walk-lts.Need-sub-walk (
-  at-reads.Asked,
-  at-reads.Learnt,
-  walk-below t,
-  walk.Post,
-) (walk-at t) walk.Post
-walk-sub-walk t c = let e = c .before in
-    more (e .before .before .before .before .args .left) (e .before .before .if1 .left) (e .if2 .left)
-
--- src/walk.rt:23:5
-walk-walk-requires : (t : ℕ) → walk-lts.Need-walk-requires (
-  at-reads.Asked,
-  at-reads.Learnt,
-  walk-below t,
-  walk.Post,
-) (walk-at t) walk.Post
-walk-walk-requires t c κs = let e = c .before in
-    let a = e .before in
-    let s = a .before .before .before in
-    let n = a .before .if1 .left in
-    let h : 2 ≤ s .args .left = more (s .args .left) n (e .if2 .left) in
-    (omega (arith, s .pre .0), (s .pre .1 .0, walk-after _ _ _ n (e .if2 .left) (a .at .result) (a .at .ensures .0) (c .at2 .result) (c .at2 .ensures .0) (s .pre .1 .1)))
-
--- src/walk.rt:11:1
-walk-returns-3 : (t : ℕ) → walk-lts.Need-returns-3 (
-  at-reads.Asked,
-  at-reads.Learnt,
-  walk-below t,
-  walk.Post,
-) (walk-at t) walk.Post
-walk-returns-3 t c = let b = c .before in
-    let a = b .before .before in
-    c .walk .ensures ∙ walk-two _ _ _ (a .before .if1 .left) (b .before .if2 .left) (a .at .result) (a .at .ensures .0) (b .at2 .result) (b .at2 .ensures .0)
+    c .walk .ensures ∙ walk-on _ _ _ (a .before .if1 .left) (a .at .result) (a .at .ensures .0)
 
 pub +walk-spec : {M : Type 1} → statement M
 +walk-spec = close μ-walk λ t. walk-lts.spec (
@@ -108,8 +82,6 @@ pub +walk-spec : {M : Type 1} → statement M
     walk.Post
     (walk-returns t)
     (walk-at-requires t)
-    (walk-returns-2 t)
-    (walk-at-requires-2 t)
     (walk-sub-walk t)
     (walk-walk-requires t)
-    (walk-returns-3 t)
+    (walk-returns-2 t)
