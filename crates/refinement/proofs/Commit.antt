@@ -3,7 +3,7 @@ use mathlib.Core.Path.{_≡_, refl, sym, ap, _∙_, subst}
 use mathlib.Core.Logic.{_≢_}
 use mathlib.Core.Bool.{true, false, cond}
 use mathlib.Core.List.{List, [], _∷_, _++_}
-use Prim.Native.Nat.{ℕ, _+_, _*_, _-_, _≤_, _<_, _/_, _%_}
+use Prim.Native.Nat.{ℕ, _+_, _*_, _-_, _≤_, _<_, _/_}
 use native.Mathlib.Omega.{arith}
 use native.Mathlib.Numerals.{add-one}
 use native.Mathlib.Decide.{ℕ-discrete}
@@ -11,9 +11,9 @@ use borrow.Author.Tests.{eq-eqb, ne-eqb}
 use lib.Dec.{eqb}
 use lib.ListN.{length, drop, getD, set, length-set}
 use lib.Seq.{drop-drop}
-use Rattle.carts.specs.Bytes.{part, within, all, every, allZero}
+use Rattle.carts.specs.Bytes.{part, all, every, allZero}
 use Rattle.carts.specs.Operation.{operationFields, operationForm, operationsOf, actAll}
-use Rattle.carts.proofs.TestLaws.{all-at, every-at, at-every, within-low, within-high}
+use Rattle.carts.proofs.TestLaws.{all-at, every-at, at-every}
 use Rattle.carts.proofs.PartLaws.{length-part}
 use Rattle.carts.proofs.EachLaws.{length-parts, parts-at}
 use Rattle.carts.proofs.ZeroLaws.{zero-drop}
@@ -28,6 +28,8 @@ use Rattle.replication.specs.Calls as Bytes
 use Rattle.replication.specs.Calls.{After, committed}
 use Rattle.replication.specs.declared.control.Control.{Control}
 use Rattle.replication.proofs.CopyLaws.{length-copyAt, length-withCopy, copy-same, copy-other}
+use Rattle.replication.proofs.AppendLaws.{length-operations}
+use Rattle.replication.proofs.CommitLaws.{size-few}
 use Rattle.replication.proofs.Formed.{Formed, applied-known, counts-more, studio-copy, copy-in-use}
 use Rattle.replication.proofs.RowLaws.{memory-passes, unless-case, unless-both}
 use Rattle.replication.proofs.Accepted.{KnownSession, commit-passed}
@@ -43,17 +45,8 @@ use Rattle.refinement.proofs.Sessions.{SessionBytes, session-more, own-
 use Rattle.refinement.proofs.Arrays.{Arrays, arrays, formed, of-layout}
 
 -- the operations in the bytes of a commit that rows 5 and 6 let pass
-operations-count : (bytes : List ℕ) → length (operationsOf bytes) ≡ length bytes / 80
-unfolding operationsOf
-operations-count bytes = length-parts 80 (length bytes / 80) bytes
-
 size-count : (bytes : List ℕ) → sizeForm bytes ≡ true → (1 ≤ length (operationsOf bytes)) × (length (operationsOf bytes) ≤ 8)
-unfolding sizeForm
-size-count bytes h =
-    let w = all-at 0 (within 80 640 (length bytes) ∷ eqb (length bytes % 80) 0 ∷ []) h in
-    let low = within-low 80 640 (length bytes) w in
-    let high = within-high 80 640 (length bytes) w in
-    rw (operations-count bytes) (omega arith)
+size-count bytes h = rw (length-operations bytes) (size-few bytes h)
 
 givens : (bytes : List ℕ) → every operationForm (operationsOf bytes) ≡ true → Givens (operationsOf bytes)
 unfolding Givens operationsOf operationForm

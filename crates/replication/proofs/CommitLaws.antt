@@ -9,7 +9,8 @@ use lib.Dec.{eqb, ltb}
 use borrow.Author.Tests.{lt-ltb, le-ltb, ltb-false}
 use Rattle.carts.specs.Bytes.{part, over, u16Bytes, within, every, allZero}
 use Rattle.carts.specs.Operation.{operationFields, operationForm, operationsOf, meetsAll, actAll}
-use Rattle.carts.proofs.TestLaws.{all-at, every-at, at-every, within-low, within-high}
+use Rattle.carts.proofs.TestLaws.{all-at, within-low, within-high}
+use Rattle.carts.proofs.OperationLaws.{forms-fields}
 use Rattle.replication.specs.Answer.{refused, done}
 use Rattle.replication.specs.Memory.{Memory, memory, copyAt, withCopy, sessionAt, withSession, withSequence, studioOf}
 use Rattle.replication.specs.Log.{noRoom, firstRecord, appended}
@@ -27,7 +28,7 @@ use Rattle.replication.proofs.WalkLaws.{whole-walkable}
 use Rattle.replication.proofs.Chains.{few-commits}
 use Rattle.replication.proofs.Formed.{Formed}
 
--- the size, and the operations as they are stored
+-- the size
 pub size-few : (bytes : List ℕ) → sizeForm bytes ≡ true → (1 ≤ length bytes / 80) × (length bytes / 80 ≤ 8)
 unfolding sizeForm
 size-few bytes e =
@@ -35,13 +36,6 @@ size-few bytes e =
     let low = within-low 80 640 (length bytes) w in
     let high = within-high 80 640 (length bytes) w in
     (omega arith, omega arith)
-
-form-fields : (op : List ℕ) → operationForm op ≡ true → operationFields op ≡ true
-unfolding operationForm
-form-fields op e = all-at 0 (operationFields op ∷ allZero (part op 12 4) ∷ []) e
-
-pub forms-fields : (ops : List (List ℕ)) → every operationForm ops ≡ true → every operationFields ops ≡ true
-forms-fields ops e = at-every operationFields ops [] (λ i l. form-fields _ (every-at operationForm ops [] i e l))
 
 -- rows 5 to 8
 abbrev pub OperationRows : ℕ → List ℕ → List ℕ → List Row

@@ -1,7 +1,6 @@
 -- Laws of output: what a read by numbers and a read by title find in a copy and write, by the code's cases.
 use Prim.Native.Nat.{ℕ, zero, suc, _+_, _-_, _*_, _<_, _≤_}
 use mathlib.Core.Path.{_≡_, refl, sym, ap, ap₂, _∙_}
-use mathlib.Core.Logic.{⊎-elim}
 use mathlib.Core.Bool.{Bool, true, false, cond}
 use mathlib.Core.List.{List, [], _∷_, _++_, append-assoc}
 use native.Mathlib.Nat.{add-sub-cancel-left, sub-zero}
@@ -13,12 +12,13 @@ use types.Run.{OneOf}
 use denote.Enum.Declared.{tagOf}
 use Rattle.carts.specs.Bytes.{zeros, part, over, byte, u16, u16s, within, all, every, allZero}
 use Rattle.carts.specs.Cart.{cartAt, held, titleForm, printable}
-use Rattle.carts.specs.Title.{shownByNumbers, foundByNumbers, titled, titledFrom, titledIn, foundByTitle, theOne, shownByTitle, searchAnswer}
+use Rattle.carts.specs.Title.{shownByNumbers, foundByNumbers, titledIn, foundByTitle, shownByTitle, searchAnswer}
 use Rattle.carts.specs.Fields.{foundCount}
 use Rattle.carts.specs.declared.titles.Found.{Found}
 use Rattle.carts.specs.declared.titles.Found.the-variants.{One}
 use Rattle.carts.proofs.titles.Found.{the-type}
-use Rattle.carts.proofs.TestLaws.{and-left, all-at, by-cond, within-low, within-high, within-of, every-at}
+use Rattle.carts.proofs.TestLaws.{all-at, by-cond, within-low, within-high, every-at}
+use Rattle.carts.proofs.TitleLaws.{found-by-title, found-one, found-other, not-one}
 use Rattle.replication.specs.Request.{Request, nothing, byNumbers, byTitle, numbersIn, requestOf, numbersForm, requestFields, needed, foundIn, shownFrom}
 use Rattle.replication.specs.Memory.{copyAt}
 use Rattle.replication.specs.Values.{waitingValue, sessionValue}
@@ -106,58 +106,23 @@ module _ (x : List ℕ) (f : numbersForm x ≡ true) where
       let w : within 1 128 (u16 x (16 + 2 * i)) ≡ true = rw e at (every-at (within 1 128) (numbersIn x) 0 i (all-at 1 numberTests f) l) in
       (within-low 1 128 _ w, within-high 1 128 _ w)
 
--- a search's answer, and the carts it stands for
-found-is : (xs : List ℕ) → foundCount (searchAnswer xs) ≡ length xs
-unfolding searchAnswer
-found-is [] = refl
-found-is (c ∷ []) = refl
-found-is (c ∷ d ∷ xs) = refl
-
-one-is : (xs : List ℕ) (c : ℕ) → searchAnswer xs ≡ One c → xs ≡ c ∷ []
-unfolding searchAnswer
-one-is [] c e = cc
-one-is (x ∷ []) c e = cc
-one-is (x ∷ y ∷ xs) c e = cc
-
-not-one : (copy xs : List ℕ) → OneOf (1 ∷ 2 ∷ []) (tagOf the-type (searchAnswer xs)) → theOne copy xs ≡ zeros 80
-unfolding searchAnswer theOne
-not-one copy [] k = refl
-not-one copy (c ∷ []) k = absurd (⊎-elim (λ e. omega arith) (λ e. omega arith) k)
-not-one copy (c ∷ d ∷ xs) k = refl
-
--- the carts of a title are among those searched
-titled-within : (title : List ℕ) (low high n c : ℕ) (s : List ℕ) → low ≤ c → c + n ≤ high + 1 → every (within low high) (titledFrom title n c s) ≡ true
-unfolding titledFrom every
-titled-within title low high zero c s h k = refl
-titled-within title low high (suc n) c s h k =
-    let rest : List ℕ = titledFrom title n (c + 1) (drop 80 s) in
-    let later : every (within low high) rest ≡ true = titled-within title low high n (c + 1) (drop 80 s) (omega arith) (omega arith) in
-    by-cond (λ xs. every (within low high) xs ≡ true) (titled title (take 80 s)) (c ∷ rest) rest (λ e. rw (within-of low high c h (omega arith)) later) (λ e. later)
-
 -- a read by title: the search's answer is one cart, or not
 module _ (copy title : List ℕ) (found : Found) (e : found ≡ searchAnswer (titledIn title copy)) where
   pub title-found : foundCount found ≡ foundByTitle copy title
-  unfolding foundByTitle
-  title-found = ap foundCount e ∙ found-is (titledIn title copy)
+  title-found = ap foundCount e ∙ found-by-title title copy
 
   pub title-not-one : OneOf (1 ∷ 2 ∷ []) (tagOf the-type found) → zeros 80 ≡ shownByTitle copy title
-  unfolding shownByTitle
-  title-not-one k = sym (not-one copy (titledIn title copy) (rw e at k))
+  title-not-one k = sym (found-other title copy (not-one (searchAnswer (titledIn title copy)) (rw e at k)))
 
   module _ (c : ℕ) (g : found ≡ One c) where
     pub one-found : 1 ≡ foundByTitle copy title
     one-found = ap foundCount (sym g) ∙ title-found
 
     pub one-shown : cartAt copy c ≡ shownByTitle copy title
-    unfolding shownByTitle theOne
-    one-shown = rw (one-is (titledIn title copy) c (sym e ∙ g))
+    one-shown = sym (found-one title copy c (sym e ∙ g) .1)
 
     pub one-within : (1 ≤ c) × (c ≤ 128)
-    unfolding titledIn every
-    one-within =
-        let all = titled-within title 1 128 128 1 copy (omega arith) (omega arith) in
-        let w : within 1 128 c ≡ true = and-left (within 1 128 c) true (ap (every (within 1 128)) (sym (one-is (titledIn title copy) c (sym e ∙ g))) ∙ all) in
-        (within-low 1 128 c w, within-high 1 128 c w)
+    one-within = found-one title copy c (sym e ∙ g) .0
 
 -- what the code's case of a read says of its bytes
 abbrev pub ByCase : Waiting → List ℕ → Type 0

@@ -7,7 +7,8 @@ use borrow.Author.Tests.{not-true, not-false}
 use Rattle.carts.specs.Bytes.{every}
 use Rattle.carts.specs.Operation.{operationForm, operationsOf}
 use Rattle.replication.specs.Rows.{sizeForm}
-use Rattle.replication.proofs.CommitLaws.{size-few, forms-fields, size-wrong, form-wrong, log-full, carts-wrong, may-commit}
+use Rattle.carts.proofs.OperationLaws.{forms-fields}
+use Rattle.replication.proofs.CommitLaws.{size-few, size-wrong, form-wrong, log-full, carts-wrong, may-commit}
 use borrow.Author.Needs.{needs}
 use Rattle.replication.proofs.commit.stopped_by_operations.Statement.{statement}
 use Rattle.replication.proofs.commit.stopped_by_operations.Tie as tie
