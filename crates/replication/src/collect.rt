@@ -6,6 +6,7 @@ use crate::output;
 use crate::read;
 use crate::read::Due;
 use crate::rows;
+use crate::session;
 use crate::session::Session;
 ghost use mathlib.Core.Path.{_≡_};
 ghost use mathlib.Core.List.{_++_};
@@ -36,7 +37,7 @@ pub fn decide_collect(
     if by_session != 0 {
         return by_session;
     }
-    let own = Session::from_bytes(read::session_at(sessions, session));
+    let own = Session::from_bytes(session::session_at(sessions, session));
     if !own.is_waiting() {
         return 14;
     }
@@ -73,11 +74,11 @@ pub fn collect(
             control,
         };
     }
-    let asked = read::session_at(sessions, session);
+    let asked = session::session_at(sessions, session);
     let found = output::answer(library, due.studio, asked, output);
     let nothing = [0u8; 80];
     let next = read::number_after(due.number, due.state);
-    read::store(sessions, session, &nothing, next);
+    session::store(sessions, session, &nothing, next);
     ReadResult {
         answer: ReadAnswer::Answered {
             state: due.state,

@@ -4,9 +4,9 @@ use crate::answer::CountResult;
 use crate::append;
 use crate::cell;
 use crate::control::Control;
-use crate::read;
 use crate::record::Record;
 use crate::rows;
+use crate::session;
 use crate::session::Session;
 use carts::cart::Cart;
 use carts::operation;
@@ -62,7 +62,7 @@ fn has_waiting(sessions: &[u8], session: u32) -> bool
     requires { ⌜ (length (now sessions) ≡ 1280) × ((1 ≤ session) × (session ≤ 16)) ⌝ }
     ensures { λ r. ⌜ r ≡ isWaiting (requestOf (sessionAt (now (sessions .entry)) session)) ⌝ }
 {
-    Session::from_bytes(read::session_at(sessions, session)).is_waiting()
+    Session::from_bytes(session::session_at(sessions, session)).is_waiting()
 }
 
 // The number of the row that stops a commit, or 0.

@@ -1,7 +1,6 @@
 // Read: answered from the studio's copy where it has reached the session's number, else stored.
 use crate::answer::ReadAnswer;
 use crate::answer::ReadResult;
-use crate::cell;
 use crate::control::Control;
 use crate::output;
 use crate::rows;
@@ -13,38 +12,11 @@ ghost use mathlib.Core.List.{_++_};
 ghost use Prim.Native.Nat.{_+_, _*_, _-_, _<_, _≤_};
 ghost use lib.ListN.{length};
 ghost use Rattle.replication.specs.Answer.{readAnswer};
-ghost use Rattle.replication.specs.Memory.{memory, sessionAt, withSession, withSequence, studioOf};
+ghost use Rattle.replication.specs.Memory.{memory, sessionAt, studioOf};
 ghost use Rattle.replication.specs.Request.{requestOf};
 ghost use Rattle.replication.specs.Rows.{stopped, memoryRows, readRows};
 ghost use Rattle.replication.specs.Calls.{after, read, numberAfter};
 ghost use Rattle.replication.specs.Values.{dueOf};
-
-// The 80 bytes of a session.
-pub fn session_at(sessions: &[u8], session: u32) -> &[u8]
-    requires { ⌜ (length (now sessions) ≡ 1280) × ((1 ≤ session) × (session ≤ 16)) ⌝ }
-    ensures { λ r. ⌜ (now r ≡ sessionAt (now (sessions .entry)) session) × (length (now r) ≡ 80) ⌝ }
-{
-    let start = Session::SIZE * (session as usize - 1);
-    &sessions[start..start + Session::SIZE]
-}
-
-// The bytes of a session become x, with a number.
-pub fn store(sessions: &mut [u8], session: u32, x: &[u8], number: u32)
-    requires { ⌜ (length (now sessions) ≡ 1280) × ((1 ≤ session) × (session ≤ 16)) ⌝ }
-    requires { ⌜ (length (now x) ≡ 80) × (number < 65536) ⌝ }
-    ensures { λ _. ⌜ now (sessions .exit) ≡ withSession (now (sessions .entry)) session (withSequence number (now (x .entry))) ⌝ }
-{
-    cell::fill(sessions, session, x, 2, number);
-}
-
-// A session has another number.
-pub fn put_number(sessions: &mut [u8], session: u32, number: u32)
-    requires { ⌜ (length (now sessions) ≡ 1280) × ((1 ≤ session) × (session ≤ 16)) ⌝ }
-    requires { ⌜ number < 65536 ⌝ }
-    ensures { λ _. ⌜ now (sessions .exit) ≡ withSession (now (sessions .entry)) session (withSequence number (sessionAt (now (sessions .entry)) session)) ⌝ }
-{
-    cell::put(sessions, session, 2, number);
-}
 
 // A session's number, its studio, and the state that the studio's copy has reached.
 pub struct Due {
@@ -59,7 +31,7 @@ impl Due {
         requires { ⌜ (1 ≤ studioOf control session) × (studioOf control session ≤ 4) ⌝ }
         ensures { λ r. ⌜ (r ≡ dueOf control (now (sessions .entry)) session) × (r .number < 65536) ⌝ }
     {
-        let number = bytes::u16_at(session_at(sessions, session), 2);
+        let number = bytes::u16_at(session::session_at(sessions, session), 2);
         let studio = control.studio_of(session);
         let state = control.applied_by(studio);
         Due {
@@ -99,7 +71,7 @@ pub fn decide_read(
     if by_session != 0 {
         return by_session;
     }
-    let own = Session::from_bytes(session_at(sessions, session));
+    let own = Session::from_bytes(session::session_at(sessions, session));
     if own.is_waiting() {
         return 4;
     }
@@ -136,7 +108,7 @@ pub fn read(
     }
     let due = Due::at(control, sessions, session);
     if due.state < due.number {
-        store(sessions, session, request, due.number);
+        session::store(sessions, session, request, due.number);
         return ReadResult {
             answer: ReadAnswer::Waits(due.number),
             control,
@@ -144,7 +116,7 @@ pub fn read(
     }
     let found = output::answer(library, due.studio, request, output);
     let next = number_after(due.number, due.state);
-    put_number(sessions, session, next);
+    session::put_number(sessions, session, next);
     ReadResult {
         answer: ReadAnswer::Answered {
             state: due.state,

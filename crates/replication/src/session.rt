@@ -1,9 +1,11 @@
 // Sessions and requests: 80 bytes each, 16 sessions, counted from 1.
+use crate::cell;
 use carts::bytes;
 use carts::cart;
 ghost use mathlib.Core.Path.{_≡_};
 ghost use Prim.Native.Nat.{ℕ, _+_, _*_, _-_, _<_, _≤_};
 ghost use lib.ListN.{length};
+ghost use Rattle.replication.specs.Memory.{sessionAt, withSession, withSequence};
 ghost use Rattle.replication.specs.Request.{numbersForm, requestFields, requestForm};
 ghost use Rattle.replication.specs.Layout.{waitingForm};
 ghost use Rattle.replication.specs.Values.{sessionValue, waitsBy, neededBy, sessionFormOf};
@@ -146,4 +148,31 @@ pub fn is_session(x: &[u8], studio: u32, commits: u32) -> bool
         return bytes::all_zero(x);
     }
     (bytes::u16_at(x, 2) <= commits) & bytes::all_zero(&x[4..16]) & is_waiting_form(x)
+}
+
+// The 80 bytes of a session.
+pub fn session_at(sessions: &[u8], session: u32) -> &[u8]
+    requires { ⌜ (length (now sessions) ≡ 1280) × ((1 ≤ session) × (session ≤ 16)) ⌝ }
+    ensures { λ r. ⌜ (now r ≡ sessionAt (now (sessions .entry)) session) × (length (now r) ≡ 80) ⌝ }
+{
+    let start = Session::SIZE * (session as usize - 1);
+    &sessions[start..start + Session::SIZE]
+}
+
+// The bytes of a session become x, with a number.
+pub fn store(sessions: &mut [u8], session: u32, x: &[u8], number: u32)
+    requires { ⌜ (length (now sessions) ≡ 1280) × ((1 ≤ session) × (session ≤ 16)) ⌝ }
+    requires { ⌜ (length (now x) ≡ 80) × (number < 65536) ⌝ }
+    ensures { λ _. ⌜ now (sessions .exit) ≡ withSession (now (sessions .entry)) session (withSequence number (now (x .entry))) ⌝ }
+{
+    cell::fill(sessions, session, x, 2, number);
+}
+
+// A session has another number.
+pub fn put_number(sessions: &mut [u8], session: u32, number: u32)
+    requires { ⌜ (length (now sessions) ≡ 1280) × ((1 ≤ session) × (session ≤ 16)) ⌝ }
+    requires { ⌜ number < 65536 ⌝ }
+    ensures { λ _. ⌜ now (sessions .exit) ≡ withSession (now (sessions .entry)) session (withSequence number (sessionAt (now (sessions .entry)) session)) ⌝ }
+{
+    cell::put(sessions, session, 2, number);
 }

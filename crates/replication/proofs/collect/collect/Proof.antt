@@ -15,8 +15,8 @@ use Rattle.replication.proofs.collect.decide_collect.Reads as decide-co
 use Rattle.replication.proofs.output.answer.Reads as answer-reads
 use Rattle.replication.proofs.read.Due.at.Reads as at-reads
 use Rattle.replication.proofs.read.number_after.Reads as number-after-reads
-use Rattle.replication.proofs.read.session_at.Reads as session-at-reads
-use Rattle.replication.proofs.read.store.Reads as store-reads
+use Rattle.replication.proofs.session.session_at.Reads as session-at-reads
+use Rattle.replication.proofs.session.store.Reads as store-reads
 
 -- src/collect.rt:62:9
 decide-collect-requires : tie.Need-decide-collect-requires

@@ -6,7 +6,7 @@ use Rattle.replication.proofs.commit.has_waiting.Statement.{statement}
 use Rattle.replication.proofs.commit.has_waiting.Tie as tie
 use Rattle.replication.proofs.commit.has_waiting.Reads as reads
 use Rattle.replication.proofs.commit.has_waiting.Lts as lts
-use Rattle.replication.proofs.read.session_at.Reads as session-at-reads
+use Rattle.replication.proofs.session.session_at.Reads as session-at-reads
 use Rattle.replication.proofs.session.Session.from_bytes.Reads as from-bytes-reads
 use Rattle.replication.proofs.session.Session.is_waiting.Reads as is-waiting-reads
 

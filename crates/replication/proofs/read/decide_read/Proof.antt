@@ -15,7 +15,7 @@ use Rattle.replication.proofs.read.decide_read.Statement.{statement}
 use Rattle.replication.proofs.read.decide_read.Tie as tie
 use Rattle.replication.proofs.read.decide_read.Reads as reads
 use Rattle.replication.proofs.read.decide_read.Lts as lts
-use Rattle.replication.proofs.read.session_at.Reads as session-at-reads
+use Rattle.replication.proofs.session.session_at.Reads as session-at-reads
 use Rattle.replication.proofs.rows.stopped_by_memory.Reads as stopped-by-memory-reads
 use Rattle.replication.proofs.rows.stopped_by_session.Reads as stopped-by-session-reads
 use Rattle.replication.proofs.session.Session.from_bytes.Reads as from-bytes-reads

@@ -13,8 +13,8 @@ use Rattle.replication.proofs.output.answer.Reads as answer-reads
 use Rattle.replication.proofs.read.Due.at.Reads as at-reads
 use Rattle.replication.proofs.read.decide_read.Reads as decide-read-reads
 use Rattle.replication.proofs.read.number_after.Reads as number-after-reads
-use Rattle.replication.proofs.read.put_number.Reads as put-number-reads
-use Rattle.replication.proofs.read.store.Reads as store-reads
+use Rattle.replication.proofs.session.put_number.Reads as put-number-reads
+use Rattle.replication.proofs.session.store.Reads as store-reads
 
 -- src/read.rt:135:9
 decide-read-requires : tie.Need-decide-read-requires

@@ -7,7 +7,7 @@ use Rattle.replication.proofs.read.Due.at.Lts as lts
 use Rattle.carts.proofs.bytes.u16_at.Reads as u16-at-reads
 use Rattle.replication.proofs.control.Control.applied_by.Reads as applied-by-reads
 use Rattle.replication.proofs.control.Control.studio_of.Reads as studio-of-reads
-use Rattle.replication.proofs.read.session_at.Reads as session-at-reads
+use Rattle.replication.proofs.session.session_at.Reads as session-at-reads
 
 -- src/read.rt:67:36
 session-at-requires : tie.Need-session-at-requires

@@ -1,9 +1,9 @@
 use Rattle.replication.specs.Memory.{sessionAt, withSession, withSequence}
 use borrow.Author.Needs.{needs}
-use Rattle.replication.proofs.read.put_number.Statement.{statement}
-use Rattle.replication.proofs.read.put_number.Tie as tie
-use Rattle.replication.proofs.read.put_number.Reads as reads
-use Rattle.replication.proofs.read.put_number.Lts as lts
+use Rattle.replication.proofs.session.put_number.Statement.{statement}
+use Rattle.replication.proofs.session.put_number.Tie as tie
+use Rattle.replication.proofs.session.put_number.Reads as reads
+use Rattle.replication.proofs.session.put_number.Lts as lts
 use Rattle.replication.proofs.cell.put.Reads as put-reads
 
 -- src/read.rt:46:5

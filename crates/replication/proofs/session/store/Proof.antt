@@ -1,9 +1,9 @@
 use Rattle.replication.specs.Memory.{withSession, withSequence}
 use borrow.Author.Needs.{needs}
-use Rattle.replication.proofs.read.store.Statement.{statement}
-use Rattle.replication.proofs.read.store.Tie as tie
-use Rattle.replication.proofs.read.store.Reads as reads
-use Rattle.replication.proofs.read.store.Lts as lts
+use Rattle.replication.proofs.session.store.Statement.{statement}
+use Rattle.replication.proofs.session.store.Tie as tie
+use Rattle.replication.proofs.session.store.Reads as reads
+use Rattle.replication.proofs.session.store.Lts as lts
 use Rattle.replication.proofs.cell.fill.Reads as fill-reads
 
 -- src/read.rt:37:5

@@ -5,10 +5,10 @@ use native.Mathlib.Omega.{arith}
 use Rattle.carts.proofs.PartLaws.{length-part}
 use Rattle.replication.specs.Memory.{sessionAt}
 use borrow.Author.Needs.{needs}
-use Rattle.replication.proofs.read.session_at.Statement.{statement}
-use Rattle.replication.proofs.read.session_at.Tie as tie
-use Rattle.replication.proofs.read.session_at.Reads as reads
-use Rattle.replication.proofs.read.session_at.Lts as lts
+use Rattle.replication.proofs.session.session_at.Statement.{statement}
+use Rattle.replication.proofs.session.session_at.Tie as tie
+use Rattle.replication.proofs.session.session_at.Reads as reads
+use Rattle.replication.proofs.session.session_at.Lts as lts
 
 -- src/read.rt:25:34
 sub-start : tie.Need-sub-start
