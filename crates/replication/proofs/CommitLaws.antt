@@ -147,9 +147,9 @@ module _ (c : Control) (m : Memory) (s : ℕ) (bytes : List ℕ) (v : ℕ) (e : 
   -- the head end's copy, the log and the sessions as the code leaves them
   pub commit-accepted : v ≡ 0 → (next : Control) → next ≡ committed c (length bytes / 80) → (copy log sessions : List ℕ)
       → copy ≡ actAll (part (m .library) 0 10240) (operationsOf bytes) → log ≡ appended c (m .log) (operationsOf bytes)
-      → sessions ≡ over (m .sessions) (80 * (s - 1)) 80 (over (part (m .sessions) (80 * (s - 1)) 80) 2 2 (u16Bytes (next .commits)))
+      → sessions ≡ withSession (m .sessions) s (withSequence (next .commits) (sessionAt (m .sessions) s))
       → after (done (next .commits)) next (memory (over (m .library) 0 10240 copy) log sessions) [] ≡ commit c m s bytes
-  unfolding commit committed copyAt withCopy sessionAt withSession withSequence
+  unfolding commit committed copyAt withCopy
   commit-accepted z next q copy log sessions l g t =
       let k : next ≡ committed c (length (operationsOf bytes)) = q ∙ ap (committed c) (sym (length-operations bytes)) in
       rw (t, l, g, k) (unless-accepted _ _ _ (sym e ∙ z))

@@ -2,7 +2,6 @@
 use crate::answer::CountAnswer;
 use crate::answer::CountResult;
 use crate::append;
-use crate::cell;
 use crate::control::Control;
 use crate::record::Record;
 use crate::rows;
@@ -114,7 +113,7 @@ pub fn commit(
     let next = control.committed((operations.len() / Cart::SIZE) as u32);
     operation::apply_all(&mut library[0..Cart::COPY_SIZE], operations);
     append::append_transaction(control, log, operations);
-    cell::put(sessions, session, 2, next.commits);
+    session::put_number(sessions, session, next.commits);
     CountResult {
         answer: CountAnswer::Number(next.commits),
         control: next,

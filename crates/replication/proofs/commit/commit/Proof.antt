@@ -9,7 +9,7 @@ use Rattle.replication.proofs.commit.commit.Reads as reads
 use Rattle.replication.proofs.commit.commit.Lts as lts
 use Rattle.carts.proofs.operation.apply_all.Reads as apply-all-reads
 use Rattle.replication.proofs.append.append_transaction.Reads as append-transaction-reads
-use Rattle.replication.proofs.cell.put.Reads as put-reads
+use Rattle.replication.proofs.session.put_number.Reads as put-number-reads
 use Rattle.replication.proofs.commit.decide_commit.Reads as decide-commit-reads
 use Rattle.replication.proofs.control.Control.committed.Reads as committed-reads
 
@@ -68,12 +68,11 @@ append-transaction-requires : tie.Need-append-transaction-requires
 append-transaction-requires c κs = let k = known (c .before .before .before .before .before .before) in ((k .formed .log .size, (k .some, k .room)), k .walks)
 
 -- src/commit.rt:117:5
-put-requires : tie.Need-put-requires
-put-requires c κs = let n = c .before .before .before .before .before .before .before .before .before in
+put-number-requires : tie.Need-put-number-requires
+put-number-requires c κs = let n = c .before .before .before .before .before .before .before .before .before in
     let k = known (n .before) in
-    let l = k .formed .sessions .size in
     let small = next-small _ _ _ (n .committed .ensures) (k .few) in
-    ((k .session .0, omega (arith, k .session .1)), (omega arith, omega (arith, k .few)))
+    ((k .formed .sessions .size, k .session), omega (arith, k .few))
 
 -- src/commit.rt:96:1
 same-length-4 : tie.Need-same-length-4
@@ -94,7 +93,7 @@ returns-2 c = let p = c .before .before in
     let l = a .before .before .before .before in
     let n = l .before .before in
     let d = n .before in
-    commit-accepted _ _ _ _ _ (d .before .decide-commit .ensures) (d .if1 .left) _ (n .committed .ensures) _ _ _ (l .apply-all .ensures) (a .append-transaction .ensures) (p .put .ensures)
+    commit-accepted _ _ _ _ _ (d .before .decide-commit .ensures) (d .if1 .left) _ (n .committed .ensures) _ _ _ (l .apply-all .ensures) (a .append-transaction .ensures) (p .put-number .ensures)
 
 pub commit-spec : {M : Type 1} → statement M
 commit-spec =
@@ -112,7 +111,7 @@ commit-spec =
     part-apply-all-end
     apply-all-requires
     append-transaction-requires
-    put-requires
+    put-number-requires
     same-length-4
     same-length-5
     same-length-6
