@@ -93,12 +93,12 @@ abbrev pub CommitStops : Control → Memory → ℕ → List ℕ → ℕ
 CommitStops c m s bytes =
     stopped (memoryRows c m ++ commitRows s (studioOf c s) (requestOf (sessionAt (m .sessions) s)) (c .used) (copyAt (m .library) 0) bytes)
 
--- neither memory nor who calls stops it: v and w are what the code has found of them, b whether a read is waiting
-module _ (c : Control) (m : Memory) (s : ℕ) (bytes : List ℕ) (v : ℕ) (e : v ≡ stopped (memoryRows c m)) (z : v ≡ 0) (w : ℕ)
-    (f : w ≡ stopped (sessionRow s (studioOf c s) ∷ [])) (y : w ≡ 0) (b : Bool) (q : b ≡ isWaiting (requestOf (sessionAt (m .sessions) s))) where
+-- neither memory nor who calls stops it: v is what the code has found of them, b whether a read is waiting
+module _ (c : Control) (m : Memory) (s : ℕ) (bytes : List ℕ) (v : ℕ) (e : v ≡ stopped (memoryRows c m ++ (sessionRow s (studioOf c s) ∷ []))) (z : v ≡ 0)
+    (b : Bool) (q : b ≡ isWaiting (requestOf (sessionAt (m .sessions) s))) where
   rest-decides : (n : ℕ) → n ≡ stopped (row 4 (isWaiting (requestOf (sessionAt (m .sessions) s))) ∷ OperationRows (c .used) (copyAt (m .library) 0) bytes) → n ≡ CommitStops c m s bytes
   unfolding commitRows
-  rest-decides n g = by-rest c m _ _ (session-numbered s (studioOf c s)) v e z w f y n g
+  rest-decides n g = by-rest c m _ _ (session-numbered s (studioOf c s)) v e z n g
 
   pub read-waits : b ≡ true → 4 ≡ CommitStops c m s bytes
   read-waits t = rest-decides 4 (row-stops 4 _ _ (sym q ∙ t))

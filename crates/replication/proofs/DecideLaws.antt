@@ -2,7 +2,7 @@
 use Prim.Native.Nat.{ℕ, _+_, _-_, _<_, _≤_}
 use mathlib.Core.Path.{_≡_, refl, sym, ap, _∙_}
 use mathlib.Core.Bool.{Bool, true, false, cond, _&&_, _||_, not}
-use mathlib.Core.List.{List, [], _∷_, _++_}
+use mathlib.Core.List.{List, [], _∷_, _++_, append-assoc}
 use native.Mathlib.Omega.{arith}
 use lib.Dec.{eqb, leb}
 use borrow.Author.Tests.{eqb-false, not-false}
@@ -18,21 +18,42 @@ use Rattle.replication.proofs.Formed.{Formed, formed}
 pub memory-formed : (c : Control) (m : Memory) (v : ℕ) → v ≡ stopped (memoryRows c m) → v ≡ 0 → Formed c m
 memory-formed c m v e z = let r = right-memory c m (sym e ∙ z) in formed c m (r .0) (r .1)
 
--- the rows of a call: on memory, `who`, and the rest; v and w are what the code has found of the first two
+-- rows 1 to 3: on memory, and `who`; v is what the code has found of the first two
+module _ (c : Control) (m : Memory) (who : Row) where
+  abbrev FirstRows : List Row
+  FirstRows = memoryRows c m ++ (who ∷ [])
+
+  module _ (v : ℕ) (e : v ≡ stopped (memoryRows c m)) where
+    pub by-memory : (v ≡ 0 → ⊥) → v ≡ stopped FirstRows
+    by-memory n = stops-first (memoryRows c m) (who ∷ []) v e n
+
+    pub by-who : v ≡ 0 → (w : ℕ) → w ≡ stopped (who ∷ []) → w ≡ stopped FirstRows
+    by-who z w f = decides (memoryRows c m) (who ∷ []) v w (memory-numbered c m) e z f
+
+  -- where none of the three stops the call
+  module _ (v : ℕ) (e : v ≡ stopped FirstRows) (z : v ≡ 0) where
+    first-pass : (stopped (memoryRows c m) ≡ 0) × (stopped (who ∷ []) ≡ 0)
+    first-pass = none-stops (memoryRows c m) (who ∷ []) (memory-numbered c m) (sym e ∙ z)
+
+    pub first-formed : Formed c m
+    first-formed = memory-formed c m 0 (sym (first-pass .0)) refl
+
+    pub first-who : stopped (who ∷ []) ≡ 0
+    first-who = first-pass .1
+
+-- the rows of a call: those three, and the rest; v is what the code has found of the first three
 module _ (c : Control) (m : Memory) (who : Row) (rest : List Row) (k : numbered (who ∷ []) ≡ true) where
   abbrev pub CallRows : List Row
   CallRows = memoryRows c m ++ (who ∷ rest)
 
-  module _ (v : ℕ) (e : v ≡ stopped (memoryRows c m)) where
-    pub by-memory : (v ≡ 0 → ⊥) → v ≡ stopped CallRows
-    by-memory n = stops-first (memoryRows c m) (who ∷ rest) v e n
+  module _ (v : ℕ) (e : v ≡ stopped (FirstRows c m who)) where
+    pub by-first : (v ≡ 0 → ⊥) → v ≡ stopped CallRows
+    by-first n = stops-first (FirstRows c m who) rest v e n ∙ ap stopped (append-assoc (memoryRows c m) (who ∷ []) rest)
 
-    module _ (z : v ≡ 0) (w : ℕ) (f : w ≡ stopped (who ∷ [])) where
-      pub by-who : (w ≡ 0 → ⊥) → w ≡ stopped CallRows
-      by-who n = decides (memoryRows c m) (who ∷ rest) v w (memory-numbered c m) e z (stops-first (who ∷ []) rest w f n)
-
-      pub by-rest : w ≡ 0 → (n : ℕ) → n ≡ stopped rest → n ≡ stopped CallRows
-      by-rest y n g = decides (memoryRows c m) (who ∷ rest) v n (memory-numbered c m) e z (decides (who ∷ []) rest w n k f y g)
+    pub by-rest : v ≡ 0 → (n : ℕ) → n ≡ stopped rest → n ≡ stopped CallRows
+    by-rest z n g =
+        let p = first-pass c m who v e z in
+        decides (memoryRows c m) (who ∷ rest) 0 n (memory-numbered c m) (sym (p .0)) refl (decides (who ∷ []) rest 0 n k (sym (p .1)) refl g)
 
   -- where none stops the call
   module _ (e : stopped CallRows ≡ 0) where

@@ -77,13 +77,9 @@ pub fn decide_commit(
         ++ commitRows session (studioOf control session) (requestOf (sessionAt (now (sessions .entry)) session)) (control .used)
         (copyAt (now (library .entry)) 0) (now (operations .entry))) ⌝ }
 {
-    let by_memory = rows::stopped_by_memory(control, library, log, sessions);
-    if by_memory != 0 {
-        return by_memory;
-    }
-    let by_session = rows::stopped_by_session(control, session);
-    if by_session != 0 {
-        return by_session;
+    let stopped = rows::stopped_by_session(control, library, log, sessions, session);
+    if stopped != 0 {
+        return stopped;
     }
     if has_waiting(sessions, session) {
         return 4;

@@ -63,13 +63,9 @@ pub fn decide_read(
     ensures { λ r. ⌜ r ≡ stopped (memoryRows control (memory (now (library .entry)) (now (log .entry)) (now (sessions .entry)))
         ++ readRows session (studioOf control session) (requestOf (sessionAt (now (sessions .entry)) session)) (now (request .entry)) room) ⌝ }
 {
-    let by_memory = rows::stopped_by_memory(control, library, log, sessions);
-    if by_memory != 0 {
-        return by_memory;
-    }
-    let by_session = rows::stopped_by_session(control, session);
-    if by_session != 0 {
-        return by_session;
+    let stopped = rows::stopped_by_session(control, library, log, sessions, session);
+    if stopped != 0 {
+        return stopped;
     }
     let own = Session::from_bytes(session::session_at(sessions, session));
     if own.is_waiting() {

@@ -5,7 +5,7 @@ use crate::record::Record;
 use crate::session::Session;
 use carts::cart::Cart;
 ghost use mathlib.Core.Path.{_≡_};
-ghost use mathlib.Core.List.{[], _∷_};
+ghost use mathlib.Core.List.{[], _∷_, _++_};
 ghost use Prim.Native.Nat.{ℕ, _+_, _*_, _-_, _<_, _≤_};
 ghost use Rattle.replication.specs.Memory.{memory, lengthsForm, studioOf};
 ghost use Rattle.replication.specs.Rows.{stopped, memoryRows, sessionRow, studioRow};
@@ -33,7 +33,7 @@ pub fn stopped_by_memory(control: Control, library: &[u8], log: &[u8], sessions:
 }
 
 // Row 3 of a call that names a session.
-pub fn stopped_by_session(control: Control, session: u32) -> u32
+fn session_row(control: Control, session: u32) -> u32
     ensures { λ r. ⌜ r ≡ stopped (sessionRow session (studioOf control session) ∷ []) ⌝ }
 {
     if session < 1 {
@@ -49,7 +49,7 @@ pub fn stopped_by_session(control: Control, session: u32) -> u32
 }
 
 // Row 3 of a call that names a studio.
-pub fn stopped_by_studio(studios: u32, studio: u32) -> u32
+fn studio_row(studios: u32, studio: u32) -> u32
     ensures { λ r. ⌜ r ≡ stopped (studioRow studios studio ∷ []) ⌝ }
 {
     if studio < 1 {
@@ -59,4 +59,40 @@ pub fn stopped_by_studio(studios: u32, studio: u32) -> u32
         return 3;
     }
     0
+}
+
+// Rows 1 to 3 of a call that names a session.
+pub fn stopped_by_session(
+    control: Control,
+    library: &[u8],
+    log: &[u8],
+    sessions: &[u8],
+    session: u32,
+) -> u32
+    ensures { λ r. ⌜ r ≡ stopped (memoryRows control (memory (now (library .entry)) (now (log .entry)) (now (sessions .entry)))
+        ++ (sessionRow session (studioOf control session) ∷ [])) ⌝ }
+{
+    let by_memory = stopped_by_memory(control, library, log, sessions);
+    if by_memory != 0 {
+        return by_memory;
+    }
+    session_row(control, session)
+}
+
+// Rows 1 to 3 of a call that names a studio.
+pub fn stopped_by_studio(
+    control: Control,
+    library: &[u8],
+    log: &[u8],
+    sessions: &[u8],
+    studio: u32,
+) -> u32
+    ensures { λ r. ⌜ r ≡ stopped (memoryRows control (memory (now (library .entry)) (now (log .entry)) (now (sessions .entry)))
+        ++ (studioRow (control .studios) studio ∷ [])) ⌝ }
+{
+    let by_memory = stopped_by_memory(control, library, log, sessions);
+    if by_memory != 0 {
+        return by_memory;
+    }
+    studio_row(control.studios, studio)
 }

@@ -22,13 +22,9 @@ pub fn decide_send(
     ensures { λ r. ⌜ r ≡ stopped (memoryRows control (memory (now (library .entry)) (now (log .entry)) (now (sessions .entry)))
         ++ sendRows (control .studios) studio (nth (control .sent) studio) (nth (control .applied) studio) (control .commits)) ⌝ }
 {
-    let by_memory = rows::stopped_by_memory(control, library, log, sessions);
-    if by_memory != 0 {
-        return by_memory;
-    }
-    let by_studio = rows::stopped_by_studio(control.studios, studio);
-    if by_studio != 0 {
-        return by_studio;
+    let stopped = rows::stopped_by_studio(control, library, log, sessions, studio);
+    if stopped != 0 {
+        return stopped;
     }
     let sent = control.sent_to(studio);
     let applied = control.applied_by(studio);

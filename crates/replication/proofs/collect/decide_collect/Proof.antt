@@ -8,7 +8,7 @@ use Rattle.replication.specs.Request.{requestOf, isWaiting, needed}
 use Rattle.replication.specs.Rows.{stopped, memoryRows, collectRows}
 use Rattle.replication.specs.Values.{sessionValue}
 use Rattle.replication.proofs.RowLaws.{session-numbered}
-use Rattle.replication.proofs.DecideLaws.{by-memory, by-who, by-rest, memory-formed}
+use Rattle.replication.proofs.DecideLaws.{by-first, by-rest, first-formed, first-who}
 use Rattle.replication.proofs.ReadLaws.{CollectRest, waits-is, needs-is, collect-nothing, collect-no-room, may-collect, session-placed}
 use borrow.Author.Needs.{needs}
 use Rattle.replication.proofs.collect.decide_collect.Statement.{statement}
@@ -16,45 +16,29 @@ use Rattle.replication.proofs.collect.decide_collect.Tie as tie
 use Rattle.replication.proofs.collect.decide_collect.Reads as reads
 use Rattle.replication.proofs.collect.decide_collect.Lts as lts
 use Rattle.replication.proofs.session.session_at.Reads as session-at-reads
-use Rattle.replication.proofs.rows.stopped_by_memory.Reads as stopped-by-memory-reads
 use Rattle.replication.proofs.rows.stopped_by_session.Reads as stopped-by-session-reads
 use Rattle.replication.proofs.session.Session.from_bytes.Reads as from-bytes-reads
 use Rattle.replication.proofs.session.Session.is_waiting.Reads as is-waiting-reads
 use Rattle.replication.proofs.session.Session.needed.Reads as needed-reads
 
--- src/collect.rt:31:9
-stopped-by-memory-requires : tie.Need-stopped-by-memory-requires
-stopped-by-memory-requires c κs = search needs
-
 -- src/collect.rt:33:9
 returns : tie.Need-returns
 unfolding collectRows
-returns c = by-memory _ _ _ _ (session-numbered _ _) _ (c .before .stopped-by-memory .ensures) (c .if1 .taken)
+returns c = by-first _ _ _ _ (session-numbered _ _) _ (c .before .stopped-by-session .ensures) (c .if1 .taken)
 
 -- src/collect.rt:35:9
 stopped-by-session-requires : tie.Need-stopped-by-session-requires
 stopped-by-session-requires c κs = search needs
 
--- src/collect.rt:37:9
-returns-2 : tie.Need-returns-2
-unfolding collectRows
-returns-2 c = let w = c .before in
-    let v = w .before .before in
-    by-who _ _ _ _ (session-numbered _ _) _ (v .stopped-by-memory .ensures) (w .before .if1 .left) _ (w .stopped-by-session .ensures) (c .if2 .taken)
-
 -- neither memory nor who calls stops the call
-placed : (c : tie.Else2) → let g = c .before .before .before .before .before .before .before .args in (length (g .sessions .now) ≡ 1280) × ((1 ≤ g .session) × (g .session ≤ 16))
-placed c = let w = c .before in
-    let v = w .before .before in
-    session-placed _ _ _ _ (memory-formed _ _ _ (v .stopped-by-memory .ensures) (w .before .if1 .left)) (sym (w .stopped-by-session .ensures) ∙ c .if2 .left)
+placed : (c : tie.Else1) → let g = c .before .before .before .before .before .args in (length (g .sessions .now) ≡ 1280) × ((1 ≤ g .session) × (g .session ≤ 16))
+placed c = session-placed _ _ _ _ (first-formed _ _ _ _ (c .before .stopped-by-session .ensures) (c .if1 .left)) (first-who _ _ _ _ (c .before .stopped-by-session .ensures) (c .if1 .left))
 
-rest : (c : tie.Else2) → let g = c .before .before .before .before .before .before .before .args in (n : ℕ)
+rest : (c : tie.Else1) → let g = c .before .before .before .before .before .args in (n : ℕ)
     → n ≡ stopped (CollectRest (requestOf (sessionAt (g .sessions .now) (g .session))) (g .room))
     → n ≡ stopped (memoryRows (g .control) (memory (g .library .now) (g .log .now) (g .sessions .now)) ++ collectRows (g .session) (studioOf (g .control) (g .session)) (requestOf (sessionAt (g .sessions .now) (g .session))) (g .room))
 unfolding collectRows
-rest c n e = let w = c .before in
-    let v = w .before .before in
-    by-rest _ _ _ _ (session-numbered _ _) _ (v .stopped-by-memory .ensures) (w .before .if1 .left) _ (w .stopped-by-session .ensures) (c .if2 .left) n e
+rest c n e = by-rest _ _ _ _ (session-numbered _ _) _ (c .before .stopped-by-session .ensures) (c .if1 .left) n e
 
 -- src/collect.rt:39:35
 session-at-requires : tie.Need-session-at-requires
@@ -68,46 +52,44 @@ from-bytes-requires c κs = search needs
 is-waiting-requires : tie.Need-is-waiting-requires
 is-waiting-requires c κs = search needs
 
-own-waits : (c : tie.After-is-waiting) → let g = c .before .before .before .before .before .before .before .before .before .before .args in isWaiting (requestOf (sessionAt (g .sessions .now) (g .session))) ≡ c .is-waiting .result
+own-waits : (c : tie.After-is-waiting) → let g = c .before .before .before .before .before .before .before .before .args in isWaiting (requestOf (sessionAt (g .sessions .now) (g .session))) ≡ c .is-waiting .result
 own-waits c = let b = c .before in
     waits-is _ _ (b .from-bytes .ensures ∙ ap sessionValue (b .before .session-at .ensures .0)) _ (c .is-waiting .ensures)
 
 -- src/collect.rt:41:9
-returns-3 : tie.Need-returns-3
-returns-3 c = rest (c .before .before .before .before) 14 (collect-nothing _ _ (own-waits (c .before) ∙ not-true (c .before .is-waiting .result) (c .if3 .taken)))
+returns-2 : tie.Need-returns-2
+returns-2 c = rest (c .before .before .before .before) 14 (collect-nothing _ _ (own-waits (c .before) ∙ not-true (c .before .is-waiting .result) (c .if2 .taken)))
 
 -- src/collect.rt:43:15
 needed-requires : tie.Need-needed-requires
 needed-requires c κs = search needs
 
 -- src/collect.rt:44:9
+returns-3 : tie.Need-returns-3
+returns-3 c = let n = c .before in
+    let w = n .before in
+    let b = w .before .before in
+    rest (b .before .before) 13 (collect-no-room _ _ (own-waits (w .before) ∙ not-false (w .before .is-waiting .result) (w .if2 .left)) _
+    (needs-is _ _ (b .from-bytes .ensures ∙ ap sessionValue (b .before .session-at .ensures .0)) _ (n .needed .ensures)) (c .if3 .taken))
+
+-- src/collect.rt:20:1
 returns-4 : tie.Need-returns-4
 returns-4 c = let n = c .before in
     let w = n .before in
     let b = w .before .before in
-    rest (b .before .before) 13 (collect-no-room _ _ (own-waits (w .before) ∙ not-false (w .before .is-waiting .result) (w .if3 .left)) _
-    (needs-is _ _ (b .from-bytes .ensures ∙ ap sessionValue (b .before .session-at .ensures .0)) _ (n .needed .ensures)) (c .if4 .taken))
-
--- src/collect.rt:20:1
-returns-5 : tie.Need-returns-5
-returns-5 c = let n = c .before in
-    let w = n .before in
-    let b = w .before .before in
-    rest (b .before .before) 0 (may-collect _ _ (own-waits (w .before) ∙ not-false (w .before .is-waiting .result) (w .if3 .left)) _
-    (needs-is _ _ (b .from-bytes .ensures ∙ ap sessionValue (b .before .session-at .ensures .0)) _ (n .needed .ensures)) (c .if4 .left))
+    rest (b .before .before) 0 (may-collect _ _ (own-waits (w .before) ∙ not-false (w .before .is-waiting .result) (w .if2 .left)) _
+    (needs-is _ _ (b .from-bytes .ensures ∙ ap sessionValue (b .before .session-at .ensures .0)) _ (n .needed .ensures)) (c .if3 .left))
 
 pub decide-collect-spec : {M : Type 1} → statement M
 decide-collect-spec =
     tie.close
     (tie.spec
-    stopped-by-memory-requires
-    returns
     stopped-by-session-requires
-    returns-2
+    returns
     session-at-requires
     from-bytes-requires
     is-waiting-requires
-    returns-3
+    returns-2
     needed-requires
-    returns-4
-    returns-5)
+    returns-3
+    returns-4)

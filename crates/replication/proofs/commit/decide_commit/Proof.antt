@@ -5,7 +5,7 @@ use Rattle.replication.specs.Memory.{memory, copyAt}
 use Rattle.replication.specs.Rows.{commitRows}
 use Rattle.replication.proofs.Formed.{Formed}
 use Rattle.replication.proofs.RowLaws.{session-numbered}
-use Rattle.replication.proofs.DecideLaws.{by-memory, by-who, memory-formed, right-session}
+use Rattle.replication.proofs.DecideLaws.{by-first, first-formed, first-who, right-session}
 use Rattle.replication.proofs.CommitLaws.{read-waits, operations-decide}
 use borrow.Author.Needs.{needs}
 use Rattle.replication.proofs.commit.decide_commit.Statement.{statement}
@@ -14,41 +14,28 @@ use Rattle.replication.proofs.commit.decide_commit.Reads as reads
 use Rattle.replication.proofs.commit.decide_commit.Lts as lts
 use Rattle.replication.proofs.commit.has_waiting.Reads as has-waiting-reads
 use Rattle.replication.proofs.commit.stopped_by_operations.Reads as stopped-by-operations-reads
-use Rattle.replication.proofs.rows.stopped_by_memory.Reads as stopped-by-memory-reads
 use Rattle.replication.proofs.rows.stopped_by_session.Reads as stopped-by-session-reads
-
--- src/commit.rt:81:9
-stopped-by-memory-requires : tie.Need-stopped-by-memory-requires
-stopped-by-memory-requires c κs = search needs
 
 -- src/commit.rt:83:9
 returns : tie.Need-returns
 unfolding commitRows
-returns c = by-memory _ _ _ _ (session-numbered _ _) _ (c .before .stopped-by-memory .ensures) (c .if1 .taken)
+returns c = by-first _ _ _ _ (session-numbered _ _) _ (c .before .stopped-by-session .ensures) (c .if1 .taken)
 
 formed-here : (c : tie.Else1) → let g = c .before .before .before .before .before .before .args in Formed (g .control) (memory (g .library .now) (g .log .now) (g .sessions .now))
-formed-here c = memory-formed _ _ _ (c .before .stopped-by-memory .ensures) (c .if1 .left)
+formed-here c = first-formed _ _ _ _ (c .before .stopped-by-session .ensures) (c .if1 .left)
 
 -- src/commit.rt:85:9
 stopped-by-session-requires : tie.Need-stopped-by-session-requires
 stopped-by-session-requires c κs = search needs
 
--- src/commit.rt:87:9
-returns-2 : tie.Need-returns-2
-unfolding commitRows
-returns-2 c = let w = c .before in
-    let v = w .before .before in
-    by-who _ _ _ _ (session-numbered _ _) _ (v .stopped-by-memory .ensures) (w .before .if1 .left) _ (w .stopped-by-session .ensures) (c .if2 .taken)
-
 -- src/commit.rt:89:8
 has-waiting-requires : tie.Need-has-waiting-requires
-has-waiting-requires c κs = (formed-here (c .before .before) .sessions .size, right-session _ _ (sym (c .before .stopped-by-session .ensures) ∙ c .if2 .left) .0)
+has-waiting-requires c κs = (formed-here c .sessions .size, right-session _ _ (first-who _ _ _ _ (c .before .stopped-by-session .ensures) (c .if1 .left)) .0)
 
 -- src/commit.rt:90:9
-returns-3 : tie.Need-returns-3
-returns-3 c = let d = c .before .before in
-    let w = d .before in
-    read-waits _ _ _ _ _ (w .before .before .stopped-by-memory .ensures) (w .before .if1 .left) _ (w .stopped-by-session .ensures) (d .if2 .left) _ (c .before .has-waiting .ensures) (c .if3 .taken)
+returns-2 : tie.Need-returns-2
+returns-2 c = let d = c .before .before in
+    read-waits _ _ _ _ _ (d .before .stopped-by-session .ensures) (d .if1 .left) _ (c .before .has-waiting .ensures) (c .if2 .taken)
 
 -- src/commit.rt:92:41
 sub-stopped-by-operations : tie.Need-sub-stopped-by-operations
@@ -60,34 +47,31 @@ part-stopped-by-operations-start c = search needs
 
 -- src/commit.rt:92:41
 part-stopped-by-operations-end : tie.Need-part-stopped-by-operations-end
-part-stopped-by-operations-end c = let k = formed-here (c .before .before .before .before) .library .size in omega arith
+part-stopped-by-operations-end c = let k = formed-here (c .before .before) .library .size in omega arith
 
 -- src/commit.rt:92:5
 stopped-by-operations-requires : tie.Need-stopped-by-operations-requires
-stopped-by-operations-requires c κs = let f = formed-here (c .before .before .before .before .before) in
+stopped-by-operations-requires c κs = let f = formed-here (c .before .before .before) in
     let k = f .library .size in
-    (f .log .used, length-part (c .before .before .before .before .before .before .before .before .before .before .before .args .library .now) 0 10240 (omega arith))
+    (f .log .used, length-part (c .before .before .before .before .before .before .before .before .before .args .library .now) 0 10240 (omega arith))
 
 -- src/commit.rt:69:1
-returns-4 : tie.Need-returns-4
+returns-3 : tie.Need-returns-3
 unfolding copyAt
-returns-4 c = let b = c .before .before in
+returns-3 c = let b = c .before .before in
     let d = b .before .before in
-    let w = d .before in
-    operations-decide _ _ _ _ _ (w .before .before .stopped-by-memory .ensures) (w .before .if1 .left) _ (w .stopped-by-session .ensures) (d .if2 .left) _ (b .before .has-waiting .ensures) (b .if3 .left) _ (c .stopped-by-operations .ensures)
+    operations-decide _ _ _ _ _ (d .before .stopped-by-session .ensures) (d .if1 .left) _ (b .before .has-waiting .ensures) (b .if2 .left) _ (c .stopped-by-operations .ensures)
 
 pub decide-commit-spec : {M : Type 1} → statement M
 decide-commit-spec =
     tie.close
     (tie.spec
-    stopped-by-memory-requires
-    returns
     stopped-by-session-requires
-    returns-2
+    returns
     has-waiting-requires
-    returns-3
+    returns-2
     sub-stopped-by-operations
     part-stopped-by-operations-start
     part-stopped-by-operations-end
     stopped-by-operations-requires
-    returns-4)
+    returns-3)

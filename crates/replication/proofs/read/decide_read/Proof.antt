@@ -8,7 +8,7 @@ use Rattle.replication.specs.Request.{requestOf, isWaiting, needed}
 use Rattle.replication.specs.Rows.{stopped, memoryRows, readRows}
 use Rattle.replication.specs.Values.{sessionValue}
 use Rattle.replication.proofs.RowLaws.{session-numbered}
-use Rattle.replication.proofs.DecideLaws.{by-memory, by-who, by-rest, memory-formed}
+use Rattle.replication.proofs.DecideLaws.{by-first, by-rest, first-formed, first-who}
 use Rattle.replication.proofs.ReadLaws.{ReadRest, waits-is, needs-is, read-waiting, read-unformed, read-no-room, may-read, session-placed, request-parts}
 use borrow.Author.Needs.{needs}
 use Rattle.replication.proofs.read.decide_read.Statement.{statement}
@@ -16,46 +16,30 @@ use Rattle.replication.proofs.read.decide_read.Tie as tie
 use Rattle.replication.proofs.read.decide_read.Reads as reads
 use Rattle.replication.proofs.read.decide_read.Lts as lts
 use Rattle.replication.proofs.session.session_at.Reads as session-at-reads
-use Rattle.replication.proofs.rows.stopped_by_memory.Reads as stopped-by-memory-reads
 use Rattle.replication.proofs.rows.stopped_by_session.Reads as stopped-by-session-reads
 use Rattle.replication.proofs.session.Session.from_bytes.Reads as from-bytes-reads
 use Rattle.replication.proofs.session.Session.is_waiting.Reads as is-waiting-reads
 use Rattle.replication.proofs.session.Session.needed.Reads as needed-reads
 use Rattle.replication.proofs.session.is_request.Reads as is-request-reads
 
--- src/read.rt:59:9
-stopped-by-memory-requires : tie.Need-stopped-by-memory-requires
-stopped-by-memory-requires c κs = search needs
-
 -- src/read.rt:61:9
 returns : tie.Need-returns
 unfolding readRows
-returns c = by-memory _ _ _ _ (session-numbered _ _) _ (c .before .stopped-by-memory .ensures) (c .if1 .taken)
+returns c = by-first _ _ _ _ (session-numbered _ _) _ (c .before .stopped-by-session .ensures) (c .if1 .taken)
 
 -- src/read.rt:63:9
 stopped-by-session-requires : tie.Need-stopped-by-session-requires
 stopped-by-session-requires c κs = search needs
 
--- src/read.rt:65:9
-returns-2 : tie.Need-returns-2
-unfolding readRows
-returns-2 c = let w = c .before in
-    let v = w .before .before in
-    by-who _ _ _ _ (session-numbered _ _) _ (v .stopped-by-memory .ensures) (w .before .if1 .left) _ (w .stopped-by-session .ensures) (c .if2 .taken)
-
 -- neither memory nor who calls stops the call
-placed : (c : tie.Else2) → let g = c .before .before .before .before .before .before .before .before .args in (length (g .sessions .now) ≡ 1280) × ((1 ≤ g .session) × (g .session ≤ 16))
-placed c = let w = c .before in
-    let v = w .before .before in
-    session-placed _ _ _ _ (memory-formed _ _ _ (v .stopped-by-memory .ensures) (w .before .if1 .left)) (sym (w .stopped-by-session .ensures) ∙ c .if2 .left)
+placed : (c : tie.Else1) → let g = c .before .before .before .before .before .before .args in (length (g .sessions .now) ≡ 1280) × ((1 ≤ g .session) × (g .session ≤ 16))
+placed c = session-placed _ _ _ _ (first-formed _ _ _ _ (c .before .stopped-by-session .ensures) (c .if1 .left)) (first-who _ _ _ _ (c .before .stopped-by-session .ensures) (c .if1 .left))
 
-rest : (c : tie.Else2) → let g = c .before .before .before .before .before .before .before .before .args in (n : ℕ)
+rest : (c : tie.Else1) → let g = c .before .before .before .before .before .before .args in (n : ℕ)
     → n ≡ stopped (ReadRest (requestOf (sessionAt (g .sessions .now) (g .session))) (g .request .now) (g .room))
     → n ≡ stopped (memoryRows (g .control) (memory (g .library .now) (g .log .now) (g .sessions .now)) ++ readRows (g .session) (studioOf (g .control) (g .session)) (requestOf (sessionAt (g .sessions .now) (g .session))) (g .request .now) (g .room))
 unfolding readRows
-rest c n e = let w = c .before in
-    let v = w .before .before in
-    by-rest _ _ _ _ (session-numbered _ _) _ (v .stopped-by-memory .ensures) (w .before .if1 .left) _ (w .stopped-by-session .ensures) (c .if2 .left) n e
+rest c n e = by-rest _ _ _ _ (session-numbered _ _) _ (c .before .stopped-by-session .ensures) (c .if1 .left) n e
 
 -- src/read.rt:67:35
 session-at-requires : tie.Need-session-at-requires
@@ -69,62 +53,60 @@ from-bytes-requires c κs = search needs
 is-waiting-requires : tie.Need-is-waiting-requires
 is-waiting-requires c κs = search needs
 
-own-waits : (c : tie.After-is-waiting) → let g = c .before .before .before .before .before .before .before .before .before .before .before .args in isWaiting (requestOf (sessionAt (g .sessions .now) (g .session))) ≡ c .is-waiting .result
+own-waits : (c : tie.After-is-waiting) → let g = c .before .before .before .before .before .before .before .before .before .args in isWaiting (requestOf (sessionAt (g .sessions .now) (g .session))) ≡ c .is-waiting .result
 own-waits c = let b = c .before in
     waits-is _ _ (b .from-bytes .ensures ∙ ap sessionValue (b .before .session-at .ensures .0)) _ (c .is-waiting .ensures)
 
 -- src/read.rt:69:9
-returns-3 : tie.Need-returns-3
-returns-3 c = rest (c .before .before .before .before) 4 (read-waiting _ _ _ (own-waits (c .before) ∙ c .if3 .taken))
+returns-2 : tie.Need-returns-2
+returns-2 c = rest (c .before .before .before .before) 4 (read-waiting _ _ _ (own-waits (c .before) ∙ c .if2 .taken))
 
 -- src/read.rt:71:9
 is-request-requires : tie.Need-is-request-requires
 is-request-requires c κs = search needs
 
 -- src/read.rt:72:9
-returns-4 : tie.Need-returns-4
-returns-4 c = let w = c .before .before in
-    rest (w .before .before .before .before) 12 (read-unformed _ _ _ (own-waits (w .before) ∙ w .if3 .left) (sym (c .before .is-request .ensures) ∙ not-true (c .before .is-request .result) (c .if4 .taken)))
+returns-3 : tie.Need-returns-3
+returns-3 c = let w = c .before .before in
+    rest (w .before .before .before .before) 12 (read-unformed _ _ _ (own-waits (w .before) ∙ w .if2 .left) (sym (c .before .is-request .ensures) ∙ not-true (c .before .is-request .result) (c .if3 .taken)))
 
 -- src/read.rt:74:9
 from-bytes-requires-2 : tie.Need-from-bytes-requires-2
-from-bytes-requires-2 c κs = request-parts _ (sym (c .before .is-request .ensures) ∙ not-false (c .before .is-request .result) (c .if4 .left)) .0
+from-bytes-requires-2 c κs = request-parts _ (sym (c .before .is-request .ensures) ∙ not-false (c .before .is-request .result) (c .if3 .left)) .0
 
 -- src/read.rt:75:15
 needed-requires : tie.Need-needed-requires
 needed-requires c κs = search needs
 
 -- src/read.rt:76:9
+returns-4 : tie.Need-returns-4
+returns-4 c = let n = c .before in
+    let f = n .before .before in
+    let w = f .before .before in
+    rest (w .before .before .before .before) 13 (read-no-room _ _ _ (own-waits (w .before) ∙ w .if2 .left)
+    (sym (f .before .is-request .ensures) ∙ not-false (f .before .is-request .result) (f .if3 .left)) _ (needs-is _ _ (n .before .from-bytes2 .ensures) _ (n .needed .ensures)) (c .if4 .taken))
+
+-- src/read.rt:47:1
 returns-5 : tie.Need-returns-5
 returns-5 c = let n = c .before in
     let f = n .before .before in
     let w = f .before .before in
-    rest (w .before .before .before .before) 13 (read-no-room _ _ _ (own-waits (w .before) ∙ w .if3 .left)
-    (sym (f .before .is-request .ensures) ∙ not-false (f .before .is-request .result) (f .if4 .left)) _ (needs-is _ _ (n .before .from-bytes2 .ensures) _ (n .needed .ensures)) (c .if5 .taken))
-
--- src/read.rt:47:1
-returns-6 : tie.Need-returns-6
-returns-6 c = let n = c .before in
-    let f = n .before .before in
-    let w = f .before .before in
-    rest (w .before .before .before .before) 0 (may-read _ _ _ (own-waits (w .before) ∙ w .if3 .left)
-    (sym (f .before .is-request .ensures) ∙ not-false (f .before .is-request .result) (f .if4 .left)) _ (needs-is _ _ (n .before .from-bytes2 .ensures) _ (n .needed .ensures)) (c .if5 .left))
+    rest (w .before .before .before .before) 0 (may-read _ _ _ (own-waits (w .before) ∙ w .if2 .left)
+    (sym (f .before .is-request .ensures) ∙ not-false (f .before .is-request .result) (f .if3 .left)) _ (needs-is _ _ (n .before .from-bytes2 .ensures) _ (n .needed .ensures)) (c .if4 .left))
 
 pub decide-read-spec : {M : Type 1} → statement M
 decide-read-spec =
     tie.close
     (tie.spec
-    stopped-by-memory-requires
-    returns
     stopped-by-session-requires
-    returns-2
+    returns
     session-at-requires
     from-bytes-requires
     is-waiting-requires
-    returns-3
+    returns-2
     is-request-requires
-    returns-4
+    returns-3
     from-bytes-requires-2
     needed-requires
-    returns-5
-    returns-6)
+    returns-4
+    returns-5)

@@ -1,32 +1,26 @@
-use mathlib.Core.Path.{_≡_, refl, sym, ap, _∙_}
-use Rattle.replication.proofs.RowLaws.{session-low, session-high, session-unused, session-used}
+use Rattle.replication.proofs.RowLaws.{session-numbered}
+use Rattle.replication.proofs.DecideLaws.{by-memory, by-who}
 use borrow.Author.Needs.{needs}
 use Rattle.replication.proofs.rows.stopped_by_session.Statement.{statement}
 use Rattle.replication.proofs.rows.stopped_by_session.Tie as tie
 use Rattle.replication.proofs.rows.stopped_by_session.Reads as reads
 use Rattle.replication.proofs.rows.stopped_by_session.Lts as lts
-use Rattle.replication.proofs.control.Control.studio_of.Reads as studio-of-reads
+use Rattle.replication.proofs.rows.stopped_by_memory.Reads as stopped-by-memory-reads
+use Rattle.replication.proofs.rows.session_row.Reads as session-row-reads
 
--- src/rows.rt:40:9
+stopped-by-memory-requires : tie.Need-stopped-by-memory-requires
+stopped-by-memory-requires c κs = search needs
+
 returns : tie.Need-returns
-returns c = session-low _ _ (c .if1 .taken)
+returns c = by-memory _ _ _ _ (c .before .stopped-by-memory .ensures) (c .if1 .taken)
 
--- src/rows.rt:43:9
+session-row-requires : tie.Need-session-row-requires
+session-row-requires c κs = search needs
+
 returns-2 : tie.Need-returns-2
-returns-2 c = session-high _ _ (c .if2 .taken)
-
--- src/rows.rt:45:8
-studio-of-requires : tie.Need-studio-of-requires
-studio-of-requires c κs = search needs
-
--- src/rows.rt:46:9
-returns-3 : tie.Need-returns-3
-returns-3 c = let b = c .before in session-unused _ _ (b .before .before .if1 .left) (b .before .if2 .left) (sym (b .studio-of .ensures) ∙ c .if3 .taken)
-
--- src/rows.rt:36:1
-returns-4 : tie.Need-returns-4
-returns-4 c = let b = c .before in session-used _ _ (b .before .before .if1 .left) (b .before .if2 .left) (λ z. c .if3 .left (b .studio-of .ensures ∙ z))
+returns-2 c = let m = c .before in by-who _ _ _ _ (m .before .stopped-by-memory .ensures) (m .if1 .left) _ (c .session-row .ensures)
 
 pub stopped-by-session-spec : {M : Type 1} → statement M
 stopped-by-session-spec =
-    tie.close (tie.spec returns returns-2 studio-of-requires returns-3 returns-4)
+    tie.close
+    (tie.spec stopped-by-memory-requires returns session-row-requires returns-2)

@@ -1,21 +1,26 @@
-use mathlib.Core.Path.{_≡_, refl, sym, ap, _∙_}
-use Rattle.replication.proofs.RowLaws.{studio-low, studio-high, studio-right}
+use Rattle.replication.proofs.RowLaws.{studio-numbered}
+use Rattle.replication.proofs.DecideLaws.{by-memory, by-who}
+use borrow.Author.Needs.{needs}
 use Rattle.replication.proofs.rows.stopped_by_studio.Statement.{statement}
 use Rattle.replication.proofs.rows.stopped_by_studio.Tie as tie
 use Rattle.replication.proofs.rows.stopped_by_studio.Reads as reads
 use Rattle.replication.proofs.rows.stopped_by_studio.Lts as lts
+use Rattle.replication.proofs.rows.stopped_by_memory.Reads as stopped-by-memory-reads
+use Rattle.replication.proofs.rows.studio_row.Reads as studio-row-reads
 
--- src/rows.rt:56:9
+stopped-by-memory-requires : tie.Need-stopped-by-memory-requires
+stopped-by-memory-requires c κs = search needs
+
 returns : tie.Need-returns
-returns c = studio-low _ _ (c .if1 .taken)
+returns c = by-memory _ _ _ _ (c .before .stopped-by-memory .ensures) (c .if1 .taken)
 
--- src/rows.rt:59:9
+studio-row-requires : tie.Need-studio-row-requires
+studio-row-requires c κs = search needs
+
 returns-2 : tie.Need-returns-2
-returns-2 c = studio-high _ _ (c .if2 .taken)
-
--- src/rows.rt:52:1
-returns-3 : tie.Need-returns-3
-returns-3 c = studio-right _ _ (c .before .if1 .left) (c .if2 .left)
+returns-2 c = let m = c .before in by-who _ _ _ _ (m .before .stopped-by-memory .ensures) (m .if1 .left) _ (c .studio-row .ensures)
 
 pub stopped-by-studio-spec : {M : Type 1} → statement M
-stopped-by-studio-spec = tie.close (tie.spec returns returns-2 returns-3)
+stopped-by-studio-spec =
+    tie.close
+    (tie.spec stopped-by-memory-requires returns studio-row-requires returns-2)

@@ -5,7 +5,7 @@ use Prim.Native.Nat.{ℕ, _≤_, _-_}
 use Rattle.replication.specs.Rows.{stopped, memoryRows, sendRows}
 use Rattle.replication.specs.Memory.{memory, nth}
 use Rattle.replication.proofs.RowLaws.{studio-numbered}
-use Rattle.replication.proofs.DecideLaws.{by-memory, by-who, by-rest, memory-formed}
+use Rattle.replication.proofs.DecideLaws.{by-first, by-rest, first-formed, first-who}
 use Rattle.replication.proofs.Formed.{Counts}
 use Rattle.replication.proofs.SendLaws.{SendRest, all-sent, window-full, may-send, studio-counts}
 use borrow.Author.Needs.{needs}
@@ -15,42 +15,26 @@ use Rattle.replication.proofs.send.decide_send.Reads as reads
 use Rattle.replication.proofs.send.decide_send.Lts as lts
 use Rattle.replication.proofs.control.Control.applied_by.Reads as applied-by-reads
 use Rattle.replication.proofs.control.Control.sent_to.Reads as sent-to-reads
-use Rattle.replication.proofs.rows.stopped_by_memory.Reads as stopped-by-memory-reads
 use Rattle.replication.proofs.rows.stopped_by_studio.Reads as stopped-by-studio-reads
-
--- src/send.rt:25:9
-stopped-by-memory-requires : tie.Need-stopped-by-memory-requires
-stopped-by-memory-requires c κs = search needs
 
 -- src/send.rt:27:9
 returns : tie.Need-returns
 unfolding sendRows
-returns c = by-memory _ _ _ _ (studio-numbered _ _) _ (c .before .stopped-by-memory .ensures) (c .if1 .taken)
+returns c = by-first _ _ _ _ (studio-numbered _ _) _ (c .before .stopped-by-studio .ensures) (c .if1 .taken)
 
 -- src/send.rt:29:9
 stopped-by-studio-requires : tie.Need-stopped-by-studio-requires
 stopped-by-studio-requires c κs = search needs
 
--- src/send.rt:31:9
-returns-2 : tie.Need-returns-2
-unfolding sendRows
-returns-2 c = let w = c .before in
-    let v = w .before .before in
-    by-who _ _ _ _ (studio-numbered _ _) _ (v .stopped-by-memory .ensures) (w .before .if1 .left) _ (w .stopped-by-studio .ensures) (c .if2 .taken)
-
 -- neither memory nor who calls stops the send
-known : (c : tie.Else2) → let g = c .before .before .before .before .before .before .before .args in ((1 ≤ g .studio) × (g .studio ≤ 4)) × Counts (g .control) (g .studio)
-known c = let w = c .before in
-    let v = w .before .before in
-    studio-counts _ _ _ (memory-formed _ _ _ (v .stopped-by-memory .ensures) (w .before .if1 .left)) (sym (w .stopped-by-studio .ensures) ∙ c .if2 .left)
+known : (c : tie.Else1) → let g = c .before .before .before .before .before .args in ((1 ≤ g .studio) × (g .studio ≤ 4)) × Counts (g .control) (g .studio)
+known c = studio-counts _ _ _ (first-formed _ _ _ _ (c .before .stopped-by-studio .ensures) (c .if1 .left)) (first-who _ _ _ _ (c .before .stopped-by-studio .ensures) (c .if1 .left))
 
-rest : (c : tie.Else2) → let g = c .before .before .before .before .before .before .before .args in (n : ℕ)
+rest : (c : tie.Else1) → let g = c .before .before .before .before .before .args in (n : ℕ)
     → n ≡ stopped (SendRest (nth (g .control .sent) (g .studio)) (nth (g .control .applied) (g .studio)) (g .control .commits))
     → n ≡ stopped (memoryRows (g .control) (memory (g .library .now) (g .log .now) (g .sessions .now)) ++ sendRows (g .control .studios) (g .studio) (nth (g .control .sent) (g .studio)) (nth (g .control .applied) (g .studio)) (g .control .commits))
 unfolding sendRows
-rest c n e = let w = c .before in
-    let v = w .before .before in
-    by-rest _ _ _ _ (studio-numbered _ _) _ (v .stopped-by-memory .ensures) (w .before .if1 .left) _ (w .stopped-by-studio .ensures) (c .if2 .left) n e
+rest c n e = by-rest _ _ _ _ (studio-numbered _ _) _ (c .before .stopped-by-studio .ensures) (c .if1 .left) n e
 
 -- src/send.rt:33:9
 sent-to-requires : tie.Need-sent-to-requires
@@ -61,44 +45,42 @@ applied-by-requires : tie.Need-applied-by-requires
 applied-by-requires c κs = known (c .before) .0
 
 -- src/send.rt:36:9
-returns-3 : tie.Need-returns-3
+returns-2 : tie.Need-returns-2
 unfolding sendRows
-returns-3 c = let a = c .before .before in
-    rest (a .before .before) 9 (all-sent _ _ _ (sym (a .before .sent-to .ensures) ∙ c .if3 .taken))
+returns-2 c = let a = c .before .before in
+    rest (a .before .before) 9 (all-sent _ _ _ (sym (a .before .sent-to .ensures) ∙ c .if2 .taken))
 
 -- src/send.rt:38:8
-sub-if4 : tie.Need-sub-if4
-sub-if4 c = let a = c .before .before in
+sub-if3 : tie.Need-sub-if3
+sub-if3 c = let a = c .before .before in
     let k = known (a .before .before) .1 in
     let e = a .before .sent-to .ensures in
     let f = a .applied-by .ensures in
     omega (arith, k .order)
 
 -- src/send.rt:39:9
+returns-3 : tie.Need-returns-3
+unfolding sendRows
+returns-3 c = let a = c .before .before .before in
+    let e = a .before .sent-to .ensures in
+    rest (a .before .before) 10 (window-full _ _ _ (λ z. c .before .if2 .left (e ∙ z)) (sym (ap₂ (λ (x y : ℕ). x - y) e (a .applied-by .ensures)) ∙ c .if3 .taken))
+
+-- src/send.rt:15:1
 returns-4 : tie.Need-returns-4
 unfolding sendRows
 returns-4 c = let a = c .before .before .before in
     let e = a .before .sent-to .ensures in
-    rest (a .before .before) 10 (window-full _ _ _ (λ z. c .before .if3 .left (e ∙ z)) (sym (ap₂ (λ (x y : ℕ). x - y) e (a .applied-by .ensures)) ∙ c .if4 .taken))
-
--- src/send.rt:15:1
-returns-5 : tie.Need-returns-5
-unfolding sendRows
-returns-5 c = let a = c .before .before .before in
-    let e = a .before .sent-to .ensures in
-    rest (a .before .before) 0 (may-send _ _ _ (λ z. c .before .if3 .left (e ∙ z)) (λ z. c .if4 .left (ap₂ (λ (x y : ℕ). x - y) e (a .applied-by .ensures) ∙ z)))
+    rest (a .before .before) 0 (may-send _ _ _ (λ z. c .before .if2 .left (e ∙ z)) (λ z. c .if3 .left (ap₂ (λ (x y : ℕ). x - y) e (a .applied-by .ensures) ∙ z)))
 
 pub decide-send-spec : {M : Type 1} → statement M
 decide-send-spec =
     tie.close
     (tie.spec
-    stopped-by-memory-requires
-    returns
     stopped-by-studio-requires
-    returns-2
+    returns
     sent-to-requires
     applied-by-requires
+    returns-2
+    sub-if3
     returns-3
-    sub-if4
-    returns-4
-    returns-5)
+    returns-4)
