@@ -1,6 +1,8 @@
 -- Laws for the proofs of this crate.
 pub mod BuildLaws
 pub mod CursorLaws
+pub mod Examples
 pub mod HistoryLaws
+pub mod ParseLaws
 pub mod ReplayLaws
 pub mod TextLaws

@@ -5,3 +5,4 @@ pub mod History
 pub mod Parse
 pub mod Replay
 pub mod Text
+pub mod Words

@@ -4,10 +4,9 @@ use crate::text::Class;
 use crate::text::Number;
 use carts::bytes;
 ghost use mathlib.Core.Path.{_≡_};
-ghost use mathlib.Core.Bool.{true};
 ghost use Prim.Native.Nat.{ℕ, _+_, _*_, _-_, _<_, _≤_};
 ghost use lib.ListN.{length};
-ghost use Rattle.transcript.specs.Cursor.{movedTo, stoppedBy, nextByte, nextWord, wordEnd, pastWord, pastMark, numberAt, isOver, endedAt, Titled};
+ghost use Rattle.transcript.specs.Cursor.{newAt, movedTo, stoppedBy, nextByte, nextWord, wordEnd, pastWord, pastMark, numberAt, noTitle, titleAt, isOver, endedAt, Titled};
 
 // What can be wrong with a line.
 pub enum Mistake {
@@ -52,7 +51,7 @@ pub struct Quoted {
 impl Cursor {
     // A cursor with no mistake.
     pub fn new(at: usize) -> Cursor
-        ensures { λ r. ⌜ (r .at ≡ at) × (r .good ≡ true) ⌝ }
+        ensures { λ r. ⌜ r ≡ newAt at ⌝ }
     {
         Cursor {
             at,
@@ -165,7 +164,7 @@ pub fn number(s: &[u8], c: Cursor, most: u32) -> Taken
 
 // No title, for a reason.
 fn no_title(c: Cursor, mistake: Mistake) -> Quoted
-    ensures { λ r. ⌜ (r .start ≡ 0) × (r .length ≡ 0) ⌝ }
+    ensures { λ r. ⌜ r ≡ noTitle c mistake ⌝ }
 {
     Quoted {
         start: 0,
@@ -176,7 +175,7 @@ fn no_title(c: Cursor, mistake: Mistake) -> Quoted
 
 // A title between two marks of one kind, " or '. Its letters stand in the line, and their number fits a byte.
 pub fn title(s: &[u8], c: Cursor) -> Quoted
-    ensures { λ r. ⌜ Titled (now (s .entry)) (r .start) (r .length) ⌝ }
+    ensures { λ r. ⌜ (r ≡ titleAt (now (s .entry)) c) × Titled (now (s .entry)) (r .start) (r .length) ⌝ }
 {
     let at = text::run_end(s, c.at, Class::Space);
     let open = text::letter(s, at);

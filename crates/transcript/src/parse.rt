@@ -7,11 +7,12 @@ use crate::cursor::Quoted;
 use crate::cursor::Taken;
 use crate::text;
 use crate::text::Class;
+use carts::bytes;
 ghost use mathlib.Core.Path.{_≡_};
 ghost use Prim.Native.Nat.{ℕ, _+_, _*_, _-_, _<_, _≤_};
 ghost use lib.ListN.{length};
-ghost use Rattle.transcript.specs.Cursor.{endedAt, Titled};
-ghost use Rattle.transcript.specs.Parse.{wholeCall, callFits};
+ghost use Rattle.transcript.specs.Cursor.{Titled};
+ghost use Rattle.transcript.specs.Parse.{gathered, titleIf, numberIf, fieldsAt, operationAt, operationsAt, numbersAt, titleRequestAt, numbersRequestAt, wholeCall, setupAt, commitAt, readAt, numberCallAt, callOf, payloadOf, callFits, Means, Stored};
 
 // What a line asks for. The bytes that belong to it stand at the start of the payload: a setup's 16 studio bytes,
 // a commit's operations of 80 bytes, a read's request of 80 bytes.
@@ -41,7 +42,7 @@ pub struct Counted {
 // The call, where the whole line was read; else what is wrong with it.
 fn whole(s: &[u8], c: Cursor, call: Call) -> Call
     requires { ⌜ callFits call ⌝ }
-    ensures { λ r. ⌜ (r ≡ wholeCall (now (s .entry)) (endedAt (now (s .entry)) c) call) × callFits r ⌝ }
+    ensures { λ r. ⌜ (r ≡ wholeCall (now (s .entry)) c call) × callFits r ⌝ }
 {
     let end = cursor::ended(s, c);
     if end.good {
@@ -56,7 +57,7 @@ fn whole(s: &[u8], c: Cursor, call: Call) -> Call
 
 // A title, where one is asked for.
 fn title_if(s: &[u8], c: Cursor, asked: bool) -> Quoted
-    ensures { λ r. ⌜ Titled (now (s .entry)) (r .start) (r .length) ⌝ }
+    ensures { λ r. ⌜ (r ≡ titleIf (now (s .entry)) c asked) × Titled (now (s .entry)) (r .start) (r .length) ⌝ }
 {
     if asked {
         return cursor::title(s, c);
@@ -69,7 +70,9 @@ fn title_if(s: &[u8], c: Cursor, asked: bool) -> Quoted
 }
 
 // A word and the number after it, where they are asked for.
-fn number_if(s: &[u8], c: Cursor, word: &[u8], mistake: Mistake, asked: bool) -> Taken {
+fn number_if(s: &[u8], c: Cursor, word: &[u8], mistake: Mistake, asked: bool) -> Taken
+    ensures { λ r. ⌜ r ≡ numberIf (now (s .entry)) c (now (word .entry)) mistake asked ⌝ }
+{
     if asked {
         return cursor::number(s, cursor::word(s, c, word, mistake), ANY);
     }
@@ -82,6 +85,7 @@ fn number_if(s: &[u8], c: Cursor, word: &[u8], mistake: Mistake, asked: bool) ->
 // The fields of an operation of a kind: its cart, a title and a recording where the kind has them.
 fn fields(s: &[u8], c: Cursor, op: &mut [u8], kind: u8, titled: bool, recorded: bool) -> Cursor
     requires { ⌜ length (now op) ≡ 80 ⌝ }
+    ensures { λ r. ⌜ gathered (now (op .exit)) r ≡ fieldsAt (now (s .entry)) c kind titled recorded ⌝ }
 {
     let cart = cursor::number(s, c, TWO_BYTES);
     let title = title_if(s, cart.cursor, titled);
@@ -101,9 +105,10 @@ fn fields(s: &[u8], c: Cursor, op: &mut [u8], kind: u8, titled: bool, recorded: 
     milliseconds.cursor
 }
 
-// One operation.
+// One operation, by its word.
 fn operation(s: &[u8], c: Cursor, op: &mut [u8]) -> Cursor
     requires { ⌜ length (now op) ≡ 80 ⌝ }
+    ensures { λ r. ⌜ gathered (now (op .exit)) r ≡ operationAt (now (s .entry)) c ⌝ }
 {
     let word = cursor::peek_word(s, c);
     let next = cursor::past_word(s, c);
@@ -119,13 +124,14 @@ fn operation(s: &[u8], c: Cursor, op: &mut [u8]) -> Cursor
     if text::same(word, b"withdraw") {
         return fields(s, next, op, 4, false, false);
     }
+    bytes::clear(op);
     c.stopped(Mistake::UnknownOperation)
 }
 
 // One to eight operations, with a semicolon between two.
 fn operations(s: &[u8], c: Cursor, payload: &mut [u8]) -> Counted
     requires { ⌜ length (now payload) ≡ 640 ⌝ }
-    ensures { λ r. ⌜ (1 ≤ r .count) × (r .count ≤ 8) ⌝ }
+    ensures { λ r. ⌜ Stored 80 (operationsAt (now (s .entry)) c) (now (payload .entry)) (now (payload .exit)) r × (1 ≤ r .count) × (r .count ≤ 8) ⌝ }
 {
     let mut next = operation(s, c, &mut payload[0..80]);
     let mut n: usize = 1;
@@ -156,7 +162,7 @@ fn operations(s: &[u8], c: Cursor, payload: &mut [u8]) -> Counted
 
 // One number or more, each at most a bound, as many as there is room for.
 fn numbers(s: &[u8], c: Cursor, most: u32, out: &mut [u32]) -> Counted
-    ensures { λ r. ⌜ r .count ≤ length (now (out .entry)) ⌝ }
+    ensures { λ r. ⌜ Stored 1 (numbersAt (length (now (out .entry))) (now (s .entry)) c most) (now (out .entry)) (now (out .exit)) r × (r .count ≤ length (now (out .entry))) ⌝ }
 {
     let mut next = c;
     let mut n: usize = 0;
@@ -181,7 +187,7 @@ fn numbers(s: &[u8], c: Cursor, most: u32, out: &mut [u32]) -> Counted
 // Setup: the number of studios, then each session's studio.
 fn setup(s: &[u8], c: Cursor, payload: &mut [u8]) -> Call
     requires { ⌜ length (now payload) ≡ 640 ⌝ }
-    ensures { λ r. ⌜ callFits r ⌝ }
+    ensures { λ r. ⌜ Means (setupAt (now (s .entry)) c) (now (payload .entry)) (now (payload .exit)) r ⌝ }
 {
     let studios = cursor::number(s, c, ANY);
     let mut places = [0u32; 16];
@@ -195,7 +201,7 @@ fn setup(s: &[u8], c: Cursor, payload: &mut [u8]) -> Call
 // Commit: the session, then the operations.
 fn commit(s: &[u8], c: Cursor, payload: &mut [u8]) -> Call
     requires { ⌜ length (now payload) ≡ 640 ⌝ }
-    ensures { λ r. ⌜ callFits r ⌝ }
+    ensures { λ r. ⌜ Means (commitAt (now (s .entry)) c) (now (payload .entry)) (now (payload .exit)) r ⌝ }
 {
     let session = cursor::number(s, c, ANY);
     let colon = cursor::mark(s, session.cursor, 58, Mistake::ColonMissing);
@@ -213,6 +219,7 @@ fn commit(s: &[u8], c: Cursor, payload: &mut [u8]) -> Call
 // A request by title.
 fn title_request(s: &[u8], c: Cursor, request: &mut [u8]) -> Cursor
     requires { ⌜ length (now request) ≡ 80 ⌝ }
+    ensures { λ r. ⌜ gathered (now (request .exit)) r ≡ titleRequestAt (now (s .entry)) c ⌝ }
 {
     let title = cursor::title(s, c);
     let start = title.start;
@@ -224,6 +231,7 @@ fn title_request(s: &[u8], c: Cursor, request: &mut [u8]) -> Cursor
 // A request by numbers.
 fn numbers_request(s: &[u8], c: Cursor, request: &mut [u8]) -> Cursor
     requires { ⌜ length (now request) ≡ 80 ⌝ }
+    ensures { λ r. ⌜ gathered (now (request .exit)) r ≡ numbersRequestAt (now (s .entry)) c ⌝ }
 {
     let mut carts = [0u32; 32];
     let read = numbers(s, c, TWO_BYTES, &mut carts);
@@ -235,7 +243,7 @@ fn numbers_request(s: &[u8], c: Cursor, request: &mut [u8]) -> Cursor
 // Read: the session, then cart numbers or a title.
 fn read(s: &[u8], c: Cursor, payload: &mut [u8]) -> Call
     requires { ⌜ length (now payload) ≡ 640 ⌝ }
-    ensures { λ r. ⌜ callFits r ⌝ }
+    ensures { λ r. ⌜ Means (readAt (now (s .entry)) c) (now (payload .entry)) (now (payload .exit)) r ⌝ }
 {
     let session = cursor::number(s, c, ANY);
     let colon = cursor::mark(s, session.cursor, 58, Mistake::ColonMissing);
@@ -250,7 +258,7 @@ fn read(s: &[u8], c: Cursor, payload: &mut [u8]) -> Call
 
 // A call that has one number: a studio or a session.
 fn by_number(s: &[u8], c: Cursor, word: &[u8]) -> Call
-    ensures { λ r. ⌜ callFits r ⌝ }
+    ensures { λ r. ⌜ (r ≡ numberCallAt (now (s .entry)) c (now (word .entry))) × callFits r ⌝ }
 {
     let n = cursor::number(s, c, ANY);
     if text::same(word, b"send") {
@@ -271,7 +279,7 @@ fn by_number(s: &[u8], c: Cursor, word: &[u8]) -> Call
 // A line of a transcript.
 pub fn parse(s: &[u8], payload: &mut [u8]) -> Call
     requires { ⌜ length (now payload) ≡ 640 ⌝ }
-    ensures { λ r. ⌜ callFits r ⌝ }
+    ensures { λ r. ⌜ (r ≡ callOf (now (s .entry))) × (now (payload .exit) ≡ payloadOf (now (s .entry)) (now (payload .entry))) × callFits r ⌝ }
 {
     let c = Cursor::new(0);
     if cursor::is_over(s, c) {
