@@ -41,7 +41,7 @@ pub record Mistakes : Type 0 where
   unknown-operation : callOf (bytesOf "commit 1: recut 7") ≡ Unreadable UnknownOperation 10
   number-missing : callOf (bytesOf "send") ≡ Unreadable NumberMissing 4
   number-large : callOf (bytesOf "send 4294967296") ≡ Unreadable NumberTooLarge 5
-  colon-missing : callOf (bytesOf "read 1") ≡ Unreadable ColonMissing 6
+  colon-missing : callOf (bytesOf "read 1 7") ≡ Unreadable ColonMissing 7
   audio-missing : callOf (bytesOf "commit 1: re-cut 7") ≡ Unreadable AudioMissing 18
   length-missing : callOf (bytesOf "commit 1: re-cut 7 audio 2") ≡ Unreadable LengthMissing 26
   title-missing : callOf (bytesOf "commit 1: retitle 7 B") ≡ Unreadable TitleMissing 20

@@ -17,12 +17,12 @@ use Rattle.transcript.specs.Text.{runEnd, partIn, numberOf}
 use Rattle.transcript.specs.declared.cursor.Cursor.{Cursor}
 use Rattle.transcript.specs.declared.cursor.Mistake.{Mistake}
 
--- a cursor with no mistake; the cursor at another place
+-- a cursor with no mistake; the cursor at another place, and after a mistake where that was
 abbrev pub newAt : ℕ → Cursor
 newAt at = record { at = at; good = true; mistake = None }
 
 abbrev pub movedTo : Cursor → ℕ → Cursor
-movedTo c at = record { at = at; good = c .good; mistake = c .mistake }
+movedTo c at = cond (c .good) (record { at = at; good = true; mistake = c .mistake }) c
 
 -- the cursor with a mistake; the first is kept
 abbrev pub stoppedBy : Cursor → Mistake → Cursor

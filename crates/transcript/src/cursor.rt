@@ -60,16 +60,19 @@ impl Cursor {
         }
     }
 
-    // The cursor at another place.
+    // The cursor at another place; after a mistake it stays where that was.
     pub fn moved(self, at: usize) -> Cursor
         ensures { λ r. ⌜ r ≡ movedTo self at ⌝ }
     {
-        let mistake = self.mistake;
-        Cursor {
-            at,
-            good: self.good,
-            mistake,
+        if self.good {
+            let mistake = self.mistake;
+            return Cursor {
+                at,
+                good: true,
+                mistake,
+            };
         }
+        self
     }
 
     // The cursor with a mistake; the first is kept.
