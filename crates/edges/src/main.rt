@@ -159,65 +159,74 @@ fn read_many(
     say_read(what, answer);
 }
 
-fn main() {
-    let mut library = [0u8; 51200];
-    let mut log = [0u8; 40960];
-    let mut sessions = [0u8; 1280];
-    let control = commit_ones(
-        &mut library,
-        &mut log,
-        &mut sessions,
-        33,
-        b"33 commits, the last",
-    );
+// 33 commits, and 32 and 33 sends of them without a refresh.
+fn sends(library: &mut [u8], log: &mut [u8], sessions: &mut [u8]) {
+    let control = commit_ones(library, log, sessions, 33, b"33 commits, the last");
     send_all(
         control,
-        &library,
-        &log,
-        &sessions,
+        library,
+        log,
+        sessions,
         32,
         b"32 sends without refresh, the last",
     );
     send_all(
         control,
-        &library,
-        &log,
-        &sessions,
+        library,
+        log,
+        sessions,
         33,
         b"33 sends without refresh, the last",
     );
-    commit_eights(&mut library, &mut log, &mut sessions);
+}
+
+// The log is full after 512 commits of one operation.
+fn full_log(library: &mut [u8], log: &mut [u8], sessions: &mut [u8]) {
     commit_ones(
-        &mut library,
-        &mut log,
-        &mut sessions,
+        library,
+        log,
+        sessions,
         512,
         b"512 commits of one operation, the last",
     );
     commit_ones(
-        &mut library,
-        &mut log,
-        &mut sessions,
+        library,
+        log,
+        sessions,
         513,
         b"513 commits of one operation, the last",
     );
-    let empty = fresh(&mut library, &mut log, &mut sessions);
+}
+
+// A read of 32 numbers needs 2,560 bytes of output.
+fn reads(library: &mut [u8], log: &mut [u8], sessions: &mut [u8]) {
+    let empty = fresh(library, log, sessions);
     let mut short = [0u8; 2559];
     read_many(
         empty,
-        &library,
-        &log,
-        &mut sessions,
+        library,
+        log,
+        sessions,
         &mut short,
         b"32 numbers, output of 2559 bytes",
     );
     let mut output = [0u8; 2560];
     read_many(
         empty,
-        &library,
-        &log,
-        &mut sessions,
+        library,
+        log,
+        sessions,
         &mut output,
         b"32 numbers, output of 2560 bytes",
     );
+}
+
+fn main() {
+    let mut library = [0u8; 51200];
+    let mut log = [0u8; 40960];
+    let mut sessions = [0u8; 1280];
+    sends(&mut library, &mut log, &mut sessions);
+    commit_eights(&mut library, &mut log, &mut sessions);
+    full_log(&mut library, &mut log, &mut sessions);
+    reads(&mut library, &mut log, &mut sessions);
 }

@@ -5,11 +5,14 @@ mod play;
 mod print;
 mod show;
 
-use play::Player;
 use transcript::parse;
 use transcript::parse::Call;
+use transcript::progress::Progress;
 use transcript::text;
 use transcript::text::Class;
+ghost use mathlib.Core.Path.{_≡_};
+ghost use Prim.Native.Nat.{_≤_};
+ghost use lib.ListN.{length};
 
 // A call is shown with its line's number; a comment and a blank line as they are.
 fn echo(line: u32, bytes: &[u8], call: Call) {
@@ -26,7 +29,7 @@ fn echo(line: u32, bytes: &[u8], call: Call) {
 
 // A line, where it is whole.
 fn play_line(
-    p: Player,
+    p: Progress,
     library: &mut [u8],
     log: &mut [u8],
     sessions: &mut [u8],
@@ -34,7 +37,10 @@ fn play_line(
     store: &mut [u8],
     line: &[u8],
     is_whole: bool,
-) -> Player {
+) -> Progress
+    requires { ⌜ (length (now cells) ≡ 8192) × (p .history .entries ≤ 1024) ⌝ }
+    ensures { λ r. ⌜ r .history .entries ≤ 1024 ⌝ }
+{
     if !is_whole {
         return p;
     }
@@ -54,8 +60,11 @@ fn play_lines(
     store: &mut [u8],
     bytes: &[u8],
     cut: bool,
-) -> Player {
-    let mut player = Player::new();
+) -> Progress
+    requires { ⌜ length (now cells) ≡ 8192 ⌝ }
+    ensures { λ r. ⌜ r .history .entries ≤ 1024 ⌝ }
+{
+    let mut player = Progress::new();
     let mut at: usize = 0;
     while at < bytes.len() {
         let end = text::run_end(bytes, at, Class::Other(10));
@@ -68,18 +77,14 @@ fn play_lines(
     player
 }
 
-fn summary(p: Player) {
+fn summary(p: Progress) {
     let tally = p.tally;
     print::words(b"\nSummary: ");
     print::count(p.line, b"line");
-    print::words(b"; calls accepted ");
-    print::number(tally.accepted);
-    print::words(b", waited ");
-    print::number(tally.waited);
-    print::words(b", refused ");
-    print::number(tally.refused);
-    print::words(b"; lines that could not be read ");
-    print::number(tally.unreadable);
+    print::told(b"; calls accepted ", tally.accepted);
+    print::told(b", waited ", tally.waited);
+    print::told(b", refused ", tally.refused);
+    print::told(b"; lines that could not be read ", tally.unreadable);
     print::words(b"\n");
 }
 
@@ -100,24 +105,19 @@ fn play_text(bytes: &[u8], cut: bool) {
         cut,
     );
     if cut {
-        print::words(b"\nLEFT OUT: the lines after line ");
-        print::number(player.line);
+        print::told(b"\nLEFT OUT: the lines after line ", player.line);
         print::words(b": the transcript has more than 65536 bytes\n");
     }
     summary(player);
     order::show_order(player.history, &cells, &store);
 }
 
-// There is more to read.
-fn has_more(fd: i32) -> bool {
-    let mut one = [0u8; 1];
-    libc::read(fd, &mut one) > 0
-}
-
+// The transcript is cut where there is more to read than the buffer holds.
 fn play_from(fd: i32) {
     let mut text = io::large_buffer();
     let n = io::read_full(fd, &mut text);
-    let cut = (n == 65536) & has_more(fd);
+    let mut one = [0u8; 1];
+    let cut = (n == 65536) & (libc::read(fd, &mut one) > 0);
     play_text(&text[..n], cut);
 }
 

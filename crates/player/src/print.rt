@@ -9,7 +9,17 @@ pub fn words(s: &[u8]) {
 }
 
 pub fn number(n: u32) {
-    io::print_decimal(STDOUT_FILENO, n as u64);
+    wide_number(n as u64);
+}
+
+pub fn wide_number(n: u64) {
+    io::print_decimal(STDOUT_FILENO, n);
+}
+
+// Words, then a number.
+pub fn told(what: &[u8], n: u32) {
+    words(what);
+    number(n);
 }
 
 // A count of things, with an s where it is not 1.
@@ -34,21 +44,17 @@ pub fn cart(s: &[u8]) {
         return;
     }
     let held = Cart::from_bytes(s);
-    words(b"cart ");
-    number(held.number);
+    told(b"cart ", held.number);
     words(b" ");
     title(text::part_of(s, 16, held.title_length as usize));
-    words(b", audio ");
-    number(held.audio);
-    words(b", length ");
-    number(held.milliseconds);
+    told(b", audio ", held.audio);
+    told(b", length ", held.milliseconds);
     words(b" ms\n");
 }
 
 // A refusal by document 01's number, and what it means.
 pub fn refusal(n: u32) {
-    words(b"  refused (");
-    number(n);
+    told(b"  refused (", n);
     words(b"): ");
     reason(n);
     words(b"\n");

@@ -3,14 +3,18 @@ use crate::print;
 use replication::control::Control;
 use replication::session::Session;
 use replication::session::Waiting;
+use transcript::replay;
 use transcript::text;
 ghost use mathlib.Core.Path.{_≡_};
-ghost use Prim.Native.Nat.{_<_, _≤_};
-ghost use Rattle.transcript.specs.Replay.{askedAt};
+ghost use Prim.Native.Nat.{_+_, _*_, _<_, _≤_};
+ghost use lib.Dec.{eqb};
+ghost use Rattle.carts.specs.Bytes.{byte};
+ghost use Rattle.transcript.specs.Text.{partIn};
 
 // Cart c of a copy, where it is held; the answer is whether it is.
 fn cart_of(library: &[u8], copy: usize, c: usize) -> bool
     requires { ⌜ (copy < 5) × (c < 128) ⌝ }
+    ensures { λ r. ⌜ r ≡ eqb (byte (partIn (now (library .entry)) (10240 * copy + 80 * c) 80) 0) 1 ⌝ }
 {
     let cart = text::part_of(library, 10240 * copy + 80 * c, 80);
     if text::letter(cart, 0) != 1 {
@@ -42,12 +46,9 @@ fn studio_line(control: Control, library: &[u8], i: u32)
     if control.studios < i {
         return;
     }
-    print::words(b"  studio ");
-    print::number(i);
-    print::words(b": sent ");
-    print::number(control.sent_to(i));
-    print::words(b", applied ");
-    print::number(control.applied_by(i));
+    print::told(b"  studio ", i);
+    print::told(b": sent ", control.sent_to(i));
+    print::told(b", applied ", control.applied_by(i));
     print::words(b"\n");
     carts_of(library, i as usize);
 }
@@ -57,24 +58,9 @@ pub fn numbers(request: &[u8], n: u32) {
     let mut i: u32 = 0;
     while i < n {
         print::words(b" ");
-        print::number(asked(request, i));
+        print::number(replay::asked(request, i));
         i += 1;
     }
-}
-
-// The number asked at place i of a request.
-pub fn asked(request: &[u8], i: u32) -> u32
-    ensures { λ r. ⌜ r ≡ askedAt (now (request .entry)) i ⌝ }
-{
-    let at = 16 + 2 * (i as usize);
-    wide(text::letter(request, at)) + 256 * wide(text::letter(request, at + 1))
-}
-
-// A byte as a number.
-pub fn wide(b: u8) -> u32
-    ensures { λ r. ⌜ (r ≡ b) × (r < 256) ⌝ }
-{
-    b as u32
 }
 
 fn waiting_read(own: &[u8], session: Session) {
@@ -106,12 +92,9 @@ fn session_line(control: Control, sessions: &[u8], j: u32)
         return;
     }
     let value = Session::from_bytes(own);
-    print::words(b"  session ");
-    print::number(j);
-    print::words(b" at studio ");
-    print::number(at);
-    print::words(b": number ");
-    print::number(value.number);
+    print::told(b"  session ", j);
+    print::told(b" at studio ", at);
+    print::told(b": number ", value.number);
     waiting_read(own, value);
 }
 
@@ -138,8 +121,7 @@ pub fn show(control: Control, library: &[u8], sessions: &[u8]) {
     }
     print::words(b"  head end: ");
     print::count(control.commits, b"edit");
-    print::words(b", ");
-    print::number(control.used);
+    print::told(b", ", control.used);
     print::words(b" of 512 log records\n");
     carts_of(library, 0);
     studios(control, library);

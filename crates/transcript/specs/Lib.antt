@@ -2,7 +2,9 @@
 pub mod Build
 pub mod Cursor
 pub mod History
+pub mod Order
 pub mod Parse
+pub mod Progress
 pub mod Replay
 pub mod Text
 pub mod Words

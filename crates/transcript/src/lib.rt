@@ -2,6 +2,8 @@
 pub mod build;
 pub mod cursor;
 pub mod history;
+pub mod order;
 pub mod parse;
+pub mod progress;
 pub mod replay;
 pub mod text;

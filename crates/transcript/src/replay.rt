@@ -11,7 +11,15 @@ ghost use Prim.Native.Nat.{ℕ, _+_, _*_, _-_, _<_, _≤_};
 ghost use lib.ListN.{length};
 ghost use lib.Dec.{eqb};
 ghost use Rattle.carts.specs.Operation.{operationsOf, actAll};
-ghost use Rattle.transcript.specs.Replay.{plays, placeAgrees, heldAt, numbersAgree, titleAgrees, readAgrees};
+ghost use Rattle.transcript.specs.Replay.{plays, askedAt, placeAgrees, heldAt, numbersAgree, titleAgrees, readAgrees};
+
+// The number asked at place i of a request.
+pub fn asked(request: &[u8], i: u32) -> u32
+    ensures { λ r. ⌜ r ≡ askedAt (now (request .entry)) i ⌝ }
+{
+    let at = 16 + 2 * (i as usize);
+    text::wide(text::letter(request, at)) + 256 * text::wide(text::letter(request, at + 1))
+}
 
 // The library plays a commit's operations: the answer is its number, or 0 where they are refused.
 pub fn play_commit(copy: &mut [u8], count: u32, ops: &[u8]) -> u32

@@ -32,6 +32,13 @@ pub fn letter(s: &[u8], at: usize) -> u8
     0
 }
 
+// A byte as a number.
+pub fn wide(b: u8) -> u32
+    ensures { λ r. ⌜ (r ≡ b) × (r < 256) ⌝ }
+{
+    b as u32
+}
+
 // The n bytes from a place on, or none where they are not all there.
 pub fn part_of(s: &[u8], at: usize, n: usize) -> &[u8]
     ensures { λ r. ⌜ now r ≡ partIn (now (s .entry)) at n ⌝ }

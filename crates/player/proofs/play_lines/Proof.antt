@@ -1,86 +1,70 @@
+use Rattle.transcript.specs.Progress.{start}
 use lib.ListN.{length}
 use Prim.Native.Nat.{ℕ, _≤_, _<_, _-_}
 use mathlib.Core.Path.{_≡_, refl, _∙_}
 use native.Mathlib.Omega.{arith}
+use borrow.Author.Needs.{needs}
 use Rattle.player.proofs.play_lines.Statement.{statement}
 use Rattle.player.proofs.play_lines.Tie as tie
-use Rattle.player.proofs.play_lines.Reads as reads
-use Rattle.player.proofs.play_lines.Lts as lts
-use Rattle.player.proofs.play.Player.new.Reads as new-reads
-use Rattle.player.proofs.play_line.Reads as play-line-reads
-use Rattle.transcript.proofs.text.run_end.Reads as run-end-reads
 
 abbrev Inv-loop : tie.InvT-loop
 Inv-loop library₀ log₀ sessions₀ cells₀ store₀ bytes cut player₀ at₀ library log sessions cells store player at =
-    (length library ≡ length library₀) × ((length log ≡ length log₀) × ((length sessions ≡ length sessions₀) × ((length cells ≡ length cells₀) × (length store ≡ length store₀))))
+    (length library ≡ length library₀) × (length log ≡ length log₀) × (length sessions ≡ length sessions₀) × (length cells ≡ length cells₀) × (length store ≡ length store₀) × (player .history .entries ≤ 1024)
 
 abbrev μ-loop : tie.MeasureT-loop
 μ-loop library₀ log₀ sessions₀ cells₀ store₀ bytes cut player₀ at₀ library log sessions cells store player at = length bytes - at
 
--- src/main.rt:58:9
 new-requires : tie.Need-new-requires Inv-loop μ-loop
 new-requires c κs = tt
 
--- src/main.rt:60:5
 loop-holds : tie.Need-loop-holds Inv-loop μ-loop
-loop-holds c = (refl, (refl, (refl, (refl, refl))))
+unfolding start
+loop-holds c = (refl, refl, refl, refl, refl, rw (c .new .ensures) (omega arith))
 
--- src/main.rt:61:13
 run-end-requires : tie.Need-run-end-requires Inv-loop μ-loop
 run-end-requires c κs = tt
 
--- src/main.rt:63:20
-sub-line : tie.Need-sub-line Inv-loop μ-loop
-sub-line c = c .run-end .ensures .1
-
--- src/main.rt:63:20
-part-line-start : tie.Need-part-line-start Inv-loop μ-loop
-part-line-start c = let h = c .run-end .ensures .2 (omega arith) in omega arith
-
--- src/main.rt:63:20
-part-line-end : tie.Need-part-line-end Inv-loop μ-loop
-part-line-end c = let h = c .run-end .ensures .2 (omega arith) in omega arith
-
--- src/main.rt:64:9
-play-line-requires : tie.Need-play-line-requires Inv-loop μ-loop
-play-line-requires c κs = tt
-
--- src/main.rt:65:14
 add-next : tie.Need-add-next Inv-loop μ-loop
 add-next c = let h = c .run-end .ensures .2 (omega arith) in omega arith
 
--- src/main.rt:60:5
+sub-line : tie.Need-sub-line Inv-loop μ-loop
+sub-line c = c .run-end .ensures .1
+
+part-line-start : tie.Need-part-line-start Inv-loop μ-loop
+part-line-start c = let h = c .run-end .ensures .2 (omega arith) in omega arith
+
+part-line-end : tie.Need-part-line-end Inv-loop μ-loop
+part-line-end c = let h = c .run-end .ensures .2 (omega arith) in omega arith
+
+play-line-requires : tie.Need-play-line-requires Inv-loop μ-loop
+play-line-requires c κs = let i = c .before .before .before .before .before .before .before .before .loop .inv in (i .3 ∙ c .before .before .before .before .before .before .before .before .before .before .before .before .before .before .before .before .pre, i .5)
+
 loop-less : tie.Need-loop-less Inv-loop μ-loop
-loop-less c = let l = c .before .before .before .before .before .before .before .before .before .before .before .before .before .before .before .before .before .run-end .ensures .1 in let h = c .before .before .before .before .before .before .before .before .before .before .before .before .before .before .before .before .before .run-end .ensures .2 (omega arith) in omega arith
+loop-less c = let e = c .before .before .before .before .before .before .before .before .before .before .before .before .before .before .before .before .before .run-end .ensures in let l = e .1 in let h = e .2 (omega arith) in omega arith
 
--- src/main.rt:60:5
 loop-again : tie.Need-loop-again Inv-loop μ-loop
-loop-again c = let k = c .before .before .before .before .before .before .before .before .before .before .play-line .kept in let i = c .before .before .before .before .before .before .before .before .before .before .before .before .before .before .before .before .before .before .before .loop .inv in
-    (k .1 .0 ∙ i .0, (k .1 .1 .0 ∙ i .1 .0, (k .1 .1 .1 .0 ∙ i .1 .1 .0, (k .1 .1 .1 .1 .0 ∙ i .1 .1 .1 .0, k .1 .1 .1 .1 .1 .0 ∙ i .1 .1 .1 .1))))
+loop-again c = let p = c .before .before .before .before .before .before .before .before .before .before .play-line in
+    let k = p .kept in
+    let i = c .before .before .before .before .before .before .before .before .before .before .before .before .before .before .before .before .before .before .before .loop .inv in
+    (k .1 .0 ∙ i .0, k .1 .1 .0 ∙ i .1, k .1 .1 .1 .0 ∙ i .2, k .1 .1 .1 .1 .0 ∙ i .3, k .1 .1 .1 .1 .1 .0 ∙ i .4, p .ensures)
 
--- src/main.rt:49:1
 same-length : tie.Need-same-length Inv-loop μ-loop
 same-length c = c .before .loop .inv .0
 
--- src/main.rt:49:1
 same-length-2 : tie.Need-same-length-2 Inv-loop μ-loop
-same-length-2 c = c .before .loop .inv .1 .0
+same-length-2 c = c .before .loop .inv .1
 
--- src/main.rt:49:1
 same-length-3 : tie.Need-same-length-3 Inv-loop μ-loop
-same-length-3 c = c .before .loop .inv .1 .1 .0
+same-length-3 c = c .before .loop .inv .2
 
--- src/main.rt:49:1
 same-length-4 : tie.Need-same-length-4 Inv-loop μ-loop
-same-length-4 c = c .before .loop .inv .1 .1 .1 .0
+same-length-4 c = c .before .loop .inv .3
 
--- src/main.rt:49:1
 same-length-5 : tie.Need-same-length-5 Inv-loop μ-loop
-same-length-5 c = c .before .loop .inv .1 .1 .1 .1
+same-length-5 c = c .before .loop .inv .4
 
--- src/main.rt:49:1
 returns : tie.Need-returns Inv-loop μ-loop
-returns c = tt
+returns c = c .before .loop .inv .5
 
 pub play-lines-spec : {M : Type 1} → statement M
 play-lines-spec =

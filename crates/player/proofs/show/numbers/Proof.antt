@@ -8,7 +8,7 @@ use Rattle.player.proofs.show.numbers.Reads as reads
 use Rattle.player.proofs.show.numbers.Lts as lts
 use Rattle.player.proofs.print.number.Reads as number-reads
 use Rattle.player.proofs.print.words.Reads as words-reads
-use Rattle.player.proofs.show.asked.Reads as asked-reads
+use Rattle.transcript.proofs.replay.asked.Reads as asked-reads
 
 abbrev Inv-loop : tie.InvT-loop
 Inv-loop request n i₀ t4 i = Unit {0}

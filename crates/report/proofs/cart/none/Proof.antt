@@ -1,0 +1,21 @@
+use Rattle.report.specs.Lines.{noCartText}
+use Rattle.report.proofs.PageLaws.{told-none, told-more}
+use borrow.Author.Needs.{needs}
+use Rattle.report.proofs.cart.none.Statement.{statement}
+use Rattle.report.proofs.cart.none.Tie as tie
+
+slice-aggregate-put : tie.Need-slice-aggregate-put
+slice-aggregate-put c = search needs
+
+put-requires : tie.Need-put-requires
+put-requires c κs = search needs
+
+same-length : tie.Need-same-length
+same-length c = search needs
+
+returns : tie.Need-returns
+unfolding noCartText
+returns c = told-more (told-none _) (c .before .before .put .ensures)
+
+pub none-spec : {M : Type 1} → statement M
+none-spec = tie.close (tie.spec slice-aggregate-put put-requires same-length returns)

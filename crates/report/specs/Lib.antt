@@ -1,0 +1,4 @@
+-- What the contracts of reports cite.
+pub mod Lines
+pub mod Page
+pub mod Sentences

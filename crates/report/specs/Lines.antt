@@ -1,0 +1,138 @@
+-- The lines that the player prints.
+use mathlib.Core.Bool.{Bool, cond, _&&_}
+use mathlib.Core.List.{List, [], _++_}
+use Prim.Native.Nat.{ℕ, zero, suc}
+use lib.Dec.{eqb}
+use Rattle.carts.specs.Bytes.{byte, u16}
+use Rattle.carts.specs.Fields.{cartFields}
+use Rattle.transcript.specs.declared.cursor.Mistake.{Mistake}
+use Rattle.transcript.specs.declared.history.Entry.{Entry}
+use Rattle.transcript.specs.declared.progress.Tally.{Tally}
+use Rattle.transcript.specs.Text.{partIn}
+use Rattle.transcript.specs.Replay.{askedAt}
+use Rattle.transcript.specs.Words.{bytesOf}
+use Rattle.report.specs.Page.{decimal, numbered, countOf, quoted}
+use Rattle.report.specs.Sentences.{refusalSentence, mistakeSentence}
+
+-- a refusal, by document 01's number
+unfoldable pub refusalText : ℕ → List ℕ
+refusalText n = numbered "  refused (" n ++ bytesOf "): " ++ refusalSentence n ++ bytesOf "\n"
+
+-- a line that cannot be read
+unfoldable pub unreadableText : ℕ → ℕ → Mistake → List ℕ
+unreadableText line column mistake =
+    numbered "  line " line ++ bytesOf ", column " ++ decimal column ++ bytesOf " cannot be read: " ++ mistakeSentence mistake ++ bytesOf "\n"
+
+-- a setup was accepted; it ends the system before it
+unfoldable pub freshText : ℕ → List ℕ
+freshText studios = bytesOf "  a fresh system with " ++ countOf studios (bytesOf "studio") ++ bytesOf "\n"
+
+unfoldable pub endedText : List ℕ
+endedText = bytesOf "  the system before this line ends here\n"
+
+-- a commit, a send, a refresh was accepted
+unfoldable pub committedText : ℕ → List ℕ
+committedText n = numbered "  edit " n ++ bytesOf " is committed\n"
+
+unfoldable pub sentText : ℕ → ℕ → List ℕ
+sentText n studio = numbered "  edit " n ++ numbered " is sent to studio " studio ++ bytesOf "\n"
+
+unfoldable pub appliedText : ℕ → ℕ → List ℕ
+appliedText n studio = numbered "  edit " n ++ numbered " is applied by studio " studio ++ bytesOf "\n"
+
+-- a read was answered at an edit; it waits for an edit
+unfoldable pub answeredText : ℕ → ℕ → List ℕ
+answeredText state found = numbered "  answered at edit " state ++ numbered ", found " found ++ bytesOf ":\n"
+
+unfoldable pub waitsText : ℕ → List ℕ
+waitsText n = numbered "  waits for edit " n ++ bytesOf "\n"
+
+-- a read by title found no cart, or more than one
+unfoldable pub untitledText : List ℕ
+untitledText = bytesOf "    no cart has this title\n"
+
+unfoldable pub severalText : ℕ → List ℕ
+severalText found = numbered "    " found ++ bytesOf " carts have this title, so none is shown\n"
+
+-- a held cart, by the fields in its 80 bytes; its title stands from byte 16 on
+unfoldable pub recordingText : ℕ → ℕ → List ℕ
+recordingText audio milliseconds = numbered ", audio " audio ++ numbered ", length " milliseconds ++ bytesOf " ms\n"
+
+unfoldable pub cartText : List ℕ → List ℕ
+cartText cart =
+    let fields = cartFields cart in
+    numbered "    cart " (fields .number) ++ bytesOf " " ++ quoted (partIn cart 16 (fields .«title_length»))
+    ++ recordingText (fields .audio) (fields .milliseconds)
+
+-- a cart that was asked for and is empty; a copy in which no cart is held
+unfoldable pub emptyText : ℕ → List ℕ
+emptyText n = numbered "    cart " n ++ bytesOf " is empty\n"
+
+unfoldable pub noCartText : List ℕ
+noCartText = bytesOf "    no cart is held\n"
+
+-- there is no system; the head end's counts; a studio's counts
+unfoldable pub noSystemText : List ℕ
+noSystemText = bytesOf "  there is no system yet\n"
+
+unfoldable pub headText : ℕ → ℕ → List ℕ
+headText commits used = bytesOf "  head end: " ++ countOf commits (bytesOf "edit") ++ numbered ", " used ++ bytesOf " of 512 log records\n"
+
+unfoldable pub studioText : ℕ → ℕ → ℕ → List ℕ
+studioText i sent applied = numbered "  studio " i ++ numbered ": sent " sent ++ numbered ", applied " applied ++ bytesOf "\n"
+
+-- the first n numbers that a request asks for, each after a space
+unfoldable pub askedNumbers : List ℕ → ℕ → List ℕ
+askedNumbers request zero = []
+askedNumbers request (suc n) = askedNumbers request n ++ numbered " " (askedAt request n)
+
+-- the read that a session has waiting, by byte 0 of its 80 bytes: 1 for so many numbers as byte 1 says, 2 for a title of so many letters
+unfoldable pub waitingText : List ℕ → List ℕ
+waitingText own =
+    cond (eqb (byte own 0) 1) (bytesOf ", a read waits for carts" ++ askedNumbers own (byte own 1) ++ bytesOf "\n")
+    (cond (eqb (byte own 0) 2) (bytesOf ", a read waits for title " ++ quoted (partIn own 16 (byte own 1)) ++ bytesOf "\n")
+    (bytesOf ", nothing waits\n"))
+
+-- a session at a studio: its number in bytes 2 and 3, and its waiting read
+unfoldable pub sessionText : ℕ → ℕ → List ℕ → List ℕ
+sessionText j studio own = numbered "  session " j ++ numbered " at studio " studio ++ numbered ": number " (u16 own 2) ++ waitingText own
+
+-- the one-copy order begins
+unfoldable pub orderText : List ℕ
+orderText = bytesOf "One-copy order:\n"
+
+-- an entry: a commit (kind 1) or a read, where it stood, and whether its answer is the same on a single library
+unfoldable pub kindText : Entry → List ℕ
+kindText e = cond (eqb (e .kind) 1) (numbered "  edit " (e .number)) (numbered "  read at edit " (e .number))
+
+unfoldable pub entryText : Entry → Bool → List ℕ
+entryText e same = kindText e ++ numbered " (line " (e .line) ++ numbered ", session " (e .session) ++ cond same (bytesOf "): same\n") (bytesOf "): DIFFERENT\n")
+
+-- what the comparison came to: of so many entries, so many were compared, and so many answers differ
+unfoldable pub unlikeText : ℕ → ℕ → List ℕ
+unlikeText entries differ = numbered " compared, " differ ++ numbered " different; " entries ++ bytesOf " were to be compared\n"
+
+unfoldable pub verdictText : ℕ → ℕ → ℕ → List ℕ
+verdictText entries compared differ =
+    bytesOf "  " ++ countOf compared (bytesOf "answer")
+    ++ cond (eqb differ 0 && eqb compared entries) (bytesOf ", each the same on a single library\n") (unlikeText entries differ)
+
+-- answers that the history had no room for
+unfoldable pub leftOutText : ℕ → List ℕ
+leftOutText n = bytesOf "  left out for want of room: " ++ countOf n (bytesOf "later answer") ++ bytesOf "\n"
+
+-- a line's number, before the line itself; the text was cut after a line
+unfoldable pub echoText : ℕ → List ℕ
+echoText line = decimal line ++ bytesOf ": "
+
+unfoldable pub cutText : ℕ → List ℕ
+cutText line = numbered "\nLEFT OUT: the lines after line " line ++ bytesOf ": the transcript has more than 65536 bytes\n"
+
+-- how many lines there were, and what came of them
+unfoldable pub tallyText : Tally → List ℕ
+tallyText tally =
+    numbered "; calls accepted " (tally .accepted) ++ numbered ", waited " (tally .waited) ++ numbered ", refused " (tally .refused)
+    ++ numbered "; lines that could not be read " (tally .unreadable)
+
+unfoldable pub summaryText : ℕ → Tally → List ℕ
+summaryText lines tally = bytesOf "\nSummary: " ++ countOf lines (bytesOf "line") ++ tallyText tally ++ bytesOf "\n"

@@ -1,0 +1,84 @@
+// The state of copies and sessions in words.
+use crate::page;
+use carts::bytes;
+use transcript::replay;
+ghost use mathlib.Core.Path.{_≡_};
+ghost use Prim.Native.Nat.{ℕ, _+_, _≤_};
+ghost use lib.ListN.{length};
+ghost use Prim.Native.Nat.{_*_};
+ghost use Rattle.report.specs.Page.{pageSize, Put, Told};
+ghost use Rattle.report.specs.Lines.{noSystemText, headText, studioText, askedNumbers, waitingText, sessionText};
+
+// There is no system.
+pub fn no_system(out: &mut [u8]) -> usize
+    requires { ⌜ length (now out) ≡ pageSize ⌝ }
+    ensures { λ r. ⌜ Told noSystemText (now (out .entry)) (now (out .exit)) r ⌝ }
+{
+    page::put(out, 0, b"  there is no system yet\n")
+}
+
+// The head end's counts.
+pub fn head_end(out: &mut [u8], commits: u32, used: u32) -> usize
+    requires { ⌜ length (now out) ≡ pageSize ⌝ }
+    ensures { λ r. ⌜ Told (headText commits used) (now (out .entry)) (now (out .exit)) r ⌝ }
+{
+    let a = page::put(out, 0, b"  head end: ");
+    let b = page::put_count(out, a, commits, b"edit");
+    let c = page::put_numbered(out, b, b", ", used);
+    page::put(out, c, b" of 512 log records\n")
+}
+
+// A studio's counts.
+pub fn studio(out: &mut [u8], i: u32, sent: u32, applied: u32) -> usize
+    requires { ⌜ length (now out) ≡ pageSize ⌝ }
+    ensures { λ r. ⌜ Told (studioText i sent applied) (now (out .entry)) (now (out .exit)) r ⌝ }
+{
+    let a = page::put_numbered(out, 0, b"  studio ", i);
+    let b = page::put_numbered(out, a, b": sent ", sent);
+    let c = page::put_numbered(out, b, b", applied ", applied);
+    page::put(out, c, b"\n")
+}
+
+// The first n numbers that a request asks for.
+fn put_asked(out: &mut [u8], at: usize, request: &[u8], n: u32) -> usize
+    requires { ⌜ at + 11 * n ≤ length (now out) ⌝ }
+    ensures { λ r. ⌜ Put (askedNumbers (now (request .entry)) n) (now (out .entry)) at (now (out .exit)) r × (r ≤ at + 11 * n) ⌝ }
+{
+    let mut end = at;
+    let mut i: u32 = 0;
+    while i < n {
+        end = page::put_numbered(out, end, b" ", replay::asked(request, i));
+        i += 1;
+    }
+    end
+}
+
+// The read that a session has waiting, and the line's end.
+fn put_waiting(out: &mut [u8], at: usize, own: &[u8]) -> usize
+    requires { ⌜ (at + 3000 ≤ length (now out)) × (length (now own) ≡ 80) ⌝ }
+    ensures { λ r. ⌜ Put (waitingText (now (own .entry))) (now (out .entry)) at (now (out .exit)) r ⌝ }
+{
+    let n = bytes::byte_at(own, 1);
+    if own[0] == 1 {
+        let a = page::put(out, at, b", a read waits for carts");
+        let b = put_asked(out, a, own, n);
+        return page::put(out, b, b"\n");
+    }
+    if own[0] == 2 {
+        let a = page::put(out, at, b", a read waits for title ");
+        let b = page::put_title(out, a, own, n);
+        return page::put(out, b, b"\n");
+    }
+    page::put(out, at, b", nothing waits\n")
+}
+
+// A session at a studio, from its 80 bytes: its number and its waiting read.
+pub fn session(out: &mut [u8], j: u32, studio: u32, own: &[u8]) -> usize
+    requires { ⌜ (length (now out) ≡ pageSize) × (length (now own) ≡ 80) ⌝ }
+    ensures { λ r. ⌜ Told (sessionText j studio (now (own .entry))) (now (out .entry)) (now (out .exit)) r ⌝ }
+{
+    let a = page::put_numbered(out, 0, b"  session ", j);
+    let b = page::put_numbered(out, a, b" at studio ", studio);
+    let c = page::put_numbered(out, b, b": number ", bytes::u16_at(own, 2));
+    put_waiting(out, c, own)
+}

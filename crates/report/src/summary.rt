@@ -1,0 +1,48 @@
+// The transcript itself in words.
+use crate::page;
+use transcript::progress::Tally;
+ghost use mathlib.Core.Path.{_≡_};
+ghost use Prim.Native.Nat.{ℕ, _+_, _≤_};
+ghost use lib.ListN.{length};
+ghost use Rattle.report.specs.Page.{pageSize, Put, Told};
+ghost use Rattle.report.specs.Lines.{echoText, cutText, tallyText, summaryText};
+
+// A line's number, before the line itself.
+pub fn echo(out: &mut [u8], line: u32) -> usize
+    requires { ⌜ length (now out) ≡ pageSize ⌝ }
+    ensures { λ r. ⌜ Told (echoText line) (now (out .entry)) (now (out .exit)) r ⌝ }
+{
+    let a = page::put_number(out, 0, line);
+    page::put(out, a, b": ")
+}
+
+// The text was cut after a line.
+pub fn cut(out: &mut [u8], line: u32) -> usize
+    requires { ⌜ length (now out) ≡ pageSize ⌝ }
+    ensures { λ r. ⌜ Told (cutText line) (now (out .entry)) (now (out .exit)) r ⌝ }
+{
+    let a = page::put_numbered(out, 0, b"\nLEFT OUT: the lines after line ", line);
+    page::put(out, a, b": the transcript has more than 65536 bytes\n")
+}
+
+// How many lines had each outcome.
+fn put_tally(out: &mut [u8], at: usize, tally: Tally) -> usize
+    requires { ⌜ at + 128 ≤ length (now out) ⌝ }
+    ensures { λ r. ⌜ Put (tallyText tally) (now (out .entry)) at (now (out .exit)) r × (r ≤ at + 128) ⌝ }
+{
+    let a = page::put_numbered(out, at, b"; calls accepted ", tally.accepted);
+    let b = page::put_numbered(out, a, b", waited ", tally.waited);
+    let c = page::put_numbered(out, b, b", refused ", tally.refused);
+    page::put_numbered(out, c, b"; lines that could not be read ", tally.unreadable)
+}
+
+// How many lines there were, and what came of them.
+pub fn summary(out: &mut [u8], lines: u32, tally: Tally) -> usize
+    requires { ⌜ length (now out) ≡ pageSize ⌝ }
+    ensures { λ r. ⌜ Told (summaryText lines tally) (now (out .entry)) (now (out .exit)) r ⌝ }
+{
+    let a = page::put(out, 0, b"\nSummary: ");
+    let b = page::put_count(out, a, lines, b"line");
+    let c = put_tally(out, b, tally);
+    page::put(out, c, b"\n")
+}
