@@ -19,8 +19,9 @@ fn echo(line: u32, bytes: &[u8], call: Call) {
     match call {
         Call::Nothing => print::words(bytes),
         _ => {
-            print::number(line);
-            print::words(b": ");
+            let mut page = io::buffer();
+            let n = report::summary::echo(&mut page, line);
+            print::told(&page, n);
             print::words(bytes);
         }
     }
@@ -77,15 +78,18 @@ fn play_lines(
     player
 }
 
+// The lines after a line were cut.
+fn cut_after(line: u32) {
+    let mut page = io::buffer();
+    let n = report::summary::cut(&mut page, line);
+    print::told(&page, n);
+}
+
 fn summary(p: Progress) {
     let tally = p.tally;
-    print::words(b"\nSummary: ");
-    print::count(p.line, b"line");
-    print::told(b"; calls accepted ", tally.accepted);
-    print::told(b", waited ", tally.waited);
-    print::told(b", refused ", tally.refused);
-    print::told(b"; lines that could not be read ", tally.unreadable);
-    print::words(b"\n");
+    let mut page = io::buffer();
+    let n = report::summary::summary(&mut page, p.line, tally);
+    print::told(&page, n);
 }
 
 // All memory is on the stack.
@@ -105,8 +109,7 @@ fn play_text(bytes: &[u8], cut: bool) {
         cut,
     );
     if cut {
-        print::told(b"\nLEFT OUT: the lines after line ", player.line);
-        print::words(b": the transcript has more than 65536 bytes\n");
+        cut_after(player.line);
     }
     summary(player);
     order::show_order(player.history, &cells, &store);

@@ -33,8 +33,16 @@ fn end_part(h: History, cells: &[u32], store: &[u8])
     if h.entries == 0 {
         return;
     }
-    print::words(b"  the system before this line ends here\n");
+    let mut page = io::buffer();
+    let n = report::answer::ended(&mut page);
+    print::told(&page, n);
     order::show_order(h, cells, store);
+}
+
+fn tell_fresh(studios: u32) {
+    let mut page = io::buffer();
+    let n = report::answer::fresh(&mut page, studios);
+    print::told(&page, n);
 }
 
 // What a setup of n studios answered.
@@ -47,24 +55,34 @@ fn finish_setup(p: Progress, result: SetupResult, cells: &[u32], store: &[u8], n
     match answer {
         SetupAnswer::Ready => {
             end_part(history, cells, store);
-            print::words(b"  a fresh system with ");
-            print::count(n, b"studio");
-            print::words(b"\n");
+            tell_fresh(n);
         }
         SetupAnswer::Refused(row) => print::refusal(row),
     }
     p.after_setup(result)
 }
 
-// What became of an edit.
-fn tell_count(answer: CountAnswer, what: &[u8]) {
+fn tell_commit(answer: CountAnswer) {
     match answer {
-        CountAnswer::Number(n) => {
-            print::told(b"  edit ", n);
-            print::words(what);
+        CountAnswer::Number(edit) => {
+            let mut page = io::buffer();
+            let n = report::answer::committed(&mut page, edit);
+            print::told(&page, n);
         }
-        CountAnswer::Refused(n) => print::refusal(n),
+        CountAnswer::Refused(row) => print::refusal(row),
     }
+}
+
+// What became of an edit at a studio: it was sent there, or applied.
+fn tell_moved(edit: u32, studio: u32, is_sent: bool) {
+    let mut page = io::buffer();
+    if is_sent {
+        let n = report::answer::sent(&mut page, edit, studio);
+        print::told(&page, n);
+        return;
+    }
+    let n = report::answer::applied(&mut page, edit, studio);
+    print::told(&page, n);
 }
 
 fn play_commit(
@@ -82,20 +100,19 @@ fn play_commit(
 {
     let result = commit(p.control, library, log, sessions, session, ops);
     let answer = result.answer;
-    tell_count(answer, b" is committed\n");
+    tell_commit(answer);
     p.after_commit(result, cells, store, session, ops)
 }
 
 // A send or a refresh, with what became of the edit.
-fn moved(p: Progress, result: CountResult, what: &[u8], studio: u32) -> Progress
+fn moved(p: Progress, result: CountResult, studio: u32, is_sent: bool) -> Progress
     requires { ⌜ p .history .entries ≤ 1024 ⌝ }
     ensures { λ r. ⌜ r .history .entries ≤ 1024 ⌝ }
 {
     let answer = result.answer;
-    tell_count(answer, what);
-    if let CountAnswer::Number(_) = answer {
-        print::number(studio);
-        print::words(b"\n");
+    match answer {
+        CountAnswer::Number(edit) => tell_moved(edit, studio, is_sent),
+        CountAnswer::Refused(row) => print::refusal(row),
     }
     p.after_move(result)
 }
@@ -104,14 +121,14 @@ fn moved(p: Progress, result: CountResult, what: &[u8], studio: u32) -> Progress
 fn shown_at(block: &[u8], i: usize)
     requires { ⌜ i < 256 ⌝ }
 {
-    print::words(b"    ");
     let cart = text::part_of(block, 80 + 80 * i, 80);
     if text::letter(cart, 0) == 1 {
         print::cart(cart);
         return;
     }
-    print::told(b"cart ", replay::asked(block, i as u32));
-    print::words(b" is empty\n");
+    let mut page = io::buffer();
+    let n = report::cart::empty(&mut page, replay::asked(block, i as u32));
+    print::told(&page, n);
 }
 
 fn shown(block: &[u8], n: usize)
@@ -126,29 +143,36 @@ fn shown(block: &[u8], n: usize)
 
 // What a read by title found.
 fn found_by_title(block: &[u8], found: u32) {
-    print::words(b"    ");
     if found == 1 {
         print::cart(text::part_of(block, 80, 80));
         return;
     }
+    let mut page = io::buffer();
     if found == 0 {
-        print::words(b"no cart has this title\n");
+        let n = report::answer::untitled(&mut page);
+        print::told(&page, n);
         return;
     }
-    print::number(found);
-    print::words(b" carts have this title, so none is shown\n");
+    let n = report::answer::several(&mut page, found);
+    print::told(&page, n);
 }
 
 // An answered read: its request stands at the start of the block, its output after it.
 fn tell_answered(block: &[u8], state: u32, found: u32) {
-    print::told(b"  answered at edit ", state);
-    print::told(b", found ", found);
-    print::words(b":\n");
+    let mut page = io::buffer();
+    let n = report::answer::answered(&mut page, state, found);
+    print::told(&page, n);
     if text::letter(block, 0) == 2 {
         found_by_title(block, found);
         return;
     }
     shown(block, progress::places(block));
+}
+
+fn tell_waits(edit: u32) {
+    let mut page = io::buffer();
+    let n = report::answer::waits(&mut page, edit);
+    print::told(&page, n);
 }
 
 // What a read or a collect answered.
@@ -166,10 +190,7 @@ fn finish_read(
     let answer = result.answer;
     match answer {
         ReadAnswer::Answered { state, found } => tell_answered(block, state, found),
-        ReadAnswer::Waits(n) => {
-            print::told(b"  waits for edit ", n);
-            print::words(b"\n");
-        }
+        ReadAnswer::Waits(edit) => tell_waits(edit),
         ReadAnswer::Refused(n) => print::refusal(n),
     }
     p.after_read(result, cells, store, session, block)
@@ -216,12 +237,10 @@ fn play_collect(
 
 // A line that is no call.
 fn tell_mistake(line: u32, mistake: Mistake, at: usize) {
-    print::told(b"  line ", line);
-    print::words(b", column ");
-    print::wide_number(std::num::wrapping_add_u64(at as u64, 1));
-    print::words(b" cannot be read: ");
-    print::mistake(mistake);
-    print::words(b"\n");
+    let column = std::num::wrapping_add_u64(at as u64, 1);
+    let mut page = io::buffer();
+    let n = report::mistake::unreadable(&mut page, line, column, mistake);
+    print::told(&page, n);
 }
 
 // One call, with its bytes at the start of the payload.
@@ -258,11 +277,11 @@ pub fn play_call(
         }
         Call::Send(studio) => {
             let result = send(p.control, library, log, sessions, studio);
-            moved(p, result, b" is sent to studio ", studio)
+            moved(p, result, studio, true)
         }
         Call::Refresh(studio) => {
             let result = refresh(p.control, library, log, sessions, studio);
-            moved(p, result, b" is applied by studio ", studio)
+            moved(p, result, studio, false)
         }
         Call::Read(session) => {
             let request = text::part_of(payload, 0, 80);

@@ -1,9 +1,6 @@
 // The state of all copies and sessions.
 use crate::print;
 use replication::control::Control;
-use replication::session::Session;
-use replication::session::Waiting;
-use transcript::replay;
 use transcript::text;
 ghost use mathlib.Core.Path.{_≡_};
 ghost use Prim.Native.Nat.{_+_, _*_, _<_, _≤_};
@@ -20,9 +17,14 @@ fn cart_of(library: &[u8], copy: usize, c: usize) -> bool
     if text::letter(cart, 0) != 1 {
         return false;
     }
-    print::words(b"    ");
     print::cart(cart);
     true
+}
+
+fn no_cart() {
+    let mut page = io::buffer();
+    let n = report::cart::none(&mut page);
+    print::told(&page, n);
 }
 
 // The held carts of a copy.
@@ -36,7 +38,7 @@ fn carts_of(library: &[u8], copy: usize)
         c += 1;
     }
     if !some {
-        print::words(b"    no cart is held\n");
+        no_cart();
     }
 }
 
@@ -46,38 +48,10 @@ fn studio_line(control: Control, library: &[u8], i: u32)
     if control.studios < i {
         return;
     }
-    print::told(b"  studio ", i);
-    print::told(b": sent ", control.sent_to(i));
-    print::told(b", applied ", control.applied_by(i));
-    print::words(b"\n");
+    let mut page = io::buffer();
+    let n = report::state::studio(&mut page, i, control.sent_to(i), control.applied_by(i));
+    print::told(&page, n);
     carts_of(library, i as usize);
-}
-
-// The cart numbers that a request of n numbers asks for.
-pub fn numbers(request: &[u8], n: u32) {
-    let mut i: u32 = 0;
-    while i < n {
-        print::words(b" ");
-        print::number(replay::asked(request, i));
-        i += 1;
-    }
-}
-
-fn waiting_read(own: &[u8], session: Session) {
-    let waits = session.waiting;
-    match waits {
-        Waiting::Nothing => print::words(b", nothing waits\n"),
-        Waiting::Numbers(n) => {
-            print::words(b", a read waits for carts");
-            numbers(own, n);
-            print::words(b"\n");
-        }
-        Waiting::Title(n) => {
-            print::words(b", a read waits for title ");
-            print::title(text::part_of(own, 16, n as usize));
-            print::words(b"\n");
-        }
-    }
 }
 
 fn session_line(control: Control, sessions: &[u8], j: u32)
@@ -91,11 +65,9 @@ fn session_line(control: Control, sessions: &[u8], j: u32)
     if own.len() != 80 {
         return;
     }
-    let value = Session::from_bytes(own);
-    print::told(b"  session ", j);
-    print::told(b" at studio ", at);
-    print::told(b": number ", value.number);
-    waiting_read(own, value);
+    let mut page = io::buffer();
+    let n = report::state::session(&mut page, j, at, own);
+    print::told(&page, n);
 }
 
 fn studios(control: Control, library: &[u8]) {
@@ -115,14 +87,14 @@ fn sessions_of(control: Control, sessions: &[u8]) {
 }
 
 pub fn show(control: Control, library: &[u8], sessions: &[u8]) {
+    let mut page = io::buffer();
     if control.studios == 0 {
-        print::words(b"  there is no system yet\n");
+        let n = report::state::no_system(&mut page);
+        print::told(&page, n);
         return;
     }
-    print::words(b"  head end: ");
-    print::count(control.commits, b"edit");
-    print::told(b", ", control.used);
-    print::words(b" of 512 log records\n");
+    let n = report::state::head_end(&mut page, control.commits, control.used);
+    print::told(&page, n);
     carts_of(library, 0);
     studios(control, library);
     sessions_of(control, sessions);

@@ -7,7 +7,6 @@ use Rattle.player.proofs.show.cart_of.Tie as tie
 use Rattle.player.proofs.show.cart_of.Reads as reads
 use Rattle.player.proofs.show.cart_of.Lts as lts
 use Rattle.player.proofs.print.cart.Reads as cart-reads
-use Rattle.player.proofs.print.words.Reads as words-reads
 use Rattle.transcript.proofs.text.letter.Reads as letter-reads
 use Rattle.transcript.proofs.text.part_of.Reads as part-of-reads
 
@@ -35,21 +34,13 @@ letter-requires c κs = search needs
 returns : tie.Need-returns
 returns c = sym (ne-eqb _ _ (λ q. c .if1 .taken (c .before .letter .ensures ∙ ap (λ s. byte s 0) (c .before .before .part-of .ensures) ∙ q)))
 
--- src/show.rt:23:18
-slice-aggregate-words : tie.Need-slice-aggregate-words
-slice-aggregate-words c = search needs
-
--- src/show.rt:23:5
-words-requires : tie.Need-words-requires
-words-requires c κs = search needs
-
 -- src/show.rt:24:5
 cart-requires : tie.Need-cart-requires
 cart-requires c κs = search needs
 
 -- src/show.rt:15:1
 returns-2 : tie.Need-returns-2
-returns-2 c = let e = c .before .before .before in sym (eq-eqb _ _ (sym (e .before .letter .ensures ∙ ap (λ s. byte s 0) (e .before .before .part-of .ensures)) ∙ e .if1 .left))
+returns-2 c = let e = c .before in sym (eq-eqb _ _ (sym (e .before .letter .ensures ∙ ap (λ s. byte s 0) (e .before .before .part-of .ensures)) ∙ e .if1 .left))
 
 pub cart-of-spec : {M : Type 1} → statement M
 cart-of-spec =
@@ -61,7 +52,5 @@ cart-of-spec =
     part-of-requires
     letter-requires
     returns
-    slice-aggregate-words
-    words-requires
     cart-requires
     returns-2)

@@ -6,14 +6,13 @@ use Rattle.player.proofs.show.carts_of.Statement.{statement}
 use Rattle.player.proofs.show.carts_of.Tie as tie
 use Rattle.player.proofs.show.carts_of.Reads as reads
 use Rattle.player.proofs.show.carts_of.Lts as lts
-use Rattle.player.proofs.print.words.Reads as words-reads
 use Rattle.player.proofs.show.cart_of.Reads as cart-of-reads
 
 abbrev Inv-loop : tie.InvT-loop
-Inv-loop library copy some₀ c₀ t5 some c = Unit {0}
+Inv-loop library copy some₀ c₀ some c = Unit {0}
 
 abbrev μ-loop : tie.MeasureT-loop
-μ-loop library copy some₀ c₀ t5 some c = 128 - c
+μ-loop library copy some₀ c₀ some c = 128 - c
 
 -- src/show.rt:28:5
 loop-holds : tie.Need-loop-holds Inv-loop μ-loop
@@ -35,13 +34,9 @@ loop-less c = omega arith
 loop-again : tie.Need-loop-again Inv-loop μ-loop
 loop-again c = tt
 
--- src/show.rt:33:22
-slice-aggregate-words : tie.Need-slice-aggregate-words Inv-loop μ-loop
-slice-aggregate-words c = refl
-
 -- src/show.rt:33:9
-words-requires : tie.Need-words-requires Inv-loop μ-loop
-words-requires c κs = tt
+no-cart-requires : tie.Need-no-cart-requires Inv-loop μ-loop
+no-cart-requires c κs = tt
 
 -- src/show.rt:23:1
 returns : tie.Need-returns Inv-loop μ-loop
@@ -62,7 +57,6 @@ carts-of-spec =
     add-c
     loop-less
     loop-again
-    slice-aggregate-words
-    words-requires
+    no-cart-requires
     returns
     returns-2)
