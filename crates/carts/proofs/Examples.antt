@@ -1,10 +1,10 @@
 -- WORKED EXAMPLES of the definitions, by computation: forms, each operation's effect in each state, transactions, title match, found.
 use mathlib.Core.Path.{_≡_, refl}
-use mathlib.Core.Bool.{Bool, true, false}
+use mathlib.Core.Bool.{true, false}
 use mathlib.Core.List.{List, [], _∷_, _++_}
 use Prim.Native.Nat.{ℕ}
-use lib.ListN.{drop, take, set}
-use Rattle.carts.specs.Bytes.{zeros, u16, u32, u16Bytes, within, all, every, allZero, pairwise, eachPart}
+use lib.ListN.{take, set}
+use Rattle.carts.specs.Bytes.{zeros, u16, u32, u16Bytes, within, all, every, allZero, pairwise}
 use Rattle.carts.specs.Cart.{cartAt, printable, titleForm, hasTitle, noTitle, hasAudio, noAudio, held, heldForm, cartForm}
 use Rattle.carts.specs.Operation.{operationFields, operationForm, made, retitled, recut, withdrawn, meetsCart, effect, actedOn, meets, act, meetsAll, actAll}
 use Rattle.carts.specs.Title.{shownByNumbers, foundByNumbers, sameLetter, titled, titledFrom, titledIn, foundByTitle, theOne, shownByTitle, searchAnswer}

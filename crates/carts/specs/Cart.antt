@@ -1,5 +1,5 @@
 -- Document 01, "The memory a caller lends": carts and copies.
-use mathlib.Core.Bool.{Bool, cond, _&&_, _||_}
+use mathlib.Core.Bool.{Bool, _||_}
 use mathlib.Core.List.{List, [], _∷_}
 use Prim.Native.Nat.{ℕ, _*_, _-_}
 use lib.ListN.{take, drop}

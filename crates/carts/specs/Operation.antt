@@ -1,8 +1,8 @@
 -- Document 01, "Operation", and what an operation does to a copy ("The plain machine").
-use mathlib.Core.Bool.{Bool, true, false, cond, _&&_, _||_, not}
-use mathlib.Core.List.{List, [], _∷_, _++_}
+use mathlib.Core.Bool.{Bool, true, cond, _&&_, _||_, not}
+use mathlib.Core.List.{List, [], _∷_}
 use Prim.Native.Nat.{ℕ, _*_, _-_, _/_}
-use lib.ListN.{length, take, drop, set}
+use lib.ListN.{length, set}
 use lib.Dec.{eqb}
 use Rattle.carts.specs.Bytes.{zeros, part, over, byte, u16, within, all, allZero, parts}
 use Rattle.carts.specs.Cart.{cartSize, cartCount, titleSize, cartAt, held, hasTitle, noTitle, hasAudio, noAudio}

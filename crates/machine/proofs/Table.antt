@@ -1,9 +1,9 @@
 -- TABLE. Document 01, "Table to be proved": its twelve cases on the plain machine, outputs included, as one theorem by computation.
 use mathlib.Core.Path.{_≡_, refl}
-use mathlib.Core.List.{List, [], _∷_, _++_, map}
-use Prim.Native.Nat.{ℕ, zero, suc}
-use lib.ListN.{length, take, drop, getD, replicate}
-use Rattle.carts.specs.Bytes.{zeros, part, over, byte, u16, u32, u16Bytes, u16s, within, all, every, allZero, pairwise, parts}
+use mathlib.Core.List.{List, [], _∷_, _++_}
+use Prim.Native.Nat.{ℕ}
+use lib.ListN.{take, drop, replicate}
+use Rattle.carts.specs.Bytes.{zeros, u16, u32, u16Bytes, u16s, within, all, every, allZero, pairwise, parts}
 use Rattle.carts.specs.Cart.{cartAt, printable, titleForm, hasTitle, noTitle, hasAudio, noAudio, held}
 use Rattle.carts.specs.Operation.{operationFields, operationForm, operationsOf, made, retitled, recut, withdrawn, meetsCart, effect, actedOn, meets, act, meetsAll, actAll}
 use Rattle.carts.specs.Title.{shownByNumbers, foundByNumbers, sameLetter, titled, titledFrom, titledIn, foundByTitle, theOne, shownByTitle}

@@ -1,5 +1,5 @@
 -- Document 01, "The one-copy order": the single library, fed with entries and "nothing from the engine's memory".
-use mathlib.Core.Bool.{Bool, cond}
+use mathlib.Core.Bool.{cond}
 use mathlib.Core.List.{List, [], _∷_}
 use Prim.Native.Nat.{ℕ, _+_}
 use Rattle.carts.specs.Bytes.{zeros}

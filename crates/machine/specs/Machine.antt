@@ -1,5 +1,5 @@
 -- Document 01, "The plain machine": no memory and no copies, a list of committed transactions.
-use mathlib.Core.Bool.{Bool, cond}
+use mathlib.Core.Bool.{cond}
 use mathlib.Core.List.{List, [], _∷_, _++_, map}
 use Prim.Native.Nat.{ℕ, _+_, _-_}
 use lib.ListN.{length, take, getD, set}
@@ -10,7 +10,7 @@ use Rattle.carts.specs.Operation.{operationsOf, actAll}
 use Rattle.replication.specs.Answer.{Answer, refused, done, waits, answered}
 use Rattle.replication.specs.Memory.{studioCount, nth}
 use Rattle.replication.specs.Request.{Request, nothing, requestOf, needed, foundIn, shownFrom}
-use Rattle.replication.specs.Rows.{stopped, unless, setupRows, commitRows, sendRows, refreshRows, readRows, collectRows}
+use Rattle.replication.specs.Rows.{stopped, unless, commitRows, sendRows, refreshRows, readRows, collectRows}
 use Rattle.replication.specs.Call as Call
 use Rattle.replication.specs.Calls.{numberAfter}
 

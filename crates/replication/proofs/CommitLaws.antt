@@ -1,5 +1,5 @@
 -- Laws of commit: rows 4 to 8, what is known where no row stops it, and an accepted commit.
-use Prim.Native.Nat.{ℕ, _+_, _-_, _*_, _/_, _%_, _<_, _≤_}
+use Prim.Native.Nat.{ℕ, _+_, _/_, _%_, _<_, _≤_}
 use mathlib.Core.Path.{_≡_, refl, sym, ap, _∙_}
 use mathlib.Core.Bool.{Bool, true, false, cond, not}
 use mathlib.Core.List.{List, [], _∷_, _++_}
@@ -7,7 +7,7 @@ use native.Mathlib.Omega.{arith}
 use lib.ListN.{length}
 use lib.Dec.{eqb, ltb}
 use borrow.Author.Tests.{lt-ltb, le-ltb, ltb-false}
-use Rattle.carts.specs.Bytes.{part, over, u16Bytes, within, every, allZero}
+use Rattle.carts.specs.Bytes.{part, over, within, every}
 use Rattle.carts.specs.Operation.{operationFields, operationForm, operationsOf, meetsAll, actAll}
 use Rattle.carts.proofs.TestLaws.{all-at, within-low, within-high}
 use Rattle.carts.proofs.OperationLaws.{forms-fields}

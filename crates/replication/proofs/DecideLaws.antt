@@ -1,16 +1,15 @@
 -- A call that decides by its rows in turn: memory, then who calls, then the others; and what is known where none stops it.
-use Prim.Native.Nat.{ℕ, _+_, _-_, _<_, _≤_}
+use Prim.Native.Nat.{ℕ, _+_, _≤_}
 use mathlib.Core.Path.{_≡_, refl, sym, ap, _∙_}
-use mathlib.Core.Bool.{Bool, true, false, cond, _&&_, _||_, not}
+use mathlib.Core.Bool.{Bool, true, false, cond, _||_, not}
 use mathlib.Core.List.{List, [], _∷_, _++_, append-assoc}
 use native.Mathlib.Omega.{arith}
-use lib.Dec.{eqb, leb}
-use borrow.Author.Tests.{eqb-false, not-false}
+use lib.Dec.{eqb}
+use borrow.Author.Tests.{eqb-false}
 use Rattle.carts.specs.Bytes.{within}
 use Rattle.carts.proofs.TestLaws.{within-low, within-high}
-use Rattle.replication.specs.Memory.{Memory, lengthsForm}
-use Rattle.replication.specs.Layout.{ofLayout}
-use Rattle.replication.specs.Rows.{Row, row, stopped, memoryRows, sessionRow, studioRow}
+use Rattle.replication.specs.Memory.{Memory}
+use Rattle.replication.specs.Rows.{Row, stopped, memoryRows, sessionRow, studioRow}
 use Rattle.replication.specs.declared.control.Control.{Control}
 use Rattle.replication.proofs.RowLaws.{numbered, stops-first, decides, none-stops, right-memory, memory-numbered}
 use Rattle.replication.proofs.Formed.{Formed, formed}

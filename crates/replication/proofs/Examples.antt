@@ -1,9 +1,9 @@
 -- WORKED EXAMPLES of the definitions, by computation: the rows of each call in their order, requests, sessions, the log's chains.
 use mathlib.Core.Path.{_≡_, refl}
-use mathlib.Core.Bool.{Bool, true, false}
+use mathlib.Core.Bool.{true, false}
 use mathlib.Core.List.{List, [], _∷_, _++_}
 use Prim.Native.Nat.{ℕ}
-use lib.ListN.{drop, take, set, replicate}
+use lib.ListN.{set, replicate}
 use Rattle.carts.specs.Bytes.{zeros, u16, u32, u16Bytes, u16s, within, all, every, allZero, pairwise, parts}
 use Rattle.carts.specs.Cart.{cartAt, printable, titleForm, hasTitle, noTitle, hasAudio, noAudio, held}
 use Rattle.carts.specs.Operation.{operationFields, operationForm, operationsOf, made, meetsCart, effect, actedOn, meets, act, meetsAll}

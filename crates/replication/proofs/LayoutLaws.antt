@@ -1,17 +1,17 @@
 -- Laws of the layout: the parts that the code lends, and the whole test from its parts.
-use Prim.Native.Nat.{ℕ, _+_, _-_, _*_, _<_, _≤_}
-use mathlib.Core.Path.{_≡_, refl, sym, ap, _∙_}
-use mathlib.Core.Bool.{Bool, true, false, _&&_, and-true}
+use Prim.Native.Nat.{ℕ, _+_, _-_, _*_, _≤_}
+use mathlib.Core.Path.{_≡_, sym, ap, _∙_}
+use mathlib.Core.Bool.{Bool, true, false, and-true}
 use mathlib.Core.List.{List, [], _∷_}
 use native.Mathlib.Nat.{add-sub-cancel-left}
 use native.Mathlib.Omega.{arith}
 use lib.ListN.{length, take, drop, getD, length-drop}
 use lib.Seq.{take-all}
-use lib.Dec.{leb, eqb}
+use lib.Dec.{leb}
 use Rattle.carts.specs.Bytes.{part, within, all, every, allZero, eachPart}
 use Rattle.carts.proofs.PartLaws.{length-part}
 use Rattle.replication.specs.Memory.{Memory, recordAt, studioOf}
-use Rattle.replication.specs.Log.{firstRecord, chainForm}
+use Rattle.replication.specs.Log.{firstRecord}
 use Rattle.replication.specs.Layout.{replicaForm, recordForm, sessionForm, countsForm, layoutTests, ofLayout}
 use Rattle.replication.specs.Values.{sessionFormOf}
 use Rattle.carts.proofs.TestLaws.{all-fails}

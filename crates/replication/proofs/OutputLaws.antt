@@ -10,7 +10,7 @@ use lib.Seq.{length-take-le, take-at, drop-at, drop-drop}
 use lib.Dec.{eqb}
 use types.Run.{OneOf}
 use denote.Enum.Declared.{tagOf}
-use Rattle.carts.specs.Bytes.{zeros, part, over, byte, u16, u16s, within, all, every, allZero}
+use Rattle.carts.specs.Bytes.{zeros, part, over, byte, u16, u16s, within, every, allZero}
 use Rattle.carts.specs.Cart.{cartAt, held, titleForm, printable}
 use Rattle.carts.specs.Title.{shownByNumbers, foundByNumbers, titledIn, foundByTitle, shownByTitle, searchAnswer}
 use Rattle.carts.specs.Fields.{foundCount}

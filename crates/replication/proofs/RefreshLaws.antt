@@ -1,27 +1,27 @@
 -- Laws of refresh: row 11, and an accepted refresh.
 use Prim.Native.Nat.{ℕ, _+_, _-_, _*_, _<_, _≤_}
-use mathlib.Core.Path.{_≡_, refl, sym, ap, _∙_}
-use mathlib.Core.Bool.{Bool, true, false, cond}
-use mathlib.Core.List.{List, [], _∷_, _++_}
+use mathlib.Core.Path.{_≡_, sym, ap, _∙_}
+use mathlib.Core.Bool.{true}
+use mathlib.Core.List.{List, [], _∷_}
 use native.Mathlib.Omega.{arith}
 use lib.Dec.{eqb}
 use lib.ListN.{length, take, drop}
 use native.Mathlib.Nat.{add-sub-cancel-left}
-use borrow.Author.Tests.{eq-eqb, ne-eqb, eqb-false, eqb-true}
-use Rattle.carts.specs.Bytes.{over, within, all, every}
-use Rattle.carts.specs.Operation.{operationFields, actAll}
+use borrow.Author.Tests.{eq-eqb, ne-eqb, eqb-false}
+use Rattle.carts.specs.Bytes.{over, every}
+use Rattle.carts.specs.Operation.{actAll}
 use Rattle.carts.proofs.TestLaws.{within-of, all-cons, all-nil}
 use Rattle.carts.proofs.OperationLaws.{fields-cart}
 use Rattle.replication.specs.Answer.{refused, done}
 use Rattle.replication.specs.Memory.{Memory, memory, nth, copyAt, withCopy, recordAt}
 use Rattle.replication.specs.Log.{recordsOf, transactionAt, walk, firstRecord}
-use Rattle.replication.specs.Rows.{Row, row, stopped, memoryRows, studioRow, refreshRows}
-use Rattle.replication.specs.Calls.{after, refresh, withApplied, withLibrary, transactionAfter}
+use Rattle.replication.specs.Rows.{Row, row, stopped, studioRow, refreshRows}
+use Rattle.replication.specs.Calls.{after, refresh, withApplied, transactionAfter}
 use Rattle.replication.specs.Values.{usable, walkable}
 use Rattle.replication.specs.declared.control.Control.{Control}
-use Rattle.replication.proofs.RowLaws.{row-stops, row-passes, studio-numbered, unless-stopped, unless-accepted, passed}
+use Rattle.replication.proofs.RowLaws.{row-stops, studio-numbered, unless-stopped, unless-accepted, passed}
 use Rattle.replication.proofs.DecideLaws.{CallRows, accepted-formed, accepted-who, accepted-rest}
-use Rattle.replication.proofs.Formed.{Formed, Counts}
+use Rattle.replication.proofs.Formed.{Formed}
 use Rattle.replication.proofs.Chains.{few-commits, placed, upFrom-every}
 use Rattle.replication.proofs.SendLaws.{studio-counts}
 use Rattle.replication.proofs.WalkLaws.{log-walkable}

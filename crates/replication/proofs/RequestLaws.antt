@@ -1,18 +1,18 @@
 -- Laws of requests: their numbers one by one, and the case that the code makes of them.
 use Prim.Native.Nat.{ℕ, zero, suc, _+_, _-_, _*_, _<_, _≤_}
-use mathlib.Core.Path.{_≡_, refl, sym, ap, ap₂, _∙_}
-use mathlib.Core.Bool.{Bool, true, false, cond, _&&_, and-false, and-true}
-use mathlib.Core.List.{List, [], _∷_}
+use mathlib.Core.Path.{_≡_, refl, sym, ap, _∙_}
+use mathlib.Core.Bool.{Bool, true, false, _&&_, and-false, and-true}
+use mathlib.Core.List.{List, _∷_}
 use native.Mathlib.Nat.{add-zero}
 use native.Mathlib.Omega.{arith}
-use lib.ListN.{length, take, drop, getD, length-drop}
+use lib.ListN.{length, take, drop, length-drop}
 use lib.Seq.{getD-drop, drop-drop, take-all}
-use lib.Dec.{eqb, leb}
+use lib.Dec.{eqb}
 use borrow.Author.Tests.{le-leb, lt-leb}
 use Rattle.carts.specs.Bytes.{part, byte, u16, u16s, within, all, every, allZero}
 use Rattle.carts.proofs.RecordLaws.{drop-next, left-suc}
 use Rattle.carts.proofs.ScanLaws.{test-more, test-end}
-use Rattle.replication.specs.Request.{nothing, byNumbers, byTitle, numbersIn, requestOf, numbersForm, isWaiting, needed}
+use Rattle.replication.specs.Request.{numbersIn, requestOf, numbersForm, isWaiting, needed}
 use Rattle.replication.specs.Values.{waitingValue, waitsBy, neededBy}
 
 -- a u16 behind the first k bytes

@@ -1,13 +1,13 @@
 -- Laws of rows: the first that stops a call.
 use Prim.Native.Nat.{ℕ, zero, suc, _<_, _≤_}
-use mathlib.Core.Path.{_≡_, refl, sym, ap, _∙_}
-use mathlib.Core.Bool.{Bool, true, false, cond, _&&_, _||_, not, and-false}
+use mathlib.Core.Path.{_≡_, refl, sym, _∙_}
+use mathlib.Core.Bool.{Bool, true, false, cond, not, and-false}
 use mathlib.Core.List.{List, [], _∷_, _++_}
 use native.Mathlib.Omega.{arith}
 use lib.Dec.{leb, eqb}
 use lib.ListN.{length}
-use borrow.Author.Tests.{le-leb, lt-leb, leb-true, eq-eqb, ne-eqb, eqb-true, not-true, not-false}
-use Rattle.carts.specs.Bytes.{within, every, all}
+use borrow.Author.Tests.{le-leb, lt-leb, leb-true, eq-eqb, ne-eqb, eqb-true}
+use Rattle.carts.specs.Bytes.{within, every}
 use Rattle.replication.specs.Memory.{Memory, lengthsForm}
 use Rattle.replication.specs.Layout.{ofLayout}
 use Rattle.replication.specs.Rows.{Row, row, stopped, unless, lengthsRow, memoryRows, sessionRow, studioRow}

@@ -1,14 +1,13 @@
 -- Laws of send: rows 9 and 10, and an accepted send.
-use Prim.Native.Nat.{ℕ, _+_, _-_, _<_, _≤_}
-use mathlib.Core.Path.{_≡_, refl, sym, ap, _∙_}
-use mathlib.Core.Bool.{Bool, true, false, cond}
-use mathlib.Core.List.{List, [], _∷_, _++_}
+use Prim.Native.Nat.{ℕ, _+_, _-_, _≤_}
+use mathlib.Core.Path.{_≡_, sym, _∙_}
+use mathlib.Core.List.{List, [], _∷_}
 use native.Mathlib.Omega.{arith}
 use lib.Dec.{eqb}
-use borrow.Author.Tests.{eq-eqb, ne-eqb, eqb-false}
+use borrow.Author.Tests.{eq-eqb, ne-eqb}
 use Rattle.replication.specs.Answer.{refused, done}
 use Rattle.replication.specs.Memory.{Memory, nth}
-use Rattle.replication.specs.Rows.{Row, row, stopped, memoryRows, studioRow, sendRows}
+use Rattle.replication.specs.Rows.{Row, row, stopped, studioRow, sendRows}
 use Rattle.replication.specs.Calls.{after, send, withSent}
 use Rattle.replication.specs.declared.control.Control.{Control}
 use Rattle.replication.proofs.RowLaws.{row-stops, row-passes, studio-numbered, unless-stopped, unless-accepted}

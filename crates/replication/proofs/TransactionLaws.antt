@@ -1,14 +1,14 @@
 -- Laws of a transaction that acts on a copy, record by record.
-use Prim.Native.Nat.{ℕ, suc, _+_, _-_, _<_, _≤_}
-use mathlib.Core.Path.{_≡_, refl, sym, ap, _∙_}
-use mathlib.Core.Bool.{Bool, true, false, _&&_}
+use Prim.Native.Nat.{ℕ, suc, _-_, _<_, _≤_}
+use mathlib.Core.Path.{_≡_, ap, _∙_}
+use mathlib.Core.Bool.{Bool, true, _&&_}
 use mathlib.Core.List.{List, [], _∷_, map}
 use native.Mathlib.Omega.{arith}
-use Rattle.carts.specs.Bytes.{u16, within, all, every}
+use Rattle.carts.specs.Bytes.{u16, within, every}
 use Rattle.carts.specs.Operation.{act, actAll}
 use Rattle.carts.proofs.TestLaws.{and-left, and-right, all-at, within-low, within-high}
 use Rattle.replication.specs.Memory.{recordAt}
-use Rattle.replication.specs.Log.{nextOperation, chain, recordsOf, transactionAt}
+use Rattle.replication.specs.Log.{nextOperation, chain}
 use Rattle.replication.specs.Values.{usable}
 use Rattle.replication.proofs.SpanLaws.{chain-cons, chain-zero}
 

@@ -1,7 +1,7 @@
 -- Document 01, setup and the five calls on bytes, for any control, memory, arguments and output: what the code's contracts cite.
 -- "Commit acts by this same effect on the head end's copy, refresh on its studio's, and an answered read is taken from the copy of
 -- its session's studio, each also where that copy is no L(n)."
-use mathlib.Core.Bool.{Bool, cond}
+use mathlib.Core.Bool.{cond}
 use mathlib.Core.List.{List, [], _∷_, _++_}
 use Prim.Native.Nat.{ℕ, _+_, _-_}
 use lib.ListN.{length, set}

@@ -1,5 +1,5 @@
 -- Document 01, "Session" and "A read request": the form of a read, what it finds in a copy and what it writes.
-use mathlib.Core.Bool.{Bool, true, false, cond, _&&_}
+use mathlib.Core.Bool.{Bool, true, false, cond}
 use mathlib.Core.List.{List, [], _∷_}
 use Prim.Native.Nat.{ℕ, _*_}
 use lib.ListN.{length, drop}

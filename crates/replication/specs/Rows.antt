@@ -1,7 +1,7 @@
 -- Document 01, "Where a call is stopped": for each call its rows, "checked from top to bottom", over what they look at, so that the
 -- calls on bytes and the plain machine share them. Rows 1 and 2 are the bytes' own.
-use mathlib.Core.Bool.{Bool, cond, _&&_, _||_, not}
-use mathlib.Core.List.{List, [], _∷_, _++_}
+use mathlib.Core.Bool.{Bool, cond, _||_, not}
+use mathlib.Core.List.{List, [], _∷_}
 use Prim.Native.Nat.{ℕ, zero, suc, _-_, _%_}
 use lib.ListN.{length}
 use lib.Dec.{leb, ltb, eqb}

@@ -1,7 +1,7 @@
 -- WORKED EXAMPLES of the lines, by computation.
 use mathlib.Core.Path.{_≡_, refl}
-use mathlib.Core.List.{List, [], _∷_, _++_}
-use mathlib.Core.Bool.{Bool, true, false}
+use mathlib.Core.List.{[], _∷_, _++_}
+use mathlib.Core.Bool.{true, false}
 use Rattle.carts.specs.Bytes.{zeros, u16, u32, u16Bytes}
 use Rattle.carts.specs.Cart.{held}
 use Rattle.carts.specs.Fields.{cartFields}
@@ -10,7 +10,7 @@ use Rattle.transcript.specs.Build.{u32Bytes, titleField, operationBytes, u16Lis
 use Rattle.transcript.specs.Words.{bytesOf}
 use Rattle.report.specs.Page.{digitsOf, decimal, countOf, quoted}
 use Rattle.report.specs.Sentences.{refusalSentence}
-use Rattle.report.specs.Lines.{refusalText, unreadableText, freshText, sentText, answeredText, recordingText, cartText, headText, studioText, askedNumbers, waitingText, sessionText, kindText, entryText, unlikeText, verdictText, leftOutText, cutText, tallyText, summaryText}
+use Rattle.report.specs.Lines.{refusalText, unreadableText, freshText, sentText, answeredText, recordingText, cartText, headText, askedNumbers, waitingText, sessionText, kindText, entryText, unlikeText, verdictText, cutText, tallyText, summaryText}
 
 pub record Numbers : Type 0 where
   zero : decimal 0 ≡ bytesOf "0"

@@ -9,7 +9,6 @@ use lib.Seq.{take-at, drop-at, drop-drop, length-take-le, set-split}
 use native.Mathlib.Numerals.{add-one}
 use lib.Dec.{ltb, leb}
 use borrow.Author.Tests.{lt-ltb, le-ltb, ltb-false, eq-eqb, ne-eqb}
-use Rattle.carts.specs.Bytes.{over}
 use Rattle.report.specs.Page.{Put, Told, digitsOf, decimal, countOf}
 use Rattle.transcript.specs.Parse.{begunWith}
 use Rattle.transcript.specs.Words.{bytesOf}

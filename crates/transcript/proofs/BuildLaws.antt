@@ -4,7 +4,7 @@ use mathlib.Core.Path.{_≡_, refl, sym, ap, _∙_}
 use mathlib.Core.List.{List, [], _∷_, _++_, append-nil, append-assoc}
 use native.Mathlib.Numerals.{add-one}
 use native.Mathlib.Omega.{arith}
-use lib.ListN.{length, getD, take, drop, set, replicate, length-append}
+use lib.ListN.{length, getD, take, drop, set, replicate}
 use lib.Seq.{take-suc, take-all, set-at, take-at, drop-at, drop-drop, length-take-le}
 use Rattle.carts.specs.Bytes.{over, part, zeros, u16Bytes}
 use Rattle.transcript.specs.Build.{u32Bytes, titleField, operationBytes, u16List, numbersBytes, lowBytes, studioBytes}

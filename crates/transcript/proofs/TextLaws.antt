@@ -1,6 +1,6 @@
 -- Laws of text: runs, numbers in base ten, texts of different lengths.
-use Prim.Native.Nat.{ℕ, zero, suc, _+_, _*_, _-_, _<_, _≤_}
-use mathlib.Core.Path.{_≡_, refl, sym, ap, _∙_}
+use Prim.Native.Nat.{ℕ, suc, _+_, _*_, _-_, _<_, _≤_}
+use mathlib.Core.Path.{_≡_, refl, ap}
 use mathlib.Core.Bool.{Bool, true, false, cond, and-false}
 use mathlib.Core.List.{List, [], _∷_}
 use native.Mathlib.Numerals.{add-one}
@@ -8,9 +8,8 @@ use native.Mathlib.Omega.{arith}
 use lib.ListN.{length, getD, drop, drop-of-length-le}
 use lib.Seq.{drop-cons}
 use borrow.Author.Tests.{leb-true, le-leb, lt-leb}
-use lib.Dec.{leb, eqb}
+use lib.Dec.{leb}
 use Rattle.carts.specs.Bytes.{pairwise}
-use Rattle.transcript.specs.declared.text.Number.{Number}
 use Rattle.transcript.specs.declared.text.Number.the-variants.{Value, Missing, TooLarge}
 use Rattle.transcript.specs.declared.text.Class.{Class}
 use Rattle.transcript.specs.Text.{inClass, runLength, numeral, numberOf}

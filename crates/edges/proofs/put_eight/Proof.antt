@@ -1,13 +1,9 @@
-use mathlib.Core.Path.{_≡_, refl, _∙_}
+use mathlib.Core.Path.{_≡_}
 use Prim.Native.Nat.{_≤_, _-_}
 use native.Mathlib.Omega.{arith}
 use lib.ListN.{length}
-use borrow.Author.Needs.{needs}
 use Rattle.edges.proofs.put_eight.Statement.{statement}
 use Rattle.edges.proofs.put_eight.Tie as tie
-use Rattle.edges.proofs.put_eight.Reads as reads
-use Rattle.edges.proofs.put_eight.Lts as lts
-use Rattle.edges.proofs.put_at.Reads as put-at-reads
 
 abbrev Inv-loop : tie.InvT-loop
 Inv-loop ops₀ first k₀ ops k = (k ≤ 8) × (length ops ≡ 640)
@@ -15,39 +11,30 @@ Inv-loop ops₀ first k₀ ops k = (k ≤ 8) × (length ops ≡ 640)
 abbrev μ-loop : tie.MeasureT-loop
 μ-loop ops₀ first k₀ ops k = 8 - k
 
--- src/main.rt:64:5
 loop-holds : tie.Need-loop-holds Inv-loop μ-loop
 loop-holds c = omega arith
 
--- src/main.rt:65:32
 cast-put-at : tie.Need-cast-put-at Inv-loop μ-loop
 cast-put-at c = omega arith
 
--- src/main.rt:65:24
 add-put-at : tie.Need-add-put-at Inv-loop μ-loop
 add-put-at c = omega arith
 
--- src/main.rt:65:9
 put-at-requires : tie.Need-put-at-requires Inv-loop μ-loop
 put-at-requires c κs = omega arith
 
--- src/main.rt:66:9
 add-k : tie.Need-add-k Inv-loop μ-loop
 add-k c = omega arith
 
--- src/main.rt:64:5
 loop-less : tie.Need-loop-less Inv-loop μ-loop
 loop-less c = omega arith
 
--- src/main.rt:64:5
 loop-again : tie.Need-loop-again Inv-loop μ-loop
 loop-again c = omega arith
 
--- src/main.rt:60:1
 same-length : tie.Need-same-length Inv-loop μ-loop
 same-length c = omega arith
 
--- src/main.rt:60:1
 returns : tie.Need-returns Inv-loop μ-loop
 returns c = tt
 

@@ -1,9 +1,8 @@
 use Rattle.transcript.specs.Progress.{start}
 use lib.ListN.{length}
-use Prim.Native.Nat.{ℕ, _≤_, _<_, _-_}
+use Prim.Native.Nat.{_≤_, _-_}
 use mathlib.Core.Path.{_≡_, refl, _∙_}
 use native.Mathlib.Omega.{arith}
-use borrow.Author.Needs.{needs}
 use Rattle.player.proofs.play_lines.Statement.{statement}
 use Rattle.player.proofs.play_lines.Tie as tie
 

@@ -2,24 +2,16 @@ use Rattle.sulyobak.proofs.WordLaws.{crosses}
 use borrow.Author.Needs.{needs}
 use Rattle.sulyobak.proofs.sulyobak_refresh.Statement.{statement}
 use Rattle.sulyobak.proofs.sulyobak_refresh.Tie as tie
-use Rattle.sulyobak.proofs.sulyobak_refresh.Reads as reads
-use Rattle.sulyobak.proofs.sulyobak_refresh.Lts as lts
-use Rattle.replication.proofs.refresh.refresh.Reads as refresh-reads
-use Rattle.sulyobak.proofs.words.Words.of_count.Reads as of-count-reads
 
--- src/lib.rt:59:21
 refresh-requires : tie.Need-refresh-requires
 refresh-requires c κs = search needs
 
--- src/lib.rt:59:5
 of-count-requires : tie.Need-of-count-requires
 of-count-requires c κs = search needs
 
--- src/lib.rt:48:1
 same-length : tie.Need-same-length
 same-length c = search needs
 
--- src/lib.rt:48:1
 returns : tie.Need-returns
 returns c = crosses _ _ _ _ _ _ (c .before .before .before .refresh .ensures) (c .of-count .ensures)
 

@@ -1,7 +1,6 @@
 use Rattle.carts.proofs.CartLaws.{length-cart}
 use Rattle.carts.specs.Cart.{cartAt}
 use mathlib.Core.Path.{refl}
-use Prim.Native.Nat.{_-_}
 use native.Mathlib.Nat.{add-sub-cancel-left}
 use native.Mathlib.Omega.{arith}
 use borrow.Author.Needs.{needs}

@@ -3,15 +3,10 @@ use Rattle.carts.proofs.CartLaws.{title-byte}
 use borrow.Author.Needs.{needs}
 use Rattle.carts.proofs.cart.is_title_byte.Statement.{statement}
 use Rattle.carts.proofs.cart.is_title_byte.Tie as tie
-use Rattle.carts.proofs.cart.is_title_byte.Reads as reads
-use Rattle.carts.proofs.cart.is_title_byte.Lts as lts
-use Rattle.carts.proofs.bytes.is_printable.Reads as is-printable-reads
 
--- src/cart.rt:59:13
 is-printable-requires : tie.Need-is-printable-requires
 is-printable-requires c κs = search needs
 
--- src/cart.rt:55:1
 returns : tie.Need-returns
 returns c = let a = c .before .args in title-byte (a .b) _ (ltb (a .j) (a .n)) (c .is-printable .ensures)
 

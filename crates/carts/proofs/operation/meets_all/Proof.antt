@@ -6,7 +6,7 @@ use Rattle.carts.specs.Operation.{operationsOf, meets, act, meetsAll, ac
 use lib.ListN.{length, take, drop}
 use mathlib.Core.Bool.{_&&_}
 use mathlib.Core.Path.{_≡_, refl, ap}
-use Prim.Native.Nat.{_≤_, _<_, _-_, _+_, _*_, _/_}
+use Prim.Native.Nat.{_≤_, _-_, _+_, _*_, _/_}
 use native.Mathlib.Nat.{sub-zero, add-sub-cancel-left}
 use native.Mathlib.Omega.{arith}
 use Rattle.carts.proofs.operation.meets_all.Statement.{statement}

@@ -4,25 +4,16 @@ use Rattle.replication.proofs.AppendLaws.{last-walkable, append-first, 
 use borrow.Author.Needs.{needs}
 use Rattle.replication.proofs.append.append_transaction.Statement.{statement}
 use Rattle.replication.proofs.append.append_transaction.Tie as tie
-use Rattle.replication.proofs.append.append_transaction.Reads as reads
-use Rattle.replication.proofs.append.append_transaction.Lts as lts
-use Rattle.replication.proofs.cell.put.Reads as put-reads
-use Rattle.replication.proofs.append.write_all.Reads as write-all-reads
-use Rattle.replication.proofs.walk.walk_far.Reads as walk-far-reads
 
--- src/append.rt:79:17
 add-first : tie.Need-add-first
 add-first c = search needs
 
--- src/append.rt:81:9
 write-all-requires : tie.Need-write-all-requires
 write-all-requires c κs = search needs
 
--- src/append.rt:82:9
 same-length : tie.Need-same-length
 same-length c = search needs
 
--- src/append.rt:82:9
 returns : tie.Need-returns
 returns c = let u = c .before .before in
     u .write-all .ensures ∙ append-first _ _ _ (omega (arith, u .before .before .if1 .taken))
@@ -31,20 +22,16 @@ returns c = let u = c .before .before in
 later : (c : tie.Else1) → c .before .before .before .before .before .args .control .commits ≡ 0 → ⊥
 later c e = omega (arith, c .if1 .left)
 
--- src/append.rt:84:32
 sub-walk-far : tie.Need-sub-walk-far
 sub-walk-far c = search needs
 
--- src/append.rt:84:9
 walk-far-requires : tie.Need-walk-far-requires
 walk-far-requires c κs = let s = c .before .before .before .before .before .before .before in
     (s .pre .0 .0, last-walkable (s .args .control) _ (later (c .before .before)) (s .pre .1) .0)
 
--- src/append.rt:85:5
 write-all-requires-2 : tie.Need-write-all-requires-2
 write-all-requires-2 c κs = search needs
 
--- src/append.rt:86:5
 put-requires : tie.Need-put-requires
 put-requires c κs = let w = c .before .before .before in
     let a = w .before .before in
@@ -53,11 +40,9 @@ put-requires c κs = let w = c .before .before .before in
     let e = a .walk-far .ensures in
     ((rw e (k .0), omega (arith, k .1, w .write-all2 .kept .0)), (omega arith, omega arith))
 
--- src/append.rt:74:1
 same-length-2 : tie.Need-same-length-2
 same-length-2 c = search needs
 
--- src/append.rt:74:1
 returns-2 : tie.Need-returns-2
 returns-2 c = let l = c .before .before in
     let w = l .before .before .before .before in

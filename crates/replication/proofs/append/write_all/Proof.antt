@@ -9,10 +9,6 @@ use Rattle.replication.specs.Log.{upFrom, writeAll}
 use Rattle.replication.proofs.AppendLaws.{ToWrite, write-end, write-next}
 use Rattle.replication.proofs.append.write_all.Statement.{statement}
 use Rattle.replication.proofs.append.write_all.Tie as tie
-use Rattle.replication.proofs.append.write_all.Reads as reads
-use Rattle.replication.proofs.append.write_all.Lts as lts
-use Rattle.replication.proofs.append.next_operation.Reads as next-operation-reads
-use Rattle.replication.proofs.cell.fill.Reads as fill-reads
 
 abbrev Inv-loop : tie.InvT-loop
 Inv-loop log₀ first ops count i₀ log i =
@@ -21,79 +17,62 @@ Inv-loop log₀ first ops count i₀ log i =
 abbrev μ-loop : tie.MeasureT-loop
 μ-loop log₀ first ops count i₀ log i = count - i
 
--- src/append.rt:54:5
 loop-holds : tie.Need-loop-holds Inv-loop μ-loop
 unfolding operationsOf
 loop-holds c = let s = c .before .before in
     rw (sub-zero, add-zero) (omega arith, s .pre .0, refl)
 
--- src/append.rt:55:21
 mul-start : tie.Need-mul-start Inv-loop μ-loop
 mul-start c = omega arith
 
--- src/append.rt:56:25
 cast-r : tie.Need-cast-r Inv-loop μ-loop
 cast-r c = omega arith
 
--- src/append.rt:56:17
 add-r : tie.Need-add-r Inv-loop μ-loop
 add-r c = omega arith
 
--- src/append.rt:57:38
 sub-next-operation : tie.Need-sub-next-operation Inv-loop μ-loop
 sub-next-operation c = omega arith
 
--- src/append.rt:57:38
 sub-next-operation-2 : tie.Need-sub-next-operation-2 Inv-loop μ-loop
 sub-next-operation-2 c = omega arith
 
--- src/append.rt:57:13
 next-operation-requires : tie.Need-next-operation-requires Inv-loop μ-loop
 next-operation-requires c κs = omega arith
 
--- src/append.rt:58:35
 add-fill : tie.Need-add-fill Inv-loop μ-loop
 add-fill c = omega arith
 
--- src/append.rt:58:23
 sub-fill : tie.Need-sub-fill Inv-loop μ-loop
 sub-fill c = omega arith
 
--- src/append.rt:58:23
 part-fill-start : tie.Need-part-fill-start Inv-loop μ-loop
 part-fill-start c = omega arith
 
--- src/append.rt:58:23
 part-fill-end : tie.Need-part-fill-end Inv-loop μ-loop
 part-fill-end c = omega arith
 
--- src/append.rt:58:9
 fill-requires : tie.Need-fill-requires Inv-loop μ-loop
 fill-requires c κs = let t = c .before .before .before .before in
     let next = c .before .before .next-operation .ensures .1 in
     let whole : length (take (80 * t .loop .i + 80 - 80 * t .loop .i) (drop (80 * t .loop .i) (t .before .before .before .args .ops .now))) ≡ 80 = rw add-sub-cancel-left (length-part (t .before .before .before .args .ops .now) (80 * t .loop .i) 80 (omega arith)) in
     (((omega arith, omega arith), whole), (omega arith, omega arith))
 
--- src/append.rt:59:9
 add-i : tie.Need-add-i Inv-loop μ-loop
 add-i c = omega arith
 
--- src/append.rt:54:5
 loop-less : tie.Need-loop-less Inv-loop μ-loop
 loop-less c = omega arith
 
--- src/append.rt:54:5
 loop-again : tie.Need-loop-again Inv-loop μ-loop
 loop-again c = let u = c .before .before in
     let next = u .before .before .before .next-operation in
     let t = u .before .before .before .before .before in
     (omega arith, u .fill .kept .0 ∙ t .loop .inv .1, t .loop .inv .2 ∙ write-next _ _ _ _ _ (omega arith) _ (next .ensures .0) _ (u .fill .ensures))
 
--- src/append.rt:48:1
 same-length : tie.Need-same-length Inv-loop μ-loop
 same-length c = omega arith
 
--- src/append.rt:48:1
 returns : tie.Need-returns Inv-loop μ-loop
 returns c = let t = c .before in
     sym (t .loop .inv .2 ∙ write-end _ _ _ _ _ (omega arith))

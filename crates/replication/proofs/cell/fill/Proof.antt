@@ -2,43 +2,31 @@ use native.Mathlib.Nat.{add-sub-cancel-left}
 use borrow.Author.Needs.{needs}
 use Rattle.replication.proofs.cell.fill.Statement.{statement}
 use Rattle.replication.proofs.cell.fill.Tie as tie
-use Rattle.replication.proofs.cell.fill.Reads as reads
-use Rattle.replication.proofs.cell.fill.Lts as lts
-use Rattle.replication.proofs.cell.store.Reads as store-reads
 
--- src/cell.rt:25:33
 sub-start : tie.Need-sub-start
 sub-start c = search needs
 
--- src/cell.rt:25:17
 mul-start : tie.Need-mul-start
 mul-start c = search needs
 
--- src/cell.rt:26:15
 add-end : tie.Need-add-end
 add-end c = search needs
 
--- src/cell.rt:27:11
 sub-store : tie.Need-sub-store
 sub-store c = search needs
 
--- src/cell.rt:27:11
 part-store-start : tie.Need-part-store-start
 part-store-start c = search needs
 
--- src/cell.rt:27:11
 part-store-end : tie.Need-part-store-end
 part-store-end c = search needs
 
--- src/cell.rt:27:5
 store-requires : tie.Need-store-requires
 store-requires c κs = search needs
 
--- src/cell.rt:20:1
 same-length : tie.Need-same-length
 same-length c = search needs
 
--- src/cell.rt:20:1
 returns : tie.Need-returns
 returns c = simp (c .before .before .store .ensures, add-sub-cancel-left)
 

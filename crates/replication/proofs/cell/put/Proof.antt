@@ -2,43 +2,31 @@ use native.Mathlib.Nat.{add-sub-cancel-left}
 use borrow.Author.Needs.{needs}
 use Rattle.replication.proofs.cell.put.Statement.{statement}
 use Rattle.replication.proofs.cell.put.Tie as tie
-use Rattle.replication.proofs.cell.put.Reads as reads
-use Rattle.replication.proofs.cell.put.Lts as lts
-use Rattle.carts.proofs.bytes.put_u16.Reads as put-u16-reads
 
--- src/cell.rt:36:33
 sub-start : tie.Need-sub-start
 sub-start c = search needs
 
--- src/cell.rt:36:17
 mul-start : tie.Need-mul-start
 mul-start c = search needs
 
--- src/cell.rt:37:15
 add-end : tie.Need-add-end
 add-end c = search needs
 
--- src/cell.rt:38:20
 sub-put-u16 : tie.Need-sub-put-u16
 sub-put-u16 c = search needs
 
--- src/cell.rt:38:20
 part-put-u16-start : tie.Need-part-put-u16-start
 part-put-u16-start c = search needs
 
--- src/cell.rt:38:20
 part-put-u16-end : tie.Need-part-put-u16-end
 part-put-u16-end c = search needs
 
--- src/cell.rt:38:5
 put-u16-requires : tie.Need-put-u16-requires
 put-u16-requires c κs = search needs
 
--- src/cell.rt:31:1
 same-length : tie.Need-same-length
 same-length c = search needs
 
--- src/cell.rt:31:1
 returns : tie.Need-returns
 returns c = simp (c .before .before .put-u16 .ensures, add-sub-cancel-left)
 

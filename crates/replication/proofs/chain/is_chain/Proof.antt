@@ -1,6 +1,6 @@
 -- The loop takes the chain transaction by transaction; what is left of the test is `chainForm left log first r`.
-use mathlib.Core.Path.{_≡_, refl, sym, ap, _∙_}
-use mathlib.Core.Bool.{Bool, false, _&&_, and-false, and-assoc}
+use mathlib.Core.Path.{_≡_, sym, ap, _∙_}
+use mathlib.Core.Bool.{Bool, _&&_, and-false, and-assoc}
 use Prim.Native.Nat.{ℕ, _≤_, _+_, _-_}
 use native.Mathlib.Omega.{arith}
 use lib.Dec.{eqb}
@@ -9,10 +9,6 @@ use Rattle.replication.specs.declared.record.Record.{Record}
 use Rattle.replication.proofs.SpanLaws.{Whole, chain-empty, chain-begins, chain-past, chain-bad, chain-step, chain-done, span-before}
 use Rattle.replication.proofs.chain.is_chain.Statement.{statement}
 use Rattle.replication.proofs.chain.is_chain.Tie as tie
-use Rattle.replication.proofs.chain.is_chain.Reads as reads
-use Rattle.replication.proofs.chain.is_chain.Lts as lts
-use Rattle.replication.proofs.chain.span.Reads as span-reads
-use Rattle.replication.proofs.record.Record.at.Reads as at-reads
 
 abbrev Inv-loop : tie.InvT-loop
 Inv-loop log commits used ok₀ first₀ r₀ left₀ ok first r left = (1 ≤ r) × (r ≤ used + 1) × (Whole log commits used ≡ (ok && chainForm left log first r (used + 1)))
@@ -27,25 +23,20 @@ next-before c = let n = c .before .before in
     let g = t .before .before .before .args in
     span-before (g .log .now) (t .loop .r) (g .used + 1) (n .span .result) (omega arith) (n .span .ensures) (c .before .if3 .left)
 
--- src/chain.rt:47:9
 returns : tie.Need-returns Inv-loop μ-loop
 returns c = let g = c .before .before .args in chain-empty (g .log .now) (g .commits) (g .used) (c .if1 .taken)
 
--- src/chain.rt:53:5
 loop-holds : tie.Need-loop-holds Inv-loop μ-loop
 loop-holds c = let g = c .before .before .args in (omega arith, omega arith, chain-begins (g .log .now) (g .commits) (g .used) (c .if1 .left))
 
--- src/chain.rt:56:13
 returns-2 : tie.Need-returns-2 Inv-loop μ-loop
 returns-2 c = let t = c .before .before in
     let g = t .before .before .before .args in
     sym (t .loop .inv .2 ∙ ap (λ (b : Bool). t .loop .ok && b) (chain-past (g .log .now) (t .loop .left) (t .loop .first) (t .loop .r) (g .used + 1) (c .before .loop-test .taken) (omega arith) (omega arith)) ∙ and-false (t .loop .ok))
 
--- src/chain.rt:58:13
 span-requires : tie.Need-span-requires Inv-loop μ-loop
 span-requires c κs = (omega arith, (omega arith, (omega arith, omega arith)))
 
--- src/chain.rt:60:13
 returns-3 : tie.Need-returns-3 Inv-loop μ-loop
 returns-3 c = let n = c .before in
     let e = n .before in
@@ -53,23 +44,18 @@ returns-3 c = let n = c .before in
     let g = t .before .before .before .args in
     sym (t .loop .inv .2 ∙ ap (λ (b : Bool). t .loop .ok && b) (chain-bad (g .log .now) (t .loop .left) (t .loop .first) (t .loop .r) (g .used + 1) _ (e .before .loop-test .taken) (omega arith) (n .span .ensures) (c .if3 .taken)) ∙ and-false (t .loop .ok))
 
--- src/chain.rt:62:13
 at-requires : tie.Need-at-requires Inv-loop μ-loop
 at-requires c κs = (omega arith, (omega arith, omega arith))
 
--- src/chain.rt:64:9
 add-r : tie.Need-add-r Inv-loop μ-loop
 add-r c = let b = next-before c in omega arith
 
--- src/chain.rt:65:9
 sub-left : tie.Need-sub-left Inv-loop μ-loop
 sub-left c = omega arith
 
--- src/chain.rt:53:5
 loop-less : tie.Need-loop-less Inv-loop μ-loop
 loop-less c = omega arith
 
--- src/chain.rt:53:5
 loop-again : tie.Need-loop-again Inv-loop μ-loop
 loop-again c = let n = c .before .before in
     let e = n .before in
@@ -83,11 +69,9 @@ loop-again c = let n = c .before .before in
           ∙ ap (λ (k : ℕ). (t .loop .ok && eqb (t .loop .first) (t .loop .r)) && x k) (sym (ap (λ (y : Record). y .«next_transaction») (c .at .ensures .0))),
     )
 
--- src/chain.rt:67:31
 add-result : tie.Need-add-result Inv-loop μ-loop
 add-result c = omega arith
 
--- src/chain.rt:42:1
 returns-4 : tie.Need-returns-4 Inv-loop μ-loop
 returns-4 c = let t = c .before in
     let g = t .before .before .before .args in

@@ -9,24 +9,13 @@ use Rattle.replication.proofs.ReadLaws.{Caller, Asked, asked-same, call
 use borrow.Author.Needs.{needs}
 use Rattle.replication.proofs.collect.collect.Statement.{statement}
 use Rattle.replication.proofs.collect.collect.Tie as tie
-use Rattle.replication.proofs.collect.collect.Reads as reads
-use Rattle.replication.proofs.collect.collect.Lts as lts
-use Rattle.replication.proofs.collect.decide_collect.Reads as decide-collect-reads
-use Rattle.replication.proofs.output.answer.Reads as answer-reads
-use Rattle.replication.proofs.read.Due.at.Reads as at-reads
-use Rattle.replication.proofs.read.number_after.Reads as number-after-reads
-use Rattle.replication.proofs.session.session_at.Reads as session-at-reads
-use Rattle.replication.proofs.session.store.Reads as store-reads
 
--- src/collect.rt:62:9
 decide-collect-requires : tie.Need-decide-collect-requires
 decide-collect-requires c κs = search needs
 
--- src/collect.rt:64:9
 same-length : tie.Need-same-length
 same-length c = search needs
 
--- src/collect.rt:64:9
 returns : tie.Need-returns
 unfolding collectRows
 returns c = let d = c .before in
@@ -46,18 +35,15 @@ asks c = let d = c .before in
     let g = d .before .before .before .before .before .before .args in
     collect-asks (g .control) (memory (g .library .now) (g .log .now) (g .sessions .now)) (g .session) (g .output .now) _ (d .decide-collect .ensures) (c .if1 .left)
 
--- src/collect.rt:69:9
 at-requires : tie.Need-at-requires
 at-requires c κs = let w = who (c .before) in (w .place, w .studio)
 
 few : (c : tie.After-at) → (c .at .result .studio ≤ 4) × (c .at .result .state < 65536)
 few c = let g = c .before .before .before .before .before .before .before .before .before .args in due-known (g .control) (memory (g .library .now) (g .log .now) (g .sessions .now)) (g .session) _ (c .at .ensures .0) (who (c .before .before))
 
--- src/collect.rt:71:9
 same-length-2 : tie.Need-same-length-2
 same-length-2 c = search needs
 
--- src/collect.rt:71:9
 returns-2 : tie.Need-returns-2
 unfolding collectRows
 returns-2 c = let a = c .before .before in
@@ -66,11 +52,9 @@ returns-2 c = let a = c .before .before in
     collect-waits (g .control) (memory (g .library .now) (g .log .now) (g .sessions .now)) (g .session) (g .output .now) _ (d .decide-collect .ensures) (a .before .before .if1 .left) _ (a .at .ensures .0)
     (c .if2 .taken)
 
--- src/collect.rt:76:9
 session-at-requires : tie.Need-session-at-requires
 session-at-requires c κs = who (c .before .before .before .before .before) .place
 
--- src/collect.rt:77:9
 answer-requires : tie.Need-answer-requires
 answer-requires c κs = let r = c .before in
     let a = r .before .before .before .before in
@@ -78,29 +62,23 @@ answer-requires c κs = let r = c .before in
     let l = few a .0 in
     ((who (a .before .before) .library, (omega arith, x .size)), (x .fields, x .fits))
 
--- src/collect.rt:79:9
 number-after-requires : tie.Need-number-after-requires
 number-after-requires c κs = let a = c .before .before .before .before .before .before .before .before in (a .at .ensures .1, few a .1)
 
--- src/collect.rt:80:36
 slice-aggregate-store : tie.Need-slice-aggregate-store
 slice-aggregate-store c = search needs
 
--- src/collect.rt:80:5
 store-requires : tie.Need-store-requires
 store-requires c κs = let n = c .before .before in
     let l = n .number-after .ensures .1 in
     (who (n .before .before .before .before .before .before .before .before .before .before .before) .place, (refl, omega arith))
 
--- src/collect.rt:50:1
 same-length-3 : tie.Need-same-length-3
 same-length-3 c = search needs
 
--- src/collect.rt:50:1
 same-length-4 : tie.Need-same-length-4
 same-length-4 c = search needs
 
--- src/collect.rt:50:1
 returns-3 : tie.Need-returns-3
 unfolding collectRows zeros
 returns-3 c = let y = c .before .before in

@@ -1,4 +1,4 @@
-use mathlib.Core.Path.{_≡_, sym, ap, _∙_}
+use mathlib.Core.Path.{_≡_, ap, _∙_}
 use mathlib.Core.List.{_++_}
 use Prim.Native.Nat.{ℕ, _≤_}
 use lib.ListN.{length}
@@ -13,20 +13,11 @@ use Rattle.replication.proofs.ReadLaws.{CollectRest, waits-is, needs-is
 use borrow.Author.Needs.{needs}
 use Rattle.replication.proofs.collect.decide_collect.Statement.{statement}
 use Rattle.replication.proofs.collect.decide_collect.Tie as tie
-use Rattle.replication.proofs.collect.decide_collect.Reads as reads
-use Rattle.replication.proofs.collect.decide_collect.Lts as lts
-use Rattle.replication.proofs.session.session_at.Reads as session-at-reads
-use Rattle.replication.proofs.rows.stopped_by_session.Reads as stopped-by-session-reads
-use Rattle.replication.proofs.session.Session.from_bytes.Reads as from-bytes-reads
-use Rattle.replication.proofs.session.Session.is_waiting.Reads as is-waiting-reads
-use Rattle.replication.proofs.session.Session.needed.Reads as needed-reads
 
--- src/collect.rt:33:9
 returns : tie.Need-returns
 unfolding collectRows
 returns c = by-first _ _ _ _ (session-numbered _ _) _ (c .before .stopped-by-session .ensures) (c .if1 .taken)
 
--- src/collect.rt:35:9
 stopped-by-session-requires : tie.Need-stopped-by-session-requires
 stopped-by-session-requires c κs = search needs
 
@@ -40,15 +31,12 @@ rest : (c : tie.Else1) → let g = c .before .before .before .before .before .ar
 unfolding collectRows
 rest c n e = by-rest _ _ _ _ (session-numbered _ _) _ (c .before .stopped-by-session .ensures) (c .if1 .left) n e
 
--- src/collect.rt:39:35
 session-at-requires : tie.Need-session-at-requires
 session-at-requires c κs = placed c
 
--- src/collect.rt:39:9
 from-bytes-requires : tie.Need-from-bytes-requires
 from-bytes-requires c κs = search needs
 
--- src/collect.rt:40:9
 is-waiting-requires : tie.Need-is-waiting-requires
 is-waiting-requires c κs = search needs
 
@@ -56,15 +44,12 @@ own-waits : (c : tie.After-is-waiting) → let g = c .before .before .before .be
 own-waits c = let b = c .before in
     waits-is _ _ (b .from-bytes .ensures ∙ ap sessionValue (b .before .session-at .ensures .0)) _ (c .is-waiting .ensures)
 
--- src/collect.rt:41:9
 returns-2 : tie.Need-returns-2
 returns-2 c = rest (c .before .before .before .before) 14 (collect-nothing _ _ (own-waits (c .before) ∙ not-true (c .before .is-waiting .result) (c .if2 .taken)))
 
--- src/collect.rt:43:15
 needed-requires : tie.Need-needed-requires
 needed-requires c κs = search needs
 
--- src/collect.rt:44:9
 returns-3 : tie.Need-returns-3
 returns-3 c = let n = c .before in
     let w = n .before in
@@ -72,7 +57,6 @@ returns-3 c = let n = c .before in
     rest (b .before .before) 13 (collect-no-room _ _ (own-waits (w .before) ∙ not-false (w .before .is-waiting .result) (w .if2 .left)) _
     (needs-is _ _ (b .from-bytes .ensures ∙ ap sessionValue (b .before .session-at .ensures .0)) _ (n .needed .ensures)) (c .if3 .taken))
 
--- src/collect.rt:20:1
 returns-4 : tie.Need-returns-4
 returns-4 c = let n = c .before in
     let w = n .before in

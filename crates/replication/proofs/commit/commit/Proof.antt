@@ -5,31 +5,19 @@ use Rattle.replication.proofs.CommitLaws.{Known, commit-refused, commit
 use borrow.Author.Needs.{needs}
 use Rattle.replication.proofs.commit.commit.Statement.{statement}
 use Rattle.replication.proofs.commit.commit.Tie as tie
-use Rattle.replication.proofs.commit.commit.Reads as reads
-use Rattle.replication.proofs.commit.commit.Lts as lts
-use Rattle.carts.proofs.operation.apply_all.Reads as apply-all-reads
-use Rattle.replication.proofs.append.append_transaction.Reads as append-transaction-reads
-use Rattle.replication.proofs.session.put_number.Reads as put-number-reads
-use Rattle.replication.proofs.commit.decide_commit.Reads as decide-commit-reads
-use Rattle.replication.proofs.control.Control.committed.Reads as committed-reads
 
--- src/commit.rt:107:9
 decide-commit-requires : tie.Need-decide-commit-requires
 decide-commit-requires c κs = search needs
 
--- src/commit.rt:109:9
 same-length : tie.Need-same-length
 same-length c = search needs
 
--- src/commit.rt:109:9
 same-length-2 : tie.Need-same-length-2
 same-length-2 c = search needs
 
--- src/commit.rt:109:9
 same-length-3 : tie.Need-same-length-3
 same-length-3 c = search needs
 
--- src/commit.rt:109:9
 returns : tie.Need-returns
 returns c = commit-refused _ _ _ _ _ (c .before .decide-commit .ensures) (c .if1 .taken)
 
@@ -37,56 +25,44 @@ returns c = commit-refused _ _ _ _ _ (c .before .decide-commit .ensures) (c .if1
 known : (c : tie.Else1) → let g = c .before .before .before .before .before .before .before .before .before .args in Known (g .control) (memory (g .library .now) (g .log .now) (g .sessions .now)) (g .session) (g .operations .now)
 known c = commit-known _ _ _ _ _ (c .before .decide-commit .ensures) (c .if1 .left)
 
--- src/commit.rt:114:34
 cast-committed : tie.Need-cast-committed
 cast-committed c = let k = known c .room in omega arith
 
--- src/commit.rt:114:9
 committed-requires : tie.Need-committed-requires
 committed-requires c κs = let k = known c in (k .room, k .few)
 
--- src/commit.rt:115:26
 sub-apply-all : tie.Need-sub-apply-all
 sub-apply-all c = search needs
 
--- src/commit.rt:115:26
 part-apply-all-start : tie.Need-part-apply-all-start
 part-apply-all-start c = search needs
 
--- src/commit.rt:115:26
 part-apply-all-end : tie.Need-part-apply-all-end
 part-apply-all-end c = let k = known (c .before) .formed .library .size in omega arith
 
--- src/commit.rt:115:5
 apply-all-requires : tie.Need-apply-all-requires
 apply-all-requires c κs = let k = known (c .before .before) in
     let l = k .formed .library .size in
     (length-part (c .before .before .before .before .before .before .before .before .before .before .before .args .library .now) 0 10240 (omega arith), k .fields)
 
--- src/commit.rt:116:5
 append-transaction-requires : tie.Need-append-transaction-requires
 append-transaction-requires c κs = let k = known (c .before .before .before .before .before .before) in ((k .formed .log .size, (k .some, k .room)), k .walks)
 
--- src/commit.rt:117:5
 put-number-requires : tie.Need-put-number-requires
 put-number-requires c κs = let n = c .before .before .before .before .before .before .before .before .before in
     let k = known (n .before) in
     let small = next-small _ _ _ (n .committed .ensures) (k .few) in
     ((k .formed .sessions .size, k .session), omega (arith, k .few))
 
--- src/commit.rt:96:1
 same-length-4 : tie.Need-same-length-4
 same-length-4 c = search needs
 
--- src/commit.rt:96:1
 same-length-5 : tie.Need-same-length-5
 same-length-5 c = search needs
 
--- src/commit.rt:96:1
 same-length-6 : tie.Need-same-length-6
 same-length-6 c = search needs
 
--- src/commit.rt:96:1
 returns-2 : tie.Need-returns-2
 returns-2 c = let p = c .before .before in
     let a = p .before .before .before .before in

@@ -1,4 +1,3 @@
-use mathlib.Core.Path.{sym, _∙_}
 use native.Mathlib.Omega.{arith}
 use Rattle.carts.proofs.PartLaws.{length-part}
 use Rattle.replication.specs.Memory.{memory, copyAt}
@@ -10,13 +9,7 @@ use Rattle.replication.proofs.CommitLaws.{read-waits, operations-decide
 use borrow.Author.Needs.{needs}
 use Rattle.replication.proofs.commit.decide_commit.Statement.{statement}
 use Rattle.replication.proofs.commit.decide_commit.Tie as tie
-use Rattle.replication.proofs.commit.decide_commit.Reads as reads
-use Rattle.replication.proofs.commit.decide_commit.Lts as lts
-use Rattle.replication.proofs.commit.has_waiting.Reads as has-waiting-reads
-use Rattle.replication.proofs.commit.stopped_by_operations.Reads as stopped-by-operations-reads
-use Rattle.replication.proofs.rows.stopped_by_session.Reads as stopped-by-session-reads
 
--- src/commit.rt:83:9
 returns : tie.Need-returns
 unfolding commitRows
 returns c = by-first _ _ _ _ (session-numbered _ _) _ (c .before .stopped-by-session .ensures) (c .if1 .taken)
@@ -24,38 +17,30 @@ returns c = by-first _ _ _ _ (session-numbered _ _) _ (c .before .stopped-by-ses
 formed-here : (c : tie.Else1) → let g = c .before .before .before .before .before .before .args in Formed (g .control) (memory (g .library .now) (g .log .now) (g .sessions .now))
 formed-here c = first-formed _ _ _ _ (c .before .stopped-by-session .ensures) (c .if1 .left)
 
--- src/commit.rt:85:9
 stopped-by-session-requires : tie.Need-stopped-by-session-requires
 stopped-by-session-requires c κs = search needs
 
--- src/commit.rt:89:8
 has-waiting-requires : tie.Need-has-waiting-requires
 has-waiting-requires c κs = (formed-here c .sessions .size, right-session _ _ (first-who _ _ _ _ (c .before .stopped-by-session .ensures) (c .if1 .left)) .0)
 
--- src/commit.rt:90:9
 returns-2 : tie.Need-returns-2
 returns-2 c = let d = c .before .before in
     read-waits _ _ _ _ _ (d .before .stopped-by-session .ensures) (d .if1 .left) _ (c .before .has-waiting .ensures) (c .if2 .taken)
 
--- src/commit.rt:92:41
 sub-stopped-by-operations : tie.Need-sub-stopped-by-operations
 sub-stopped-by-operations c = search needs
 
--- src/commit.rt:92:41
 part-stopped-by-operations-start : tie.Need-part-stopped-by-operations-start
 part-stopped-by-operations-start c = search needs
 
--- src/commit.rt:92:41
 part-stopped-by-operations-end : tie.Need-part-stopped-by-operations-end
 part-stopped-by-operations-end c = let k = formed-here (c .before .before) .library .size in omega arith
 
--- src/commit.rt:92:5
 stopped-by-operations-requires : tie.Need-stopped-by-operations-requires
 stopped-by-operations-requires c κs = let f = formed-here (c .before .before .before) in
     let k = f .library .size in
     (f .log .used, length-part (c .before .before .before .before .before .before .before .before .before .args .library .now) 0 10240 (omega arith))
 
--- src/commit.rt:69:1
 returns-3 : tie.Need-returns-3
 unfolding copyAt
 returns-3 c = let b = c .before .before in

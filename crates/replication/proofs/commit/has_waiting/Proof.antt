@@ -4,25 +4,16 @@ use Rattle.replication.proofs.CommitLaws.{waiting-by}
 use borrow.Author.Needs.{needs}
 use Rattle.replication.proofs.commit.has_waiting.Statement.{statement}
 use Rattle.replication.proofs.commit.has_waiting.Tie as tie
-use Rattle.replication.proofs.commit.has_waiting.Reads as reads
-use Rattle.replication.proofs.commit.has_waiting.Lts as lts
-use Rattle.replication.proofs.session.session_at.Reads as session-at-reads
-use Rattle.replication.proofs.session.Session.from_bytes.Reads as from-bytes-reads
-use Rattle.replication.proofs.session.Session.is_waiting.Reads as is-waiting-reads
 
--- src/commit.rt:65:25
 session-at-requires : tie.Need-session-at-requires
 session-at-requires c κs = search needs
 
--- src/commit.rt:65:5
 from-bytes-requires : tie.Need-from-bytes-requires
 from-bytes-requires c κs = search needs
 
--- src/commit.rt:65:5
 is-waiting-requires : tie.Need-is-waiting-requires
 is-waiting-requires c κs = search needs
 
--- src/commit.rt:61:1
 returns : tie.Need-returns
 returns c = let f = c .before in
     waiting-by _ _ _ (f .from-bytes .ensures ∙ ap sessionValue (f .before .session-at .ensures .0)) (c .is-waiting .ensures)

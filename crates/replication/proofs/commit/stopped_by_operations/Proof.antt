@@ -12,21 +12,13 @@ use Rattle.replication.proofs.CommitLaws.{size-few, size-wrong, form-wr
 use borrow.Author.Needs.{needs}
 use Rattle.replication.proofs.commit.stopped_by_operations.Statement.{statement}
 use Rattle.replication.proofs.commit.stopped_by_operations.Tie as tie
-use Rattle.replication.proofs.commit.stopped_by_operations.Reads as reads
-use Rattle.replication.proofs.commit.stopped_by_operations.Lts as lts
-use Rattle.carts.proofs.operation.all_operations.Reads as all-operations-reads
-use Rattle.carts.proofs.operation.meets_all.Reads as meets-all-reads
-use Rattle.replication.proofs.commit.is_size.Reads as is-size-reads
 
--- src/commit.rt:43:9
 is-size-requires : tie.Need-is-size-requires
 is-size-requires c κs = search needs
 
--- src/commit.rt:44:9
 returns : tie.Need-returns
 returns c = let r = c .before .is-size in size-wrong _ _ _ (sym (r .ensures) ∙ not-true (r .result) (c .if1 .taken))
 
--- src/commit.rt:46:9
 all-operations-requires : tie.Need-all-operations-requires
 all-operations-requires c κs = search needs
 
@@ -39,33 +31,26 @@ right-form c = let r = c .before .all-operations in sym (r .ensures) ∙ not-fal
 few : (c : tie.Else2) → let n = length (c .before .before .before .before .before .before .args .operations .now) / 80 in (1 ≤ n) × (n ≤ 8)
 few c = size-few _ (right-size (c .before .before))
 
--- src/commit.rt:47:9
 returns-2 : tie.Need-returns-2
 returns-2 c = let r = c .before .all-operations in form-wrong _ _ _ (right-size (c .before .before)) (sym (r .ensures) ∙ not-true (r .result) (c .if2 .taken))
 
--- src/commit.rt:49:13
 cast-n : tie.Need-cast-n
 cast-n c = let k = few c .1 in omega arith
 
--- src/commit.rt:50:24
 add-if3 : tie.Need-add-if3
 add-if3 c = let k = few c .1 in omega arith
 
--- src/commit.rt:51:9
 returns-3 : tie.Need-returns-3
 returns-3 c = let b = c .before in log-full _ _ _ (right-size (b .before .before)) (right-form b) (omega (arith, c .if3 .taken))
 
--- src/commit.rt:53:9
 meets-all-requires : tie.Need-meets-all-requires
 meets-all-requires c κs = (c .before .before .before .before .before .before .before .pre .1, forms-fields _ (right-form (c .before)))
 
--- src/commit.rt:54:9
 returns-4 : tie.Need-returns-4
 returns-4 c = let r = c .before .meets-all in
     let b = c .before .before .before in
     carts-wrong _ _ _ (right-size (b .before .before)) (right-form b) (omega (arith, c .before .before .if3 .left)) (sym (r .ensures) ∙ not-true (r .result) (c .if4 .taken))
 
--- src/commit.rt:35:1
 returns-5 : tie.Need-returns-5
 returns-5 c = let r = c .before .meets-all in
     let b = c .before .before .before in

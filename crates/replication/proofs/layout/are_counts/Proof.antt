@@ -1,32 +1,24 @@
 use Prim.Native.Nat.{ℕ}
 use mathlib.Core.Bool.{Bool, true, _&&_, and-true, and-assoc}
-use mathlib.Core.Path.{_≡_, refl}
+use mathlib.Core.Path.{_≡_}
 use Rattle.carts.specs.Bytes.{every}
 use Rattle.replication.specs.Layout.{countsForm}
 use borrow.Author.Needs.{needs}
 use Rattle.replication.proofs.layout.are_counts.Statement.{statement}
 use Rattle.replication.proofs.layout.are_counts.Tie as tie
-use Rattle.replication.proofs.layout.are_counts.Reads as reads
-use Rattle.replication.proofs.layout.are_counts.Lts as lts
-use Rattle.replication.proofs.control.Control.has_counts.Reads as has-counts-reads
 
--- src/layout.rt:82:5
 has-counts-requires : tie.Need-has-counts-requires
 has-counts-requires c κs = search needs
 
--- src/layout.rt:82:29
 has-counts-requires-2 : tie.Need-has-counts-requires-2
 has-counts-requires-2 c κs = search needs
 
--- src/layout.rt:82:53
 has-counts-requires-3 : tie.Need-has-counts-requires-3
 has-counts-requires-3 c κs = search needs
 
--- src/layout.rt:82:77
 has-counts-requires-4 : tie.Need-has-counts-requires-4
 has-counts-requires-4 c κs = search needs
 
--- src/layout.rt:79:1
 returns : tie.Need-returns
 unfolding every
 returns c = rw (c .before .before .before .has-counts .ensures, c .before .before .has-counts2 .ensures, c .before .has-counts3 .ensures, c .has-counts4 .ensures) (four (countsForm (c .before .before .before .before .args .control)))

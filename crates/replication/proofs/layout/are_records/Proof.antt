@@ -1,23 +1,16 @@
 use native.Mathlib.Nat.{sub-zero}
 use Rattle.replication.proofs.LayoutLaws.{record-next}
-use mathlib.Core.Path.{_≡_, refl, sym, ap, _∙_}
+use mathlib.Core.Path.{_≡_, ap, _∙_}
 use mathlib.Core.Bool.{_&&_}
-use Prim.Native.Nat.{ℕ, _≤_, _-_, _+_, _*_}
+use Prim.Native.Nat.{_≤_, _-_, _+_, _*_}
 use native.Mathlib.Omega.{arith}
-use native.Mathlib.Nat.{add-sub-cancel-left}
-use lib.ListN.{length, take, drop}
+use lib.ListN.{drop}
 use Rattle.carts.specs.Bytes.{eachPart}
-use Rattle.carts.proofs.PartLaws.{length-part}
 use Rattle.carts.proofs.RecordLaws.{each-more, each-done}
 use Rattle.carts.specs.Operation.{operationFields}
-use Rattle.replication.specs.Memory.{recordAt}
 use Rattle.replication.specs.Layout.{recordForm}
 use Rattle.replication.proofs.layout.are_records.Statement.{statement}
 use Rattle.replication.proofs.layout.are_records.Tie as tie
-use Rattle.replication.proofs.layout.are_records.Reads as reads
-use Rattle.replication.proofs.layout.are_records.Lts as lts
-use Rattle.carts.proofs.operation.has_fields.Reads as has-fields-reads
-use Rattle.replication.proofs.record.record_at.Reads as record-at-reads
 
 abbrev Inv-loop : tie.InvT-loop
 Inv-loop log used ok₀ r₀ ok r = (r ≤ used) × (eachPart recordForm 80 used 1 log ≡ (ok && eachPart recordForm 80 (used - r) (r + 1) (drop (80 * r) log)))
@@ -25,27 +18,21 @@ Inv-loop log used ok₀ r₀ ok r = (r ≤ used) × (eachPart recordForm 80 used
 abbrev μ-loop : tie.MeasureT-loop
 μ-loop log used ok₀ r₀ ok r = used - r
 
--- src/layout.rt:53:5
 loop-holds : tie.Need-loop-holds Inv-loop μ-loop
 loop-holds c = (omega arith, rw sub-zero)
 
--- src/layout.rt:54:9
 add-r : tie.Need-add-r Inv-loop μ-loop
 add-r c = omega arith
 
--- src/layout.rt:55:37
 record-at-requires : tie.Need-record-at-requires Inv-loop μ-loop
 record-at-requires c κs = (omega arith, (omega arith, omega arith))
 
--- src/layout.rt:55:15
 has-fields-requires : tie.Need-has-fields-requires Inv-loop μ-loop
 has-fields-requires c κs = c .record-at .ensures .1
 
--- src/layout.rt:53:5
 loop-less : tie.Need-loop-less Inv-loop μ-loop
 loop-less c = omega arith
 
--- src/layout.rt:53:5
 loop-again : tie.Need-loop-again Inv-loop μ-loop
 unfolding recordForm
 loop-again c = let t = c .before .before .before in
@@ -53,7 +40,6 @@ loop-again c = let t = c .before .before .before in
     let e = c .has-fields .ensures ∙ ap operationFields (c .before .record-at .ensures .0 ∙ record-next s (t .loop .r)) in
     (omega arith, each-more recordForm 80 _ (t .loop .r) (t .loop .r + 1) s (t .loop .ok) (omega arith) (t .loop .inv .1) (ap (λ b. t .loop .ok && b) e))
 
--- src/layout.rt:47:1
 returns : tie.Need-returns Inv-loop μ-loop
 returns c = let t = c .before in
     let g = t .before .before .args in

@@ -1,19 +1,14 @@
 use Rattle.replication.proofs.LayoutLaws.{lent, length-lent}
-use mathlib.Core.Path.{_≡_, refl, sym, ap, _∙_}
+use mathlib.Core.Path.{_≡_, refl, ap, _∙_}
 use mathlib.Core.Bool.{_&&_}
-use Prim.Native.Nat.{ℕ, _≤_, _-_, _+_, _*_}
+use Prim.Native.Nat.{_≤_, _-_, _*_}
 use native.Mathlib.Omega.{arith}
-use native.Mathlib.Nat.{add-sub-cancel-left}
-use lib.ListN.{length, take, drop}
+use lib.ListN.{drop}
 use Rattle.carts.specs.Bytes.{eachPart}
-use Rattle.carts.proofs.PartLaws.{length-part}
 use Rattle.carts.proofs.RecordLaws.{each-more, each-done}
 use Rattle.replication.specs.Layout.{replicaForm}
 use Rattle.replication.proofs.layout.are_replicas.Statement.{statement}
 use Rattle.replication.proofs.layout.are_replicas.Tie as tie
-use Rattle.replication.proofs.layout.are_replicas.Reads as reads
-use Rattle.replication.proofs.layout.are_replicas.Lts as lts
-use Rattle.replication.proofs.layout.is_replica.Reads as is-replica-reads
 
 abbrev Inv-loop : tie.InvT-loop
 Inv-loop library studios ok₀ i₀ ok i = (i ≤ 5) × (eachPart (replicaForm studios) 10240 5 0 library ≡ (ok && eachPart (replicaForm studios) 10240 (5 - i) i (drop (10240 * i) library)))
@@ -21,47 +16,36 @@ Inv-loop library studios ok₀ i₀ ok i = (i ≤ 5) × (eachPart (replicaForm s
 abbrev μ-loop : tie.MeasureT-loop
 μ-loop library studios ok₀ i₀ ok i = 5 - i
 
--- src/layout.rt:37:5
 loop-holds : tie.Need-loop-holds Inv-loop μ-loop
 loop-holds c = (omega arith, refl)
 
--- src/layout.rt:38:40
 cast-start : tie.Need-cast-start Inv-loop μ-loop
 cast-start c = omega arith
 
--- src/layout.rt:38:21
 mul-start : tie.Need-mul-start Inv-loop μ-loop
 mul-start c = omega arith
 
--- src/layout.rt:39:19
 add-end : tie.Need-add-end Inv-loop μ-loop
 add-end c = omega arith
 
--- src/layout.rt:40:26
 sub-is-replica : tie.Need-sub-is-replica Inv-loop μ-loop
 sub-is-replica c = omega arith
 
--- src/layout.rt:40:26
 part-is-replica-start : tie.Need-part-is-replica-start Inv-loop μ-loop
 part-is-replica-start c = omega arith
 
--- src/layout.rt:40:26
 part-is-replica-end : tie.Need-part-is-replica-end Inv-loop μ-loop
 part-is-replica-end c = omega arith
 
--- src/layout.rt:40:15
 is-replica-requires : tie.Need-is-replica-requires Inv-loop μ-loop
 is-replica-requires c κs = let t = c .before .before in length-lent 10240 (t .loop .i) (t .before .before .args .library .now) (omega arith)
 
--- src/layout.rt:41:9
 add-i : tie.Need-add-i Inv-loop μ-loop
 add-i c = omega arith
 
--- src/layout.rt:37:5
 loop-less : tie.Need-loop-less Inv-loop μ-loop
 loop-less c = omega arith
 
--- src/layout.rt:37:5
 loop-again : tie.Need-loop-again Inv-loop μ-loop
 loop-again c = let t = c .before .before .before in
     let g = t .before .before .args in
@@ -69,7 +53,6 @@ loop-again c = let t = c .before .before .before in
     let e = c .is-replica .ensures ∙ ap (replicaForm (g .studios) (t .loop .i)) (lent 10240 (t .loop .i) s) in
     (omega arith, each-more (replicaForm (g .studios)) 10240 5 (t .loop .i) (t .loop .i) s (t .loop .ok) (omega arith) (t .loop .inv .1) (ap (λ b. t .loop .ok && b) e))
 
--- src/layout.rt:31:1
 returns : tie.Need-returns Inv-loop μ-loop
 returns c = let t = c .before in
     let g = t .before .before .args in

@@ -1,21 +1,15 @@
 use Rattle.replication.proofs.LayoutLaws.{lent, length-lent, session-is}
-use mathlib.Core.Path.{_≡_, refl, sym, ap, _∙_}
+use mathlib.Core.Path.{_≡_, refl, ap, _∙_}
 use mathlib.Core.Bool.{_&&_}
-use Prim.Native.Nat.{ℕ, _≤_, _-_, _+_, _*_}
+use Prim.Native.Nat.{_≤_, _-_, _+_, _*_}
 use native.Mathlib.Omega.{arith}
-use native.Mathlib.Nat.{add-sub-cancel-left}
-use lib.ListN.{length, take, drop}
+use lib.ListN.{drop}
 use Rattle.carts.specs.Bytes.{eachPart}
-use Rattle.carts.proofs.PartLaws.{length-part}
 use Rattle.carts.proofs.RecordLaws.{each-more, each-done}
 use Rattle.replication.specs.Layout.{sessionForm}
 use Rattle.replication.specs.Values.{sessionFormOf}
 use Rattle.replication.proofs.layout.are_sessions.Statement.{statement}
 use Rattle.replication.proofs.layout.are_sessions.Tie as tie
-use Rattle.replication.proofs.layout.are_sessions.Reads as reads
-use Rattle.replication.proofs.layout.are_sessions.Lts as lts
-use Rattle.replication.proofs.control.Control.studio_of.Reads as studio-of-reads
-use Rattle.replication.proofs.session.is_session.Reads as is-session-reads
 
 abbrev Inv-loop : tie.InvT-loop
 Inv-loop control sessions ok₀ s₀ ok s = (s ≤ 16) × (eachPart (sessionForm control) 80 16 1 sessions ≡ (ok && eachPart (sessionForm control) 80 (16 - s) (s + 1) (drop (80 * s) sessions)))
@@ -23,51 +17,39 @@ Inv-loop control sessions ok₀ s₀ ok s = (s ≤ 16) × (eachPart (sessionForm
 abbrev μ-loop : tie.MeasureT-loop
 μ-loop control sessions ok₀ s₀ ok s = 16 - s
 
--- src/layout.rt:67:5
 loop-holds : tie.Need-loop-holds Inv-loop μ-loop
 loop-holds c = (omega arith, refl)
 
--- src/layout.rt:68:38
 cast-start : tie.Need-cast-start Inv-loop μ-loop
 cast-start c = omega arith
 
--- src/layout.rt:68:21
 mul-start : tie.Need-mul-start Inv-loop μ-loop
 mul-start c = omega arith
 
--- src/layout.rt:69:19
 add-end : tie.Need-add-end Inv-loop μ-loop
 add-end c = omega arith
 
--- src/layout.rt:70:9
 add-s : tie.Need-add-s Inv-loop μ-loop
 add-s c = omega arith
 
--- src/layout.rt:71:13
 studio-of-requires : tie.Need-studio-of-requires Inv-loop μ-loop
 studio-of-requires c κs = (omega arith, omega arith)
 
--- src/layout.rt:72:35
 sub-is-session : tie.Need-sub-is-session Inv-loop μ-loop
 sub-is-session c = omega arith
 
--- src/layout.rt:72:35
 part-is-session-start : tie.Need-part-is-session-start Inv-loop μ-loop
 part-is-session-start c = omega arith
 
--- src/layout.rt:72:35
 part-is-session-end : tie.Need-part-is-session-end Inv-loop μ-loop
 part-is-session-end c = omega arith
 
--- src/layout.rt:72:15
 is-session-requires : tie.Need-is-session-requires Inv-loop μ-loop
 is-session-requires c κs = let t = c .before .before .before in length-lent 80 (t .loop .s) (t .before .before .args .sessions .now) (omega arith)
 
--- src/layout.rt:67:5
 loop-less : tie.Need-loop-less Inv-loop μ-loop
 loop-less c = omega arith
 
--- src/layout.rt:67:5
 loop-again : tie.Need-loop-again Inv-loop μ-loop
 loop-again c = let t = c .before .before .before .before in
     let g = t .before .before .args in
@@ -77,7 +59,6 @@ loop-again c = let t = c .before .before .before .before in
     ∙ session-is (g .control) (t .loop .s + 1) studio _ (c .before .before .studio-of .ensures) in
     (omega arith, each-more (sessionForm (g .control)) 80 16 (t .loop .s) (t .loop .s + 1) x (t .loop .ok) (omega arith) (t .loop .inv .1) (ap (λ b. t .loop .ok && b) e))
 
--- src/layout.rt:61:1
 returns : tie.Need-returns Inv-loop μ-loop
 returns c = let t = c .before in
     let g = t .before .before .args in

@@ -1,5 +1,4 @@
-use mathlib.Core.Path.{_≡_, refl, sym, ap, _∙_}
-use mathlib.Core.Bool.{true, false}
+use mathlib.Core.Path.{_≡_, sym, ap, _∙_}
 use borrow.Author.Tests.{not-true, not-false, le-leb, lt-leb}
 use Prim.Native.Nat.{_*_}
 use lib.ListN.{drop}
@@ -10,16 +9,6 @@ use Rattle.replication.proofs.LayoutLaws.{layout-fails, layout-last, re
 use borrow.Author.Needs.{needs}
 use Rattle.replication.proofs.layout.is_layout.Statement.{statement}
 use Rattle.replication.proofs.layout.is_layout.Tie as tie
-use Rattle.replication.proofs.layout.is_layout.Reads as reads
-use Rattle.replication.proofs.layout.is_layout.Lts as lts
-use Rattle.carts.proofs.bytes.all_zero.Reads as all-zero-reads
-use Rattle.carts.proofs.bytes.is_within.Reads as is-within-reads
-use Rattle.replication.proofs.chain.is_chain.Reads as is-chain-reads
-use Rattle.replication.proofs.control.Control.has_studios.Reads as has-studios-reads
-use Rattle.replication.proofs.layout.are_counts.Reads as are-counts-reads
-use Rattle.replication.proofs.layout.are_records.Reads as are-records-reads
-use Rattle.replication.proofs.layout.are_replicas.Reads as are-replicas-reads
-use Rattle.replication.proofs.layout.are_sessions.Reads as are-sessions-reads
 
 -- the bytes after the records in use
 zeros-after : (c : tie.After-all-zero) → let g = c .before .before .before .before .before .before .before .before .before .before .before .before .before .before .args in
@@ -27,99 +16,77 @@ zeros-after : (c : tie.After-all-zero) → let g = c .before .before .before .be
 zeros-after c = let g = c .before .before .before .before .before .before .before .before .before .before .before .before .before .before .args in
     sym (c .all-zero .ensures ∙ ap allZero (rest-is (80 * g .control .used) (g .log .now)))
 
--- src/layout.rt:91:9
 is-within-requires : tie.Need-is-within-requires
 is-within-requires c κs = search needs
 
--- src/layout.rt:92:9
 returns : tie.Need-returns
 unfolding layoutTests
 returns c = layout-fails _ _ 0 (sym (c .before .is-within .ensures) ∙ not-true (c .before .is-within .result) (c .if1 .taken))
 
--- src/layout.rt:94:9
 has-studios-requires : tie.Need-has-studios-requires
 has-studios-requires c κs = search needs
 
--- src/layout.rt:95:9
 returns-2 : tie.Need-returns-2
 unfolding layoutTests
 returns-2 c = layout-fails _ _ 1 (sym (c .before .has-studios .ensures) ∙ not-true (c .before .has-studios .result) (c .if2 .taken))
 
--- src/layout.rt:97:9
 are-replicas-requires : tie.Need-are-replicas-requires
 are-replicas-requires c κs = search needs
 
--- src/layout.rt:98:9
 returns-3 : tie.Need-returns-3
 unfolding layoutTests
 returns-3 c = layout-fails _ _ 2 (sym (c .before .are-replicas .ensures) ∙ not-true (c .before .are-replicas .result) (c .if3 .taken))
 
--- src/layout.rt:101:9
 returns-4 : tie.Need-returns-4
 unfolding layoutTests
 returns-4 c = layout-fails _ _ 3 (lt-leb _ _ (c .if4 .taken))
 
--- src/layout.rt:103:9
 are-records-requires : tie.Need-are-records-requires
 are-records-requires c κs = search needs
 
--- src/layout.rt:104:9
 returns-5 : tie.Need-returns-5
 unfolding layoutTests
 returns-5 c = layout-fails _ _ 4 (sym (c .before .are-records .ensures) ∙ not-true (c .before .are-records .result) (c .if5 .taken))
 
--- src/layout.rt:106:31
 cast-end : tie.Need-cast-end
 cast-end c = search needs
 
--- src/layout.rt:106:15
 mul-end : tie.Need-mul-end
 mul-end c = search needs
 
--- src/layout.rt:107:25
 sub-all-zero : tie.Need-sub-all-zero
 sub-all-zero c = search needs
 
--- src/layout.rt:107:25
 part-all-zero-start : tie.Need-part-all-zero-start
 part-all-zero-start c = search needs
 
--- src/layout.rt:107:25
 part-all-zero-end : tie.Need-part-all-zero-end
 part-all-zero-end c = search needs
 
--- src/layout.rt:107:9
 all-zero-requires : tie.Need-all-zero-requires
 all-zero-requires c κs = search needs
 
--- src/layout.rt:108:9
 returns-6 : tie.Need-returns-6
 unfolding layoutTests
 returns-6 c = layout-fails _ _ 5 (zeros-after (c .before) ∙ not-true (c .before .all-zero .result) (c .if6 .taken))
 
--- src/layout.rt:110:9
 is-chain-requires : tie.Need-is-chain-requires
 is-chain-requires c κs = search needs
 
--- src/layout.rt:111:9
 returns-7 : tie.Need-returns-7
 unfolding layoutTests firstRecord
 returns-7 c = layout-fails _ _ 6 (sym (c .before .is-chain .ensures) ∙ not-true (c .before .is-chain .result) (c .if7 .taken))
 
--- src/layout.rt:113:9
 are-sessions-requires : tie.Need-are-sessions-requires
 are-sessions-requires c κs = search needs
 
--- src/layout.rt:114:9
 returns-8 : tie.Need-returns-8
 unfolding layoutTests
 returns-8 c = layout-fails _ _ 7 (sym (c .before .are-sessions .ensures) ∙ not-true (c .before .are-sessions .result) (c .if8 .taken))
 
--- src/layout.rt:116:5
 are-counts-requires : tie.Need-are-counts-requires
 are-counts-requires c κs = search needs
 
--- src/layout.rt:86:1
 returns-9 : tie.Need-returns-9
 returns-9 c = let s = c .before .before in
     let k = s .before .before in

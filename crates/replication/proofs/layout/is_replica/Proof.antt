@@ -3,25 +3,17 @@ use Rattle.replication.specs.Layout.{replicaForm}
 use borrow.Author.Needs.{needs}
 use Rattle.replication.proofs.layout.is_replica.Statement.{statement}
 use Rattle.replication.proofs.layout.is_replica.Tie as tie
-use Rattle.replication.proofs.layout.is_replica.Reads as reads
-use Rattle.replication.proofs.layout.is_replica.Lts as lts
-use Rattle.carts.proofs.bytes.all_zero.Reads as all-zero-reads
-use Rattle.carts.proofs.cart.is_copy.Reads as is-copy-reads
 
--- src/layout.rt:25:9
 is-copy-requires : tie.Need-is-copy-requires
 is-copy-requires c κs = search needs
 
--- src/layout.rt:25:9
 returns : tie.Need-returns
 unfolding replicaForm
 returns c = simp (c .is-copy .ensures, le-leb _ _ (c .before .if1 .taken))
 
--- src/layout.rt:27:5
 all-zero-requires : tie.Need-all-zero-requires
 all-zero-requires c κs = search needs
 
--- src/layout.rt:20:1
 returns-2 : tie.Need-returns-2
 unfolding replicaForm
 returns-2 c = simp (c .all-zero .ensures, lt-leb _ _ (c .before .if1 .left))

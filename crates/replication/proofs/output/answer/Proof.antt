@@ -4,46 +4,33 @@ use Rattle.replication.proofs.OutputLaws.{value-waiting, shown-lent}
 use borrow.Author.Needs.{needs}
 use Rattle.replication.proofs.output.answer.Statement.{statement}
 use Rattle.replication.proofs.output.answer.Tie as tie
-use Rattle.replication.proofs.output.answer.Reads as reads
-use Rattle.replication.proofs.output.answer.Lts as lts
-use Rattle.replication.proofs.output.show.Reads as show-reads
-use Rattle.replication.proofs.session.Session.from_bytes.Reads as from-bytes-reads
 
--- src/output.rt:94:17
 mul-start : tie.Need-mul-start
 mul-start c = search needs
 
--- src/output.rt:95:15
 add-end : tie.Need-add-end
 add-end c = search needs
 
--- src/output.rt:96:9
 from-bytes-requires : tie.Need-from-bytes-requires
 from-bytes-requires c κs = search needs
 
--- src/output.rt:98:10
 sub-show : tie.Need-sub-show
 sub-show c = search needs
 
--- src/output.rt:98:10
 part-show-start : tie.Need-part-show-start
 part-show-start c = search needs
 
--- src/output.rt:98:10
 part-show-end : tie.Need-part-show-end
 part-show-end c = search needs
 
--- src/output.rt:98:5
 show-requires : tie.Need-show-requires
 show-requires c κs = let b = c .before .before in
     let s = b .before .before .before .before in
     ((length-lent 10240 (s .args .studio) (s .args .library .now) (omega arith), (s .pre .0 .1 .1, value-waiting _ _ (b .from-bytes .ensures))), s .pre .1)
 
--- src/output.rt:88:1
 same-length : tie.Need-same-length
 same-length c = search needs
 
--- src/output.rt:88:1
 returns : tie.Need-returns
 returns c = let y = c .before .before in
     let s = y .before .before .before .before .before .before .before in

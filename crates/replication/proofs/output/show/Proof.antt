@@ -1,25 +1,18 @@
 use mathlib.Core.Path.{sym, _∙_}
 use Prim.Native.Nat.{_≤_}
 use native.Mathlib.Omega.{arith}
-use lib.ListN.{length, length-take}
+use lib.ListN.{length-take}
 use Rattle.replication.proofs.OutputLaws.{by-case, case-nothing, case-numbers, title-short, room-for-numbers, room-for-title, shows-nothing, shows-numbers, shows-title}
 use borrow.Author.Needs.{needs}
 use Rattle.replication.proofs.output.show.Statement.{statement}
 use Rattle.replication.proofs.output.show.Tie as tie
-use Rattle.replication.proofs.output.show.Reads as reads
-use Rattle.replication.proofs.output.show.Lts as lts
-use Rattle.replication.proofs.output.show_numbers.Reads as show-numbers-reads
-use Rattle.replication.proofs.output.show_title.Reads as show-title-reads
 
--- src/output.rt:78:29
 enum-told : tie.Need-enum-told
 enum-told c = search needs
 
--- src/output.rt:79:60
 enum-told-2 : tie.Need-enum-told-2
 enum-told-2 c = search needs
 
--- src/output.rt:79:32
 show-numbers-requires : tie.Need-show-numbers-requires
 show-numbers-requires c κs = let m = c .before .before in
     let s = m .before .before .before .before in
@@ -27,23 +20,18 @@ show-numbers-requires c κs = let m = c .before .before in
     let k = case-numbers x _ (s .pre .0 .1 .1) (m .match .keys2) in
     ((s .pre .0 .0, s .pre .0 .1 .0), (sym (k .1) ∙ s .pre .1 .0, room-for-numbers (s .args .copy .now) x (s .args .output .now) (k .0) (s .pre .1 .1)))
 
--- src/output.rt:80:24
 enum-known-waiting : tie.Need-enum-known-waiting
 enum-known-waiting c = search needs
 
--- src/output.rt:81:28
 cast-end : tie.Need-cast-end
 cast-end c = search needs
 
--- src/output.rt:81:23
 add-end : tie.Need-add-end
 add-end c = search needs
 
--- src/output.rt:82:30
 sub-show-title : tie.Need-sub-show-title
 sub-show-title c = search needs
 
--- src/output.rt:82:30
 part-show-title-start : tie.Need-part-show-title-start
 part-show-title-start c = search needs
 
@@ -52,11 +40,9 @@ at-most-64 : (c : tie.After-waiting) → c .waiting .given .0 .0 ≤ 64
 at-most-64 c = let s = c .before .before .before .before .before in
     title-short _ _ (sym (by-case (s .args .request .now) _ (sym (c .waiting .given .1) ∙ s .pre .0 .1 .1) .1) ∙ s .pre .1 .0)
 
--- src/output.rt:82:30
 part-show-title-end : tie.Need-part-show-title-end
 part-show-title-end c = let k = at-most-64 (c .before) in omega arith
 
--- src/output.rt:82:13
 show-title-requires : tie.Need-show-title-requires
 show-title-requires c κs = let w = c .before .before .before in
     let s = w .before .before .before .before .before in
@@ -65,17 +51,14 @@ show-title-requires c κs = let w = c .before .before .before in
     let l = at-most-64 w in
     (s .pre .0 .0, (simp length-take (omega arith), room-for-title (s .args .copy .now) x (s .args .output .now) _ (k .0) (s .pre .1 .1)))
 
--- src/output.rt:71:1
 returns : tie.Need-returns
 returns c = let m = c .before in
     let s = m .before .before .before .before in
     shows-nothing (s .args .copy .now) (s .args .request .now) (s .args .output .now) (case-nothing (s .args .request .now) _ (s .pre .0 .1 .1) (m .match .keys1))
 
--- src/output.rt:71:1
 same-length : tie.Need-same-length
 same-length c = search needs
 
--- src/output.rt:71:1
 returns-2 : tie.Need-returns-2
 returns-2 c = let y = c .before .before in
     let m = y .before .before .before in
@@ -83,11 +66,9 @@ returns-2 c = let y = c .before .before in
     let k = case-numbers (s .args .request .now) _ (s .pre .0 .1 .1) (m .match .keys2) in
     shows-numbers (s .args .copy .now) (s .args .request .now) (s .args .output .now) _ _ (k .0) (y .show-numbers .ensures .0) (y .show-numbers .ensures .1)
 
--- src/output.rt:71:1
 same-length-2 : tie.Need-same-length-2
 same-length-2 c = search needs
 
--- src/output.rt:71:1
 returns-3 : tie.Need-returns-3
 returns-3 c = let y = c .before .before in
     let w = y .before .before .before .before in

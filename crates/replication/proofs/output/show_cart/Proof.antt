@@ -6,41 +6,29 @@ use Rattle.carts.specs.Cart.{cartAt, held}
 use borrow.Author.Needs.{needs}
 use Rattle.replication.proofs.output.show_cart.Statement.{statement}
 use Rattle.replication.proofs.output.show_cart.Tie as tie
-use Rattle.replication.proofs.output.show_cart.Reads as reads
-use Rattle.replication.proofs.output.show_cart.Lts as lts
-use Rattle.carts.proofs.bytes.copy_all.Reads as copy-all-reads
-use Rattle.carts.proofs.cart.cart_at.Reads as cart-at-reads
-use Rattle.carts.proofs.cart.is_held.Reads as is-held-reads
 
--- src/output.rt:26:9
 cart-at-requires : tie.Need-cart-at-requires
 cart-at-requires c κs = search needs
 
--- src/output.rt:27:5
 copy-all-requires : tie.Need-copy-all-requires
 copy-all-requires c κs = search needs
 
--- src/output.rt:28:8
 is-held-requires : tie.Need-is-held-requires
 is-held-requires c κs = search needs
 
 held-is : (c : tie.After-is-held) → let g = c .before .before .before .before .before .before .before .before .args in c .is-held .result ≡ held (cartAt (g .copy .now) (g .c))
 held-is c = c .is-held .ensures ∙ ap held (c .before .before .before .before .before .cart-at .ensures .0)
 
--- src/output.rt:29:9
 same-length : tie.Need-same-length
 same-length c = search needs
 
--- src/output.rt:29:9
 returns : tie.Need-returns
 returns c = let k = c .before .before .before .before in
     (sym (ap (λ (b : Bool). cond {A = ℕ} b 1 0) (sym (held-is (c .before)) ∙ not-true (c .before .is-held .result) (c .if1 .taken))), k .copy-all .ensures ∙ k .before .before .cart-at .ensures .0)
 
--- src/output.rt:21:1
 same-length-2 : tie.Need-same-length-2
 same-length-2 c = search needs
 
--- src/output.rt:21:1
 returns-2 : tie.Need-returns-2
 returns-2 c = let k = c .before .before .before .before in
     (sym (ap (λ (b : Bool). cond {A = ℕ} b 1 0) (sym (held-is (c .before)) ∙ not-false (c .before .is-held .result) (c .if1 .left))), k .copy-all .ensures ∙ k .before .before .cart-at .ensures .0)

@@ -14,11 +14,6 @@ use Rattle.replication.proofs.LayoutLaws.{length-lent}
 use Rattle.replication.proofs.OutputLaws.{Left, found-start, shown-start, found-more, shown-more, found-end, shown-end, one-at-most, few-numbers, number-within}
 use Rattle.replication.proofs.output.show_numbers.Statement.{statement}
 use Rattle.replication.proofs.output.show_numbers.Tie as tie
-use Rattle.replication.proofs.output.show_numbers.Reads as reads
-use Rattle.replication.proofs.output.show_numbers.Lts as lts
-use Rattle.carts.proofs.bytes.byte_at.Reads as byte-at-reads
-use Rattle.carts.proofs.bytes.u16_at.Reads as u16-at-reads
-use Rattle.replication.proofs.output.show_cart.Reads as show-cart-reads
 
 abbrev Inv-loop : tie.InvT-loop
 Inv-loop copy request output₀ n found₀ i₀ output found i =
@@ -28,51 +23,40 @@ Inv-loop copy request output₀ n found₀ i₀ output found i =
 abbrev μ-loop : tie.MeasureT-loop
 μ-loop copy request output₀ n found₀ i₀ output found i = n - i
 
--- src/output.rt:41:13
 byte-at-requires : tie.Need-byte-at-requires Inv-loop μ-loop
 byte-at-requires c κs = omega arith
 
--- src/output.rt:41:13
 cast-n : tie.Need-cast-n Inv-loop μ-loop
 cast-n c = omega arith
 
--- src/output.rt:44:5
 loop-holds : tie.Need-loop-holds Inv-loop μ-loop
 loop-holds c = let g = c .before .before .before .before .args in
     let e = c .byte-at .ensures .0 in
     (omega arith, refl, omega arith, found-start (g .copy .now) (g .request .now) _ e, shown-start (g .copy .now) (g .request .now) _ e (g .output .now))
 
--- src/output.rt:45:45
 mul-u16-at : tie.Need-mul-u16-at Inv-loop μ-loop
 mul-u16-at c = omega arith
 
--- src/output.rt:45:40
 add-u16-at : tie.Need-add-u16-at Inv-loop μ-loop
 add-u16-at c = omega arith
 
--- src/output.rt:45:13
 u16-at-requires : tie.Need-u16-at-requires Inv-loop μ-loop
 u16-at-requires c κs = let s = c .before .before .before .before .before .before in
     let k = few-numbers (s .args .request .now) (s .pre .1 .0) in
     omega (arith, c .before .before .byte-at .ensures .0)
 
--- src/output.rt:46:21
 mul-start : tie.Need-mul-start Inv-loop μ-loop
 mul-start c = omega arith
 
--- src/output.rt:47:19
 add-end : tie.Need-add-end Inv-loop μ-loop
 add-end c = omega arith
 
--- src/output.rt:48:37
 sub-show-cart : tie.Need-sub-show-cart Inv-loop μ-loop
 sub-show-cart c = omega arith
 
--- src/output.rt:48:37
 part-show-cart-start : tie.Need-part-show-cart-start Inv-loop μ-loop
 part-show-cart-start c = omega arith
 
--- src/output.rt:48:37
 part-show-cart-end : tie.Need-part-show-cart-end Inv-loop μ-loop
 part-show-cart-end c = omega arith
 
@@ -85,25 +69,20 @@ within-128 c = let s = c .before .before .before .before .before .before .before
     let e = c .u16-at .ensures .0 in
     (omega arith, omega arith)
 
--- src/output.rt:48:18
 show-cart-requires : tie.Need-show-cart-requires Inv-loop μ-loop
 show-cart-requires c κs = let t = c .before .before .before in
     let s = t .before .before .before .before .before in
     ((s .pre .0 .0, within-128 (c .before)), length-lent 80 (t .loop .i) (t .loop .output) (omega arith))
 
--- src/output.rt:48:9
 add-found : tie.Need-add-found Inv-loop μ-loop
 add-found c = let m = one-at-most _ _ (c .before .before .show-cart .ensures .0) in omega arith
 
--- src/output.rt:49:9
 add-i : tie.Need-add-i Inv-loop μ-loop
 add-i c = omega arith
 
--- src/output.rt:44:5
 loop-less : tie.Need-loop-less Inv-loop μ-loop
 loop-less c = omega arith
 
--- src/output.rt:44:5
 loop-again : tie.Need-loop-again Inv-loop μ-loop
 loop-again c = let y = c .before .before in
     let u = y .before .before in
@@ -124,11 +103,9 @@ loop-again c = let y = c .before .before in
       shown-more (g .copy .now) (g .request .now) _ i (t .loop .output) (y .show-cart .last .1 .1 .0) h (omega arith) k (t .loop .inv .4) (cart ∙ ap (cartAt (g .copy .now)) e),
     )
 
--- src/output.rt:35:1
 same-length : tie.Need-same-length Inv-loop μ-loop
 same-length c = c .before .loop .inv .1
 
--- src/output.rt:35:1
 returns : tie.Need-returns Inv-loop μ-loop
 returns c = let t = c .before in
     let g = t .before .before .before .before .before .args in

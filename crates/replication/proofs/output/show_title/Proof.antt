@@ -8,47 +8,31 @@ use Rattle.replication.proofs.OutputLaws.{title-found, title-not-one, o
 use borrow.Author.Needs.{needs}
 use Rattle.replication.proofs.output.show_title.Statement.{statement}
 use Rattle.replication.proofs.output.show_title.Tie as tie
-use Rattle.replication.proofs.output.show_title.Reads as reads
-use Rattle.replication.proofs.output.show_title.Lts as lts
-use Rattle.carts.proofs.bytes.clear.Reads as clear-reads
-use Rattle.carts.proofs.bytes.copy_all.Reads as copy-all-reads
-use Rattle.carts.proofs.cart.cart_at.Reads as cart-at-reads
-use Rattle.carts.proofs.titles.found_count.Reads as found-count-reads
-use Rattle.carts.proofs.titles.search.Reads as search-reads
 
--- src/output.rt:60:9
 search-requires : tie.Need-search-requires
 search-requires c κs = search needs
 
--- src/output.rt:61:20
 enum-known-found : tie.Need-enum-known-found
 enum-known-found c = search needs
 
--- src/output.rt:62:22
 sub-clear : tie.Need-sub-clear
 sub-clear c = search needs
 
--- src/output.rt:62:22
 part-clear-start : tie.Need-part-clear-start
 part-clear-start c = search needs
 
--- src/output.rt:62:22
 part-clear-end : tie.Need-part-clear-end
 part-clear-end c = search needs
 
--- src/output.rt:62:9
 clear-requires : tie.Need-clear-requires
 clear-requires c κs = search needs
 
--- src/output.rt:63:9
 found-count-requires : tie.Need-found-count-requires
 found-count-requires c κs = search needs
 
--- src/output.rt:63:9
 same-length : tie.Need-same-length
 same-length c = search needs
 
--- src/output.rt:63:9
 returns : tie.Need-returns
 returns c = let m = c .before .before .before .before .before in
     let s = m .before .before .before .before .before in
@@ -58,32 +42,25 @@ returns c = let m = c .before .before .before .before .before in
       ap (λ (ys : List ℕ). ys ++ drop 80 out) (c .before .before .before .clear .ensures ∙ ap zeros (length-take-le 80 out (s .pre .1 .1)) ∙ title-not-one (s .args .copy .now) (s .args .title .now) _ found (m .match .keys2)),
     )
 
--- src/output.rt:65:9
 cart-at-requires : tie.Need-cart-at-requires
 cart-at-requires c κs = let s = c .before .before .before .before .before .before .before in
     (s .pre .0, one-within (s .args .copy .now) (s .args .title .now) _ (c .before .before .before .search .ensures) _ (c .before .found .given .1))
 
--- src/output.rt:66:21
 sub-copy-all : tie.Need-sub-copy-all
 sub-copy-all c = search needs
 
--- src/output.rt:66:21
 part-copy-all-start : tie.Need-part-copy-all-start
 part-copy-all-start c = search needs
 
--- src/output.rt:66:21
 part-copy-all-end : tie.Need-part-copy-all-end
 part-copy-all-end c = search needs
 
--- src/output.rt:66:5
 copy-all-requires : tie.Need-copy-all-requires
 copy-all-requires c κs = search needs
 
--- src/output.rt:55:1
 same-length-2 : tie.Need-same-length-2
 same-length-2 c = search needs
 
--- src/output.rt:55:1
 returns-2 : tie.Need-returns-2
 returns-2 c = let k = c .before .before .before .before .before .before in
     let s = k .before .before .before .before .before .before in

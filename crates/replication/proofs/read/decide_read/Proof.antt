@@ -13,21 +13,11 @@ use Rattle.replication.proofs.ReadLaws.{ReadRest, waits-is, needs-is, r
 use borrow.Author.Needs.{needs}
 use Rattle.replication.proofs.read.decide_read.Statement.{statement}
 use Rattle.replication.proofs.read.decide_read.Tie as tie
-use Rattle.replication.proofs.read.decide_read.Reads as reads
-use Rattle.replication.proofs.read.decide_read.Lts as lts
-use Rattle.replication.proofs.session.session_at.Reads as session-at-reads
-use Rattle.replication.proofs.rows.stopped_by_session.Reads as stopped-by-session-reads
-use Rattle.replication.proofs.session.Session.from_bytes.Reads as from-bytes-reads
-use Rattle.replication.proofs.session.Session.is_waiting.Reads as is-waiting-reads
-use Rattle.replication.proofs.session.Session.needed.Reads as needed-reads
-use Rattle.replication.proofs.session.is_request.Reads as is-request-reads
 
--- src/read.rt:61:9
 returns : tie.Need-returns
 unfolding readRows
 returns c = by-first _ _ _ _ (session-numbered _ _) _ (c .before .stopped-by-session .ensures) (c .if1 .taken)
 
--- src/read.rt:63:9
 stopped-by-session-requires : tie.Need-stopped-by-session-requires
 stopped-by-session-requires c κs = search needs
 
@@ -41,15 +31,12 @@ rest : (c : tie.Else1) → let g = c .before .before .before .before .before .be
 unfolding readRows
 rest c n e = by-rest _ _ _ _ (session-numbered _ _) _ (c .before .stopped-by-session .ensures) (c .if1 .left) n e
 
--- src/read.rt:67:35
 session-at-requires : tie.Need-session-at-requires
 session-at-requires c κs = placed c
 
--- src/read.rt:67:9
 from-bytes-requires : tie.Need-from-bytes-requires
 from-bytes-requires c κs = search needs
 
--- src/read.rt:68:8
 is-waiting-requires : tie.Need-is-waiting-requires
 is-waiting-requires c κs = search needs
 
@@ -57,28 +44,22 @@ own-waits : (c : tie.After-is-waiting) → let g = c .before .before .before .be
 own-waits c = let b = c .before in
     waits-is _ _ (b .from-bytes .ensures ∙ ap sessionValue (b .before .session-at .ensures .0)) _ (c .is-waiting .ensures)
 
--- src/read.rt:69:9
 returns-2 : tie.Need-returns-2
 returns-2 c = rest (c .before .before .before .before) 4 (read-waiting _ _ _ (own-waits (c .before) ∙ c .if2 .taken))
 
--- src/read.rt:71:9
 is-request-requires : tie.Need-is-request-requires
 is-request-requires c κs = search needs
 
--- src/read.rt:72:9
 returns-3 : tie.Need-returns-3
 returns-3 c = let w = c .before .before in
     rest (w .before .before .before .before) 12 (read-unformed _ _ _ (own-waits (w .before) ∙ w .if2 .left) (sym (c .before .is-request .ensures) ∙ not-true (c .before .is-request .result) (c .if3 .taken)))
 
--- src/read.rt:74:9
 from-bytes-requires-2 : tie.Need-from-bytes-requires-2
 from-bytes-requires-2 c κs = request-parts _ (sym (c .before .is-request .ensures) ∙ not-false (c .before .is-request .result) (c .if3 .left)) .0
 
--- src/read.rt:75:15
 needed-requires : tie.Need-needed-requires
 needed-requires c κs = search needs
 
--- src/read.rt:76:9
 returns-4 : tie.Need-returns-4
 returns-4 c = let n = c .before in
     let f = n .before .before in
@@ -86,7 +67,6 @@ returns-4 c = let n = c .before in
     rest (w .before .before .before .before) 13 (read-no-room _ _ _ (own-waits (w .before) ∙ w .if2 .left)
     (sym (f .before .is-request .ensures) ∙ not-false (f .before .is-request .result) (f .if3 .left)) _ (needs-is _ _ (n .before .from-bytes2 .ensures) _ (n .needed .ensures)) (c .if4 .taken))
 
--- src/read.rt:47:1
 returns-5 : tie.Need-returns-5
 returns-5 c = let n = c .before in
     let f = n .before .before in

@@ -2,10 +2,7 @@ use mathlib.Core.Path.{refl}
 use Rattle.replication.specs.Calls.{numberAfter}
 use Rattle.replication.proofs.read.number_after.Statement.{statement}
 use Rattle.replication.proofs.read.number_after.Tie as tie
-use Rattle.replication.proofs.read.number_after.Reads as reads
-use Rattle.replication.proofs.read.number_after.Lts as lts
 
--- src/read.rt:30:1
 returns : tie.Need-returns
 unfolding numberAfter
 returns c = (refl, c .pre .0)

@@ -7,24 +7,13 @@ use Rattle.replication.proofs.ReadLaws.{Caller, Asked, call-caller, due
 use borrow.Author.Needs.{needs}
 use Rattle.replication.proofs.read.read.Statement.{statement}
 use Rattle.replication.proofs.read.read.Tie as tie
-use Rattle.replication.proofs.read.read.Reads as reads
-use Rattle.replication.proofs.read.read.Lts as lts
-use Rattle.replication.proofs.output.answer.Reads as answer-reads
-use Rattle.replication.proofs.read.Due.at.Reads as at-reads
-use Rattle.replication.proofs.read.decide_read.Reads as decide-read-reads
-use Rattle.replication.proofs.read.number_after.Reads as number-after-reads
-use Rattle.replication.proofs.session.put_number.Reads as put-number-reads
-use Rattle.replication.proofs.session.store.Reads as store-reads
 
--- src/read.rt:135:9
 decide-read-requires : tie.Need-decide-read-requires
 decide-read-requires c κs = search needs
 
--- src/read.rt:137:9
 same-length : tie.Need-same-length
 same-length c = search needs
 
--- src/read.rt:137:9
 returns : tie.Need-returns
 unfolding readRows
 returns c = let d = c .before in
@@ -44,24 +33,20 @@ asks c = let d = c .before in
     let g = d .before .before .before .before .before .before .before .args in
     read-asks (g .control) (memory (g .library .now) (g .log .now) (g .sessions .now)) (g .session) (g .request .now) (g .output .now) _ (d .decide-read .ensures) (c .if1 .left)
 
--- src/read.rt:142:9
 at-requires : tie.Need-at-requires
 at-requires c κs = let w = who (c .before) in (w .place, w .studio)
 
 few : (c : tie.After-at) → (c .at .result .studio ≤ 4) × (c .at .result .state < 65536)
 few c = let g = c .before .before .before .before .before .before .before .before .before .before .args in due-known (g .control) (memory (g .library .now) (g .log .now) (g .sessions .now)) (g .session) _ (c .at .ensures .0) (who (c .before .before))
 
--- src/read.rt:144:9
 store-requires : tie.Need-store-requires
 store-requires c κs = let a = c .before .before .before in
     let l = a .at .ensures .1 in
     (who (a .before .before) .place, (asks (a .before .before) .size, omega arith))
 
--- src/read.rt:145:9
 same-length-2 : tie.Need-same-length-2
 same-length-2 c = search needs
 
--- src/read.rt:145:9
 returns-2 : tie.Need-returns-2
 unfolding readRows
 returns-2 c = let y = c .before .before in
@@ -72,30 +57,24 @@ returns-2 c = let y = c .before .before in
     read-waits (g .control) (memory (g .library .now) (g .log .now) (g .sessions .now)) (g .session) (g .request .now) (g .output .now) _ (d .decide-read .ensures) (a .before .before .if1 .left) _ (a .at .ensures .0)
     (t .if2 .taken) _ (y .store .ensures)
 
--- src/read.rt:150:9
 answer-requires : tie.Need-answer-requires
 answer-requires c κs = let a = c .before .before .before in
     let x = asks (a .before .before) in
     let l = few a .0 in
     ((who (a .before .before) .library, (omega arith, x .size)), (x .fields, x .fits))
 
--- src/read.rt:151:9
 number-after-requires : tie.Need-number-after-requires
 number-after-requires c κs = let a = c .before .before .before .before .before .before in (a .at .ensures .1, few a .1)
 
--- src/read.rt:152:5
 put-number-requires : tie.Need-put-number-requires
 put-number-requires c κs = let n = c .before in (who (n .before .before .before .before .before .before .before .before .before) .place, n .number-after .ensures .1)
 
--- src/read.rt:122:1
 same-length-3 : tie.Need-same-length-3
 same-length-3 c = search needs
 
--- src/read.rt:122:1
 same-length-4 : tie.Need-same-length-4
 same-length-4 c = search needs
 
--- src/read.rt:122:1
 returns-3 : tie.Need-returns-3
 unfolding readRows
 returns-3 c = let y = c .before .before in

@@ -7,34 +7,25 @@ use Rattle.replication.specs.Memory.{recordAt}
 use borrow.Author.Needs.{needs}
 use Rattle.replication.proofs.record.record_at.Statement.{statement}
 use Rattle.replication.proofs.record.record_at.Tie as tie
-use Rattle.replication.proofs.record.record_at.Reads as reads
-use Rattle.replication.proofs.record.record_at.Lts as lts
 
--- src/record.rt:41:33
 sub-start : tie.Need-sub-start
 sub-start c = search needs
 
--- src/record.rt:41:17
 mul-start : tie.Need-mul-start
 mul-start c = search needs
 
--- src/record.rt:42:17
 add-result : tie.Need-add-result
 add-result c = search needs
 
--- src/record.rt:42:5
 sub-result : tie.Need-sub-result
 sub-result c = search needs
 
--- src/record.rt:42:5
 part-result-start : tie.Need-part-result-start
 part-result-start c = search needs
 
--- src/record.rt:42:5
 part-result-end : tie.Need-part-result-end
 part-result-end c = search needs
 
--- src/record.rt:37:1
 returns : tie.Need-returns
 unfolding recordAt
 returns c = let a = c .before .args in

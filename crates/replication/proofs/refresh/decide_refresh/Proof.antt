@@ -10,18 +10,11 @@ use Rattle.replication.proofs.RefreshLaws.{RefreshRest, none-left, some
 use borrow.Author.Needs.{needs}
 use Rattle.replication.proofs.refresh.decide_refresh.Statement.{statement}
 use Rattle.replication.proofs.refresh.decide_refresh.Tie as tie
-use Rattle.replication.proofs.refresh.decide_refresh.Reads as reads
-use Rattle.replication.proofs.refresh.decide_refresh.Lts as lts
-use Rattle.replication.proofs.control.Control.applied_by.Reads as applied-by-reads
-use Rattle.replication.proofs.control.Control.sent_to.Reads as sent-to-reads
-use Rattle.replication.proofs.rows.stopped_by_studio.Reads as stopped-by-studio-reads
 
--- src/refresh.rt:30:9
 returns : tie.Need-returns
 unfolding refreshRows
 returns c = by-first _ _ _ _ (studio-numbered _ _) _ (c .before .stopped-by-studio .ensures) (c .if1 .taken)
 
--- src/refresh.rt:32:9
 stopped-by-studio-requires : tie.Need-stopped-by-studio-requires
 stopped-by-studio-requires c κs = search needs
 
@@ -35,20 +28,16 @@ rest : (c : tie.Else1) → let g = c .before .before .before .before .before .ar
 unfolding refreshRows
 rest c n e = by-rest _ _ _ _ (studio-numbered _ _) _ (c .before .stopped-by-studio .ensures) (c .if1 .left) n e
 
--- src/refresh.rt:36:8
 sent-to-requires : tie.Need-sent-to-requires
 sent-to-requires c κs = known c
 
--- src/refresh.rt:36:35
 applied-by-requires : tie.Need-applied-by-requires
 applied-by-requires c κs = known (c .before)
 
--- src/refresh.rt:37:9
 returns-2 : tie.Need-returns-2
 returns-2 c = let a = c .before in
     rest (a .before .before) 11 (none-left _ _ (sym (a .before .sent-to .ensures) ∙ c .if2 .taken ∙ a .applied-by .ensures))
 
--- src/refresh.rt:18:1
 returns-3 : tie.Need-returns-3
 returns-3 c = let a = c .before in
     rest (a .before .before) 0 (some-left _ _ (λ z. c .if2 .left (a .before .sent-to .ensures ∙ z ∙ sym (a .applied-by .ensures))))

@@ -1,5 +1,5 @@
-use mathlib.Core.Path.{_≡_, sym, ap, _∙_}
-use Prim.Native.Nat.{ℕ, _+_, _*_}
+use mathlib.Core.Path.{ap}
+use Prim.Native.Nat.{ℕ, _+_}
 use native.Mathlib.Omega.{arith}
 use Rattle.replication.specs.Rows.{refreshRows}
 use Rattle.replication.specs.Memory.{memory}
@@ -8,23 +8,13 @@ use Rattle.replication.proofs.RefreshLaws.{Refreshable, refresh-refused
 use borrow.Author.Needs.{needs}
 use Rattle.replication.proofs.refresh.refresh.Statement.{statement}
 use Rattle.replication.proofs.refresh.refresh.Tie as tie
-use Rattle.replication.proofs.refresh.refresh.Reads as reads
-use Rattle.replication.proofs.refresh.refresh.Lts as lts
-use Rattle.replication.proofs.control.Control.applied_by.Reads as applied-by-reads
-use Rattle.replication.proofs.control.Control.with_applied.Reads as with-applied-reads
-use Rattle.replication.proofs.refresh.decide_refresh.Reads as decide-refresh-reads
-use Rattle.replication.proofs.transaction.apply_transaction.Reads as apply-transaction-reads
-use Rattle.replication.proofs.walk.walk_far.Reads as walk-far-reads
 
--- src/refresh.rt:53:9
 decide-refresh-requires : tie.Need-decide-refresh-requires
 decide-refresh-requires c κs = search needs
 
--- src/refresh.rt:55:9
 same-length : tie.Need-same-length
 same-length c = search needs
 
--- src/refresh.rt:55:9
 returns : tie.Need-returns
 unfolding refreshRows
 returns c = refresh-refused _ _ _ _ (c .before .decide-refresh .ensures) (c .if1 .taken)
@@ -33,54 +23,42 @@ known : (c : tie.Else1) → let g = c .before .before .before .before .before .b
 unfolding refreshRows
 known c = refresh-known _ _ _ _ (c .before .decide-refresh .ensures) (c .if1 .left)
 
--- src/refresh.rt:60:9
 applied-by-requires : tie.Need-applied-by-requires
 applied-by-requires c κs = let k = known c in (k .low, k .high)
 
--- src/refresh.rt:61:9
 walk-far-requires : tie.Need-walk-far-requires
 walk-far-requires c κs = let k = known (c .before) in (k .log, rw (c .applied-by .ensures) (k .walks))
 
--- src/refresh.rt:62:17
 mul-start : tie.Need-mul-start
 mul-start c = search needs
 
--- src/refresh.rt:63:15
 add-end : tie.Need-add-end
 add-end c = search needs
 
--- src/refresh.rt:64:36
 sub-apply-transaction : tie.Need-sub-apply-transaction
 sub-apply-transaction c = search needs
 
--- src/refresh.rt:64:36
 part-apply-transaction-start : tie.Need-part-apply-transaction-start
 part-apply-transaction-start c = search needs
 
--- src/refresh.rt:64:36
 part-apply-transaction-end : tie.Need-part-apply-transaction-end
 part-apply-transaction-end c = let k = known (c .before .before) in omega (arith, k .library, k .high)
 
--- src/refresh.rt:64:5
 apply-transaction-requires : tie.Need-apply-transaction-requires
 apply-transaction-requires c κs = let w = c .before in
     let k = known (w .before .before) in
     let g = c .before .before .before .before .before .before .before .before .before .args in
     (length-lent 10240 (g .studio) (g .library .now) (omega (arith, k .library, k .high)), (k .log, rw (w .walk-far .ensures, w .before .applied-by .ensures) (k .acts)))
 
--- src/refresh.rt:65:13
 add-n : tie.Need-add-n
 add-n c = let k = known (c .before .before .before .before .before .before) in omega (arith, k .few, c .before .before .before .before .before .applied-by .ensures)
 
--- src/refresh.rt:68:18
 with-applied-requires : tie.Need-with-applied-requires
 with-applied-requires c κs = let k = known (c .before .before .before .before .before .before) in (k .low, k .high)
 
--- src/refresh.rt:43:1
 same-length-2 : tie.Need-same-length-2
 same-length-2 c = search needs
 
--- src/refresh.rt:43:1
 returns-2 : tie.Need-returns-2
 unfolding refreshRows
 returns-2 c = let t = c .before .before .before in

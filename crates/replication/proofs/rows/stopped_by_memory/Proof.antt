@@ -1,36 +1,27 @@
 use mathlib.Core.Bool.{true}
 use Rattle.replication.specs.Memory.{memory, lengthsForm}
-use mathlib.Core.Path.{_≡_, refl, sym, ap, _∙_}
+use mathlib.Core.Path.{_≡_, sym, _∙_}
 use borrow.Author.Tests.{not-true, not-false}
 use Rattle.replication.proofs.RowLaws.{lengths-wrong, layout-wrong, memory-right, lengths-are}
 use borrow.Author.Needs.{needs}
 use Rattle.replication.proofs.rows.stopped_by_memory.Statement.{statement}
 use Rattle.replication.proofs.rows.stopped_by_memory.Tie as tie
-use Rattle.replication.proofs.rows.stopped_by_memory.Reads as reads
-use Rattle.replication.proofs.rows.stopped_by_memory.Lts as lts
-use Rattle.replication.proofs.layout.is_layout.Reads as is-layout-reads
-use Rattle.replication.proofs.rows.are_lengths.Reads as are-lengths-reads
 
--- src/rows.rt:26:9
 are-lengths-requires : tie.Need-are-lengths-requires
 are-lengths-requires c κs = search needs
 
--- src/rows.rt:27:9
 returns : tie.Need-returns
 returns c = lengths-wrong _ _ (sym (c .before .are-lengths .ensures) ∙ not-true (c .before .are-lengths .result) (c .if1 .taken))
 
 right : (c : tie.Else1) → lengthsForm (memory (c .before .before .before .before .before .args .library .now) (c .before .before .before .before .before .args .log .now) (c .before .before .before .before .before .args .sessions .now)) ≡ true
 right c = sym (c .before .are-lengths .ensures) ∙ not-false (c .before .are-lengths .result) (c .if1 .left)
 
--- src/rows.rt:29:9
 is-layout-requires : tie.Need-is-layout-requires
 is-layout-requires c κs = lengths-are _ (right c)
 
--- src/rows.rt:30:9
 returns-2 : tie.Need-returns-2
 returns-2 c = layout-wrong _ _ (right (c .before .before)) (sym (c .before .is-layout .ensures) ∙ not-true (c .before .is-layout .result) (c .if2 .taken))
 
--- src/rows.rt:23:1
 returns-3 : tie.Need-returns-3
 returns-3 c = memory-right _ _ (right (c .before .before)) (sym (c .before .is-layout .ensures) ∙ not-false (c .before .is-layout .result) (c .if2 .left))
 

@@ -1,12 +1,7 @@
-use Rattle.replication.proofs.RowLaws.{studio-numbered}
 use Rattle.replication.proofs.DecideLaws.{by-memory, by-who}
 use borrow.Author.Needs.{needs}
 use Rattle.replication.proofs.rows.stopped_by_studio.Statement.{statement}
 use Rattle.replication.proofs.rows.stopped_by_studio.Tie as tie
-use Rattle.replication.proofs.rows.stopped_by_studio.Reads as reads
-use Rattle.replication.proofs.rows.stopped_by_studio.Lts as lts
-use Rattle.replication.proofs.rows.stopped_by_memory.Reads as stopped-by-memory-reads
-use Rattle.replication.proofs.rows.studio_row.Reads as studio-row-reads
 
 stopped-by-memory-requires : tie.Need-stopped-by-memory-requires
 stopped-by-memory-requires c κs = search needs

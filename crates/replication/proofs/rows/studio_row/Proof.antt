@@ -1,19 +1,13 @@
-use mathlib.Core.Path.{_≡_, refl, sym, ap, _∙_}
 use Rattle.replication.proofs.RowLaws.{studio-low, studio-high, studio-right}
 use Rattle.replication.proofs.rows.studio_row.Statement.{statement}
 use Rattle.replication.proofs.rows.studio_row.Tie as tie
-use Rattle.replication.proofs.rows.studio_row.Reads as reads
-use Rattle.replication.proofs.rows.studio_row.Lts as lts
 
--- src/rows.rt:56:9
 returns : tie.Need-returns
 returns c = studio-low _ _ (c .if1 .taken)
 
--- src/rows.rt:59:9
 returns-2 : tie.Need-returns-2
 returns-2 c = studio-high _ _ (c .if2 .taken)
 
--- src/rows.rt:52:1
 returns-3 : tie.Need-returns-3
 returns-3 c = studio-right _ _ (c .before .if1 .left) (c .if2 .left)
 

@@ -11,18 +11,11 @@ use Rattle.replication.proofs.SendLaws.{SendRest, all-sent, window-full
 use borrow.Author.Needs.{needs}
 use Rattle.replication.proofs.send.decide_send.Statement.{statement}
 use Rattle.replication.proofs.send.decide_send.Tie as tie
-use Rattle.replication.proofs.send.decide_send.Reads as reads
-use Rattle.replication.proofs.send.decide_send.Lts as lts
-use Rattle.replication.proofs.control.Control.applied_by.Reads as applied-by-reads
-use Rattle.replication.proofs.control.Control.sent_to.Reads as sent-to-reads
-use Rattle.replication.proofs.rows.stopped_by_studio.Reads as stopped-by-studio-reads
 
--- src/send.rt:27:9
 returns : tie.Need-returns
 unfolding sendRows
 returns c = by-first _ _ _ _ (studio-numbered _ _) _ (c .before .stopped-by-studio .ensures) (c .if1 .taken)
 
--- src/send.rt:29:9
 stopped-by-studio-requires : tie.Need-stopped-by-studio-requires
 stopped-by-studio-requires c κs = search needs
 
@@ -36,21 +29,17 @@ rest : (c : tie.Else1) → let g = c .before .before .before .before .before .ar
 unfolding sendRows
 rest c n e = by-rest _ _ _ _ (studio-numbered _ _) _ (c .before .stopped-by-studio .ensures) (c .if1 .left) n e
 
--- src/send.rt:33:9
 sent-to-requires : tie.Need-sent-to-requires
 sent-to-requires c κs = known c .0
 
--- src/send.rt:34:9
 applied-by-requires : tie.Need-applied-by-requires
 applied-by-requires c κs = known (c .before) .0
 
--- src/send.rt:36:9
 returns-2 : tie.Need-returns-2
 unfolding sendRows
 returns-2 c = let a = c .before .before in
     rest (a .before .before) 9 (all-sent _ _ _ (sym (a .before .sent-to .ensures) ∙ c .if2 .taken))
 
--- src/send.rt:38:8
 sub-if3 : tie.Need-sub-if3
 sub-if3 c = let a = c .before .before in
     let k = known (a .before .before) .1 in
@@ -58,14 +47,12 @@ sub-if3 c = let a = c .before .before in
     let f = a .applied-by .ensures in
     omega (arith, k .order)
 
--- src/send.rt:39:9
 returns-3 : tie.Need-returns-3
 unfolding sendRows
 returns-3 c = let a = c .before .before .before in
     let e = a .before .sent-to .ensures in
     rest (a .before .before) 10 (window-full _ _ _ (λ z. c .before .if2 .left (e ∙ z)) (sym (ap₂ (λ (x y : ℕ). x - y) e (a .applied-by .ensures)) ∙ c .if3 .taken))
 
--- src/send.rt:15:1
 returns-4 : tie.Need-returns-4
 unfolding sendRows
 returns-4 c = let a = c .before .before .before in

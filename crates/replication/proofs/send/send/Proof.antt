@@ -7,17 +7,10 @@ use Rattle.replication.proofs.SendLaws.{send-refused, send-known, send-
 use borrow.Author.Needs.{needs}
 use Rattle.replication.proofs.send.send.Statement.{statement}
 use Rattle.replication.proofs.send.send.Tie as tie
-use Rattle.replication.proofs.send.send.Reads as reads
-use Rattle.replication.proofs.send.send.Lts as lts
-use Rattle.replication.proofs.control.Control.sent_to.Reads as sent-to-reads
-use Rattle.replication.proofs.control.Control.with_sent.Reads as with-sent-reads
-use Rattle.replication.proofs.send.decide_send.Reads as decide-send-reads
 
--- src/send.rt:55:9
 decide-send-requires : tie.Need-decide-send-requires
 decide-send-requires c κs = search needs
 
--- src/send.rt:57:9
 returns : tie.Need-returns
 unfolding sendRows
 returns c = send-refused _ _ _ _ (c .before .decide-send .ensures) (c .if1 .taken)
@@ -26,19 +19,15 @@ known : (c : tie.Else1) → let g = c .before .before .before .before .before .a
 unfolding sendRows
 known c = send-known _ _ _ _ (c .before .decide-send .ensures) (c .if1 .left)
 
--- src/send.rt:62:13
 sent-to-requires : tie.Need-sent-to-requires
 sent-to-requires c κs = known c .0
 
--- src/send.rt:62:13
 add-n : tie.Need-add-n
 add-n c = let k = known (c .before) .1 in omega (arith, c .sent-to .ensures)
 
--- src/send.rt:65:18
 with-sent-requires : tie.Need-with-sent-requires
 with-sent-requires c κs = known (c .before) .0
 
--- src/send.rt:45:1
 returns-2 : tie.Need-returns-2
 unfolding sendRows
 returns-2 c = let s = c .before in

@@ -1,7 +1,7 @@
 use native.Mathlib.Nat.{sub-zero}
 -- The loop tests the numbers one by one.
-use Prim.Native.Nat.{ℕ, _≤_, _+_, _-_, _*_}
-use mathlib.Core.Path.{_≡_, refl, sym, ap, _∙_}
+use Prim.Native.Nat.{_≤_, _-_, _*_}
+use mathlib.Core.Path.{_≡_, sym, ap, _∙_}
 use mathlib.Core.Bool.{_&&_}
 use native.Mathlib.Omega.{arith}
 use lib.ListN.{drop}
@@ -10,12 +10,6 @@ use Rattle.replication.specs.Request.{numbersIn}
 use Rattle.replication.proofs.RequestLaws.{numbers-few, numbers-many, numbers-more, numbers-end, numbers-are, numbers-rest}
 use Rattle.replication.proofs.session.is_numbers.Statement.{statement}
 use Rattle.replication.proofs.session.is_numbers.Tie as tie
-use Rattle.replication.proofs.session.is_numbers.Reads as reads
-use Rattle.replication.proofs.session.is_numbers.Lts as lts
-use Rattle.carts.proofs.bytes.all_zero.Reads as all-zero-reads
-use Rattle.carts.proofs.bytes.byte_at.Reads as byte-at-reads
-use Rattle.carts.proofs.bytes.is_within.Reads as is-within-reads
-use Rattle.carts.proofs.bytes.u16_at.Reads as u16-at-reads
 
 abbrev Inv-loop : tie.InvT-loop
 Inv-loop x n ok₀ i₀ ok i = (i ≤ n) × (every (within 1 128) (numbersIn x) ≡ (ok && every (within 1 128) (u16s (n - i) (drop (2 * i) (drop 16 x)))))
@@ -23,23 +17,18 @@ Inv-loop x n ok₀ i₀ ok i = (i ≤ n) × (every (within 1 128) (numbersIn x) 
 abbrev μ-loop : tie.MeasureT-loop
 μ-loop x n ok₀ i₀ ok i = n - i
 
--- src/session.rt:87:13
 byte-at-requires : tie.Need-byte-at-requires Inv-loop μ-loop
 byte-at-requires c κs = omega arith
 
--- src/session.rt:87:13
 cast-n : tie.Need-cast-n Inv-loop μ-loop
 cast-n c = omega arith
 
--- src/session.rt:89:9
 returns : tie.Need-returns Inv-loop μ-loop
 returns c = let b = c .before in numbers-few (b .before .before .args .x .now) (b .byte-at .result) (b .byte-at .ensures .0) (c .if1 .taken)
 
--- src/session.rt:92:9
 returns-2 : tie.Need-returns-2 Inv-loop μ-loop
 returns-2 c = let b = c .before .before in numbers-many (b .before .before .args .x .now) (b .byte-at .result) (b .byte-at .ensures .0) (c .if2 .taken)
 
--- src/session.rt:96:5
 loop-holds : tie.Need-loop-holds Inv-loop μ-loop
 unfolding numbersIn
 loop-holds c = let b = c .before .before in
@@ -47,62 +36,48 @@ loop-holds c = let b = c .before .before in
     let z : b .byte-at .result - 0 ≡ byte x 1 = sub-zero _ ∙ b .byte-at .ensures .0 in
     (omega arith, rw z)
 
--- src/session.rt:97:62
 mul-u16-at : tie.Need-mul-u16-at Inv-loop μ-loop
 mul-u16-at c = omega arith
 
--- src/session.rt:97:57
 add-u16-at : tie.Need-add-u16-at Inv-loop μ-loop
 add-u16-at c = omega arith
 
--- src/session.rt:97:40
 u16-at-requires : tie.Need-u16-at-requires Inv-loop μ-loop
 u16-at-requires c κs = omega arith
 
--- src/session.rt:97:15
 is-within-requires : tie.Need-is-within-requires Inv-loop μ-loop
 is-within-requires c κs = tt
 
--- src/session.rt:98:9
 add-i : tie.Need-add-i Inv-loop μ-loop
 add-i c = omega arith
 
--- src/session.rt:96:5
 loop-less : tie.Need-loop-less Inv-loop μ-loop
 loop-less c = omega arith
 
--- src/session.rt:96:5
 loop-again : tie.Need-loop-again Inv-loop μ-loop
 loop-again c = let t = c .before .before .before in
     let x = t .before .before .before .before .before .args .x .now in
     let e = c .is-within .ensures ∙ ap (within 1 128) (c .before .u16-at .ensures .0) in
     (omega arith, numbers-more (within 1 128) x _ (t .loop .i) (t .loop .ok) (t .loop .inv .1) (c .before .before .loop-test .taken) (ap (λ b. t .loop .ok && b) e))
 
--- src/session.rt:100:20
 mul-end : tie.Need-mul-end Inv-loop μ-loop
 mul-end c = omega arith
 
--- src/session.rt:100:15
 add-end : tie.Need-add-end Inv-loop μ-loop
 add-end c = omega arith
 
--- src/session.rt:101:26
 sub-all-zero : tie.Need-sub-all-zero Inv-loop μ-loop
 sub-all-zero c = omega arith
 
--- src/session.rt:101:26
 part-all-zero-start : tie.Need-part-all-zero-start Inv-loop μ-loop
 part-all-zero-start c = omega arith
 
--- src/session.rt:101:26
 part-all-zero-end : tie.Need-part-all-zero-end Inv-loop μ-loop
 part-all-zero-end c = omega arith
 
--- src/session.rt:101:10
 all-zero-requires : tie.Need-all-zero-requires Inv-loop μ-loop
 all-zero-requires c κs = tt
 
--- src/session.rt:83:1
 returns-3 : tie.Need-returns-3 Inv-loop μ-loop
 returns-3 c = let t = c .before .before .before in
     let b = t .before .before .before in

@@ -1,38 +1,27 @@
 use borrow.Author.Tests.{eq-eqb, ne-eqb}
-use mathlib.Core.Path.{_≡_, refl, sym, ap, ap₂, _∙_}
 use Rattle.replication.specs.Request.{requestFields}
 use Rattle.carts.specs.Cart.{hasTitle}
 use borrow.Author.Needs.{needs}
 use Rattle.replication.proofs.session.is_read.Statement.{statement}
 use Rattle.replication.proofs.session.is_read.Tie as tie
-use Rattle.replication.proofs.session.is_read.Reads as reads
-use Rattle.replication.proofs.session.is_read.Lts as lts
-use Rattle.carts.proofs.cart.is_title_as_asked.Reads as is-title-as-asked-reads
-use Rattle.replication.proofs.session.is_numbers.Reads as is-numbers-reads
 
--- src/session.rt:109:16
 shared-slice-read-kind : tie.Need-shared-slice-read-kind
 shared-slice-read-kind c = search needs
 
--- src/session.rt:111:9
 is-numbers-requires : tie.Need-is-numbers-requires
 is-numbers-requires c κs = search needs
 
--- src/session.rt:111:9
 returns : tie.Need-returns
 unfolding requestFields
 returns c = simp (c .is-numbers .ensures, eq-eqb _ _ (c .before .if1 .taken))
 
--- src/session.rt:114:9
 is-title-as-asked-requires : tie.Need-is-title-as-asked-requires
 is-title-as-asked-requires c κs = search needs
 
--- src/session.rt:114:9
 returns-2 : tie.Need-returns-2
 unfolding requestFields hasTitle
 returns-2 c = simp (c .is-title-as-asked .ensures, eq-eqb _ _ (c .before .if2 .taken), ne-eqb _ _ (c .before .before .if1 .left))
 
--- src/session.rt:105:1
 returns-3 : tie.Need-returns-3
 unfolding requestFields
 returns-3 c = simp (ne-eqb _ _ (c .if2 .left), ne-eqb _ _ (c .before .if1 .left))

@@ -1,42 +1,30 @@
 use borrow.Author.Tests.{eq-eqb, ne-eqb}
-use mathlib.Core.Path.{_≡_, refl, sym, ap, ap₂, _∙_}
-use mathlib.Core.Bool.{_&&_, and-true}
+use mathlib.Core.Bool.{and-true}
 use Rattle.replication.specs.Request.{requestForm}
 use Rattle.carts.specs.Bytes.{all}
 use borrow.Author.Needs.{needs}
 use Rattle.replication.proofs.session.is_request.Statement.{statement}
 use Rattle.replication.proofs.session.is_request.Tie as tie
-use Rattle.replication.proofs.session.is_request.Reads as reads
-use Rattle.replication.proofs.session.is_request.Lts as lts
-use Rattle.carts.proofs.bytes.all_zero.Reads as all-zero-reads
-use Rattle.replication.proofs.session.is_read.Reads as is-read-reads
 
--- src/session.rt:124:9
 returns : tie.Need-returns
 unfolding requestForm all
 returns c = simp (ne-eqb _ _ (c .if1 .taken))
 
--- src/session.rt:126:5
 is-read-requires : tie.Need-is-read-requires
 is-read-requires c κs = search needs
 
--- src/session.rt:126:34
 sub-all-zero : tie.Need-sub-all-zero
 sub-all-zero c = search needs
 
--- src/session.rt:126:34
 part-all-zero-start : tie.Need-part-all-zero-start
 part-all-zero-start c = search needs
 
--- src/session.rt:126:34
 part-all-zero-end : tie.Need-part-all-zero-end
 part-all-zero-end c = search needs
 
--- src/session.rt:126:18
 all-zero-requires : tie.Need-all-zero-requires
 all-zero-requires c κs = search needs
 
--- src/session.rt:120:1
 returns-2 : tie.Need-returns-2
 unfolding requestForm all
 returns-2 c = simp (c .all-zero .ensures, c .before .before .is-read .ensures, eq-eqb _ _ (c .before .before .before .if1 .left), and-true)

@@ -3,55 +3,38 @@ use lib.Dec.{leb}
 use Rattle.carts.specs.Bytes.{part, u16, allZero}
 use Rattle.replication.specs.Layout.{waitingForm}
 use borrow.Author.Tests.{eq-eqb, ne-eqb}
-use mathlib.Core.Path.{_≡_, refl, sym, ap, ap₂, _∙_}
-use mathlib.Core.Bool.{_&&_, and-true}
 use Rattle.replication.specs.Values.{sessionFormOf}
 use Rattle.replication.specs.Memory.{sequenceOf}
-use Rattle.carts.specs.Bytes.{all}
-use Rattle.carts.proofs.ScanLaws.{join-all, joinAll}
+use Rattle.carts.proofs.ScanLaws.{join-all}
 use borrow.Author.Needs.{needs}
 use Rattle.replication.proofs.session.is_session.Statement.{statement}
 use Rattle.replication.proofs.session.is_session.Tie as tie
-use Rattle.replication.proofs.session.is_session.Reads as reads
-use Rattle.replication.proofs.session.is_session.Lts as lts
-use Rattle.carts.proofs.bytes.all_zero.Reads as all-zero-reads
-use Rattle.carts.proofs.bytes.u16_at.Reads as u16-at-reads
-use Rattle.replication.proofs.session.is_waiting_form.Reads as is-waiting-form-reads
 
--- src/session.rt:146:9
 all-zero-requires : tie.Need-all-zero-requires
 all-zero-requires c κs = search needs
 
--- src/session.rt:146:9
 returns : tie.Need-returns
 unfolding sessionFormOf
 returns c = simp (c .all-zero .ensures, eq-eqb _ _ (c .before .if1 .taken))
 
--- src/session.rt:148:6
 u16-at-requires : tie.Need-u16-at-requires
 u16-at-requires c κs = search needs
 
--- src/session.rt:148:56
 sub-all-zero : tie.Need-sub-all-zero
 sub-all-zero c = search needs
 
--- src/session.rt:148:56
 part-all-zero-start : tie.Need-part-all-zero-start
 part-all-zero-start c = search needs
 
--- src/session.rt:148:56
 part-all-zero-end : tie.Need-part-all-zero-end
 part-all-zero-end c = search needs
 
--- src/session.rt:148:40
 all-zero-requires-2 : tie.Need-all-zero-requires-2
 all-zero-requires-2 c κs = search needs
 
--- src/session.rt:148:69
 is-waiting-form-requires : tie.Need-is-waiting-form-requires
 is-waiting-form-requires c κs = search needs
 
--- src/session.rt:141:1
 returns-2 : tie.Need-returns-2
 unfolding sessionFormOf sequenceOf
 returns-2 c = let u = c .before .before .before in

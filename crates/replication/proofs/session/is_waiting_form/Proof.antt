@@ -1,33 +1,23 @@
 use borrow.Author.Tests.{eq-eqb, ne-eqb}
-use mathlib.Core.Path.{_≡_, refl, sym, ap, ap₂, _∙_}
 use Rattle.replication.specs.Layout.{waitingForm}
 use Rattle.carts.specs.Cart.{noTitle}
 use borrow.Author.Needs.{needs}
 use Rattle.replication.proofs.session.is_waiting_form.Statement.{statement}
 use Rattle.replication.proofs.session.is_waiting_form.Tie as tie
-use Rattle.replication.proofs.session.is_waiting_form.Reads as reads
-use Rattle.replication.proofs.session.is_waiting_form.Lts as lts
-use Rattle.carts.proofs.cart.is_title_as_asked.Reads as is-title-as-asked-reads
-use Rattle.replication.proofs.session.is_read.Reads as is-read-reads
 
--- src/session.rt:134:8
 shared-slice-read-if1 : tie.Need-shared-slice-read-if1
 shared-slice-read-if1 c = search needs
 
--- src/session.rt:135:9
 is-title-as-asked-requires : tie.Need-is-title-as-asked-requires
 is-title-as-asked-requires c κs = search needs
 
--- src/session.rt:135:9
 returns : tie.Need-returns
 unfolding waitingForm noTitle
 returns c = simp (c .is-title-as-asked .ensures, eq-eqb _ _ (c .before .if1 .taken))
 
--- src/session.rt:137:5
 is-read-requires : tie.Need-is-read-requires
 is-read-requires c κs = search needs
 
--- src/session.rt:130:1
 returns-2 : tie.Need-returns-2
 unfolding waitingForm
 returns-2 c = simp (c .is-read .ensures, ne-eqb _ _ (c .before .if1 .left))

@@ -7,34 +7,25 @@ use Rattle.replication.specs.Memory.{sessionAt}
 use borrow.Author.Needs.{needs}
 use Rattle.replication.proofs.session.session_at.Statement.{statement}
 use Rattle.replication.proofs.session.session_at.Tie as tie
-use Rattle.replication.proofs.session.session_at.Reads as reads
-use Rattle.replication.proofs.session.session_at.Lts as lts
 
--- src/read.rt:25:34
 sub-start : tie.Need-sub-start
 sub-start c = search needs
 
--- src/read.rt:25:17
 mul-start : tie.Need-mul-start
 mul-start c = search needs
 
--- src/read.rt:26:22
 add-result : tie.Need-add-result
 add-result c = search needs
 
--- src/read.rt:26:5
 sub-result : tie.Need-sub-result
 sub-result c = search needs
 
--- src/read.rt:26:5
 part-result-start : tie.Need-part-result-start
 part-result-start c = search needs
 
--- src/read.rt:26:5
 part-result-end : tie.Need-part-result-end
 part-result-end c = search needs
 
--- src/read.rt:21:1
 returns : tie.Need-returns
 unfolding sessionAt
 returns c = let a = c .before .args in

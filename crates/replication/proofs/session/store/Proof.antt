@@ -2,19 +2,13 @@ use Rattle.replication.specs.Memory.{withSession, withSequence}
 use borrow.Author.Needs.{needs}
 use Rattle.replication.proofs.session.store.Statement.{statement}
 use Rattle.replication.proofs.session.store.Tie as tie
-use Rattle.replication.proofs.session.store.Reads as reads
-use Rattle.replication.proofs.session.store.Lts as lts
-use Rattle.replication.proofs.cell.fill.Reads as fill-reads
 
--- src/read.rt:37:5
 fill-requires : tie.Need-fill-requires
 fill-requires c κs = search needs
 
--- src/read.rt:32:1
 same-length : tie.Need-same-length
 same-length c = search needs
 
--- src/read.rt:32:1
 returns : tie.Need-returns
 unfolding withSession withSequence
 returns c = c .before .before .fill .ensures

@@ -1,6 +1,6 @@
 use mathlib.Core.Path.{_≡_, refl, ap}
 use mathlib.Core.Bool.{_&&_}
-use Prim.Native.Nat.{ℕ, _≤_, _-_, _+_}
+use Prim.Native.Nat.{ℕ, _≤_, _-_}
 use native.Mathlib.Omega.{arith}
 use lib.ListN.{length, drop}
 use lib.Dec.{leb}
@@ -8,9 +8,6 @@ use Rattle.carts.specs.Bytes.{every}
 use Rattle.carts.proofs.ScanLaws.{every-more, every-done}
 use Rattle.replication.proofs.setup.are_studios.Statement.{statement}
 use Rattle.replication.proofs.setup.are_studios.Tie as tie
-use Rattle.replication.proofs.setup.are_studios.Reads as reads
-use Rattle.replication.proofs.setup.are_studios.Lts as lts
-use Rattle.carts.proofs.bytes.byte_at.Reads as byte-at-reads
 
 abbrev Inv-loop : tie.InvT-loop
 Inv-loop places studios ok₀ i₀ ok i = (i ≤ length places) × (every (λ b. leb b studios) places ≡ (ok && every (λ b. leb b studios) (drop i places)))
@@ -18,23 +15,18 @@ Inv-loop places studios ok₀ i₀ ok i = (i ≤ length places) × (every (λ b.
 abbrev μ-loop : tie.MeasureT-loop
 μ-loop places studios ok₀ i₀ ok i = length places - i
 
--- src/setup.rt:24:5
 loop-holds : tie.Need-loop-holds Inv-loop μ-loop
 loop-holds c = (omega arith, refl)
 
--- src/setup.rt:25:15
 byte-at-requires : tie.Need-byte-at-requires Inv-loop μ-loop
 byte-at-requires c κs = omega arith
 
--- src/setup.rt:26:9
 add-i : tie.Need-add-i Inv-loop μ-loop
 add-i c = omega arith
 
--- src/setup.rt:24:5
 loop-less : tie.Need-loop-less Inv-loop μ-loop
 loop-less c = omega arith
 
--- src/setup.rt:24:5
 loop-again : tie.Need-loop-again Inv-loop μ-loop
 loop-again c = let t = c .before .before in
     let g = t .before .before .args in (
@@ -43,7 +35,6 @@ loop-again c = let t = c .before .before in
           (ap (λ (n : ℕ). t .loop .ok && leb n (g .studios)) (c .byte-at .ensures .0)),
     )
 
--- src/setup.rt:19:1
 returns : tie.Need-returns Inv-loop μ-loop
 returns c = let t = c .before in
     let g = t .before .before .args in

@@ -1,4 +1,4 @@
-use mathlib.Core.Path.{_≡_, refl, sym, ap, _∙_}
+use mathlib.Core.Path.{_≡_, sym, _∙_}
 use borrow.Author.Tests.{not-true, not-false, ne-eqb}
 use mathlib.Core.Bool.{true}
 use Rattle.replication.specs.Memory.{memory, lengthsForm}
@@ -6,44 +6,31 @@ use Rattle.replication.proofs.SetupLaws.{setup-lengths, setup-studios, 
 use borrow.Author.Needs.{needs}
 use Rattle.replication.proofs.setup.decide_setup.Statement.{statement}
 use Rattle.replication.proofs.setup.decide_setup.Tie as tie
-use Rattle.replication.proofs.setup.decide_setup.Reads as reads
-use Rattle.replication.proofs.setup.decide_setup.Lts as lts
-use Rattle.carts.proofs.bytes.is_within.Reads as is-within-reads
-use Rattle.replication.proofs.rows.are_lengths.Reads as are-lengths-reads
-use Rattle.replication.proofs.setup.are_studios.Reads as are-studios-reads
 
--- src/setup.rt:50:9
 are-lengths-requires : tie.Need-are-lengths-requires
 are-lengths-requires c κs = search needs
 
--- src/setup.rt:51:9
 returns : tie.Need-returns
 returns c = setup-lengths _ _ _ (sym (c .before .are-lengths .ensures) ∙ not-true (c .before .are-lengths .result) (c .if1 .taken))
 
--- src/setup.rt:53:9
 is-within-requires : tie.Need-is-within-requires
 is-within-requires c κs = search needs
 
 right : (c : tie.Else1) → let g = c .before .before .before .before .before .before .args in lengthsForm (memory (g .library .now) (g .log .now) (g .sessions .now)) ≡ true
 right c = sym (c .before .are-lengths .ensures) ∙ not-false (c .before .are-lengths .result) (c .if1 .left)
 
--- src/setup.rt:54:9
 returns-2 : tie.Need-returns-2
 returns-2 c = setup-studios _ _ _ (right (c .before .before)) 0 (sym (c .before .is-within .ensures) ∙ not-true (c .before .is-within .result) (c .if2 .taken))
 
--- src/setup.rt:57:9
 returns-3 : tie.Need-returns-3
 returns-3 c = setup-studios _ _ _ (right (c .before .before .before)) 1 (ne-eqb _ _ (c .if3 .taken))
 
--- src/setup.rt:59:9
 are-studios-requires : tie.Need-are-studios-requires
 are-studios-requires c κs = search needs
 
--- src/setup.rt:60:9
 returns-4 : tie.Need-returns-4
 returns-4 c = let a = c .before in setup-studios _ _ _ (right (a .before .before .before .before)) 2 (sym (a .are-studios .ensures) ∙ not-true (a .are-studios .result) (c .if4 .taken))
 
--- src/setup.rt:46:1
 returns-5 : tie.Need-returns-5
 returns-5 c = let a = c .before in
     let w = a .before .before .before in

@@ -2,13 +2,10 @@ use mathlib.Core.Path.{_≡_, refl, ap, _∙_}
 use mathlib.Core.List.{List, _++_, append-nil}
 use Prim.Native.Nat.{ℕ, _≤_, _-_, _+_}
 use native.Mathlib.Omega.{arith}
-use lib.ListN.{length, take, drop, set, replicate}
+use lib.ListN.{take, drop, set, replicate}
 use Rattle.carts.proofs.PartLaws.{copy-more, copy-end}
 use Rattle.replication.proofs.setup.numbers_of.Statement.{statement}
 use Rattle.replication.proofs.setup.numbers_of.Tie as tie
-use Rattle.replication.proofs.setup.numbers_of.Reads as reads
-use Rattle.replication.proofs.setup.numbers_of.Lts as lts
-use Rattle.carts.proofs.bytes.byte_at.Reads as byte-at-reads
 
 abbrev Inv-loop : tie.InvT-loop
 Inv-loop places numbers₀ i₀ numbers i = (i ≤ 16) × (numbers ≡ take i places ++ drop i (replicate 16 0))
@@ -16,31 +13,24 @@ Inv-loop places numbers₀ i₀ numbers i = (i ≤ 16) × (numbers ≡ take i pl
 abbrev μ-loop : tie.MeasureT-loop
 μ-loop places numbers₀ i₀ numbers i = 16 - i
 
--- src/setup.rt:38:5
 loop-holds : tie.Need-loop-holds Inv-loop μ-loop
 loop-holds c = (omega arith, refl)
 
--- src/setup.rt:39:22
 byte-at-requires : tie.Need-byte-at-requires Inv-loop μ-loop
 byte-at-requires c κs = omega arith
 
--- src/setup.rt:39:9
 mul-numbers : tie.Need-mul-numbers Inv-loop μ-loop
 mul-numbers c = omega arith
 
--- src/setup.rt:39:9
 array-write-numbers : tie.Need-array-write-numbers Inv-loop μ-loop
 array-write-numbers c = omega arith
 
--- src/setup.rt:40:9
 add-i : tie.Need-add-i Inv-loop μ-loop
 add-i c = omega arith
 
--- src/setup.rt:38:5
 loop-less : tie.Need-loop-less Inv-loop μ-loop
 loop-less c = omega arith
 
--- src/setup.rt:38:5
 loop-again : tie.Need-loop-again Inv-loop μ-loop
 loop-again c = let t = c .before .before in
     let places = t .before .before .args .places .now in (
@@ -50,7 +40,6 @@ loop-again c = let t = c .before .before in
           ∙ copy-more (replicate 16 0) places (t .loop .i) (omega arith) (omega arith),
     )
 
--- src/setup.rt:32:1
 returns : tie.Need-returns Inv-loop μ-loop
 returns c = let t = c .before in
     let places = t .before .before .args .places .now in

@@ -2,76 +2,55 @@ use Rattle.carts.specs.Bytes.{zeros}
 use Rattle.replication.specs.Calls.{controlOf}
 use mathlib.Core.List.{List}
 use Prim.Native.Nat.{ℕ}
-use mathlib.Core.Path.{_≡_, refl, sym, ap, _∙_}
+use mathlib.Core.Path.{ap, _∙_}
 use Rattle.replication.proofs.SetupLaws.{setup-refused, setup-known, setup-accepted}
 use borrow.Author.Needs.{needs}
 use Rattle.replication.proofs.setup.setup.Statement.{statement}
 use Rattle.replication.proofs.setup.setup.Tie as tie
-use Rattle.replication.proofs.setup.setup.Reads as reads
-use Rattle.replication.proofs.setup.setup.Lts as lts
-use Rattle.carts.proofs.bytes.clear.Reads as clear-reads
-use Rattle.replication.proofs.control.Control.new.Reads as new-reads
-use Rattle.replication.proofs.setup.decide_setup.Reads as decide-setup-reads
-use Rattle.replication.proofs.setup.numbers_of.Reads as numbers-of-reads
 
--- src/setup.rt:76:9
 decide-setup-requires : tie.Need-decide-setup-requires
 decide-setup-requires c κs = search needs
 
--- src/setup.rt:80:22
 new-requires : tie.Need-new-requires
 new-requires c κs = search needs
 
--- src/setup.rt:78:9
 same-length : tie.Need-same-length
 same-length c = search needs
 
--- src/setup.rt:78:9
 same-length-2 : tie.Need-same-length-2
 same-length-2 c = search needs
 
--- src/setup.rt:78:9
 same-length-3 : tie.Need-same-length-3
 same-length-3 c = search needs
 
--- src/setup.rt:78:9
 returns : tie.Need-returns
 unfolding zeros
 returns c = setup-refused _ _ _ _ (c .before .before .decide-setup .ensures) (c .before .if1 .taken) _ (c .new .ensures)
 
--- src/setup.rt:83:5
 clear-requires : tie.Need-clear-requires
 clear-requires c κs = search needs
 
--- src/setup.rt:84:5
 clear-requires-2 : tie.Need-clear-requires-2
 clear-requires-2 c κs = search needs
 
--- src/setup.rt:85:5
 clear-requires-3 : tie.Need-clear-requires-3
 clear-requires-3 c κs = search needs
 
--- src/setup.rt:88:40
 numbers-of-requires : tie.Need-numbers-of-requires
 numbers-of-requires c κs = let e = c .before .before .before .before .before .before .before .before .before .before .before .before in setup-known _ _ _ _ (e .before .decide-setup .ensures) (e .if1 .left) .1
 
--- src/setup.rt:88:18
 new-requires-2 : tie.Need-new-requires-2
 new-requires-2 c κs = search needs
 
--- src/setup.rt:66:1
 same-length-4 : tie.Need-same-length-4
 same-length-4 c = search needs
 
--- src/setup.rt:66:1
 same-length-5 : tie.Need-same-length-5
 same-length-5 c = search needs
 
--- src/setup.rt:66:1
 same-length-6 : tie.Need-same-length-6
 same-length-6 c = search needs
 
--- src/setup.rt:66:1
 returns-2 : tie.Need-returns-2
 returns-2 c = let z = c .before .before .before .before in
     let y = c .before .before .before .before .before .before .before .before in

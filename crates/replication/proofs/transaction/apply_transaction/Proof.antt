@@ -2,7 +2,7 @@
 use mathlib.Core.Path.{_≡_, refl, sym, ap, _∙_}
 use mathlib.Core.Bool.{true}
 use mathlib.Core.List.{List, map}
-use Prim.Native.Nat.{ℕ, _≤_, _-_}
+use Prim.Native.Nat.{ℕ, _-_}
 use native.Mathlib.Omega.{arith}
 use lib.ListN.{length}
 use Rattle.carts.specs.Bytes.{every}
@@ -14,11 +14,6 @@ use Rattle.replication.specs.declared.record.Record.{Record}
 use Rattle.replication.proofs.TransactionLaws.{Usable, usable-here, usable-later, acts, acts-ends, acts-stops}
 use Rattle.replication.proofs.transaction.apply_transaction.Statement.{statement}
 use Rattle.replication.proofs.transaction.apply_transaction.Tie as tie
-use Rattle.replication.proofs.transaction.apply_transaction.Reads as reads
-use Rattle.replication.proofs.transaction.apply_transaction.Lts as lts
-use Rattle.carts.proofs.operation.apply.Reads as apply-reads
-use Rattle.replication.proofs.record.Record.at.Reads as at-reads
-use Rattle.replication.proofs.record.record_at.Reads as record-at-reads
 
 abbrev Inv-loop : tie.InvT-loop
 Inv-loop copy₀ log first r₀ left₀ copy r left =
@@ -31,42 +26,33 @@ abbrev μ-loop : tie.MeasureT-loop
 here : (c : tie.Else1 Inv-loop μ-loop) → Usable (c .before .before .before .before .before .args .log .now) (c .before .before .loop .r)
 here c = let t = c .before .before in usable-here _ (t .loop .left) (t .loop .r) (c .before .loop-test .taken) (c .if1 .left) (t .loop .inv .1)
 
--- src/transaction.rt:21:5
 loop-holds : tie.Need-loop-holds Inv-loop μ-loop
 unfolding recordsOf transactionAt
 loop-holds c = (c .before .before .pre .0, c .before .before .pre .1 .1, refl)
 
--- src/transaction.rt:23:13
 same-length : tie.Need-same-length Inv-loop μ-loop
 same-length c = omega arith
 
--- src/transaction.rt:23:13
 returns : tie.Need-returns Inv-loop μ-loop
 returns c = let t = c .before .before in sym (t .loop .inv .2 ∙ acts-ends _ _ _ _ (c .if1 .taken))
 
--- src/transaction.rt:25:32
 record-at-requires : tie.Need-record-at-requires Inv-loop μ-loop
 record-at-requires c κs = let u = here (c .before) in (c .before .before .before .before .before .before .pre .1 .0, (u .low, u .high))
 
--- src/transaction.rt:25:9
 apply-requires : tie.Need-apply-requires Inv-loop μ-loop
 apply-requires c κs = let u = here (c .before .before) in
     let e = c .record-at .ensures in
     ((c .before .before .before .before .loop .inv .0, e .1), (rw (e .0) (u .cart-low), rw (e .0) (u .cart-high)))
 
--- src/transaction.rt:26:13
 at-requires : tie.Need-at-requires Inv-loop μ-loop
 at-requires c κs = let u = here (c .before .before .before .before .before) in (c .before .before .before .before .before .before .before .before .before .before .pre .1 .0, (u .low, u .high))
 
--- src/transaction.rt:28:9
 sub-left : tie.Need-sub-left Inv-loop μ-loop
 sub-left c = omega arith
 
--- src/transaction.rt:21:5
 loop-less : tie.Need-loop-less Inv-loop μ-loop
 loop-less c = omega arith
 
--- src/transaction.rt:21:5
 loop-again : tie.Need-loop-again Inv-loop μ-loop
 loop-again c = let p = c .before .before .before in
     let e = p .before .before .before in
@@ -80,11 +66,9 @@ loop-again c = let p = c .before .before .before in
           ∙ ap (λ (k : ℕ). actAll (p .apply .last .0) (map (recordAt log) (chain (t .loop .left - 1) log k))) (sym n),
     )
 
--- src/transaction.rt:15:1
 same-length-2 : tie.Need-same-length-2 Inv-loop μ-loop
 same-length-2 c = omega arith
 
--- src/transaction.rt:15:1
 returns-2 : tie.Need-returns-2 Inv-loop μ-loop
 returns-2 c = let t = c .before in sym (t .loop .inv .2 ∙ acts-stops _ _ _ _ (c .loop-test .left))
 

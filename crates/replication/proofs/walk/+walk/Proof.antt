@@ -21,7 +21,6 @@ walk-at t = and 1 walk-kinds.ps (is 1 walk-kinds.ps μ-walk t) walk.Pre
 abbrev walk-below : ℕ → In 1 walk-kinds.ps
 walk-below t = and 1 walk-kinds.ps (falls 1 walk-kinds.ps _<_ μ-walk t) walk.Pre
 
--- src/walk.rt:16:9
 walk-returns : (t : ℕ) → walk-lts.Need-returns (
   at-reads.Asked,
   at-reads.Learnt,
@@ -30,7 +29,6 @@ walk-returns : (t : ℕ) → walk-lts.Need-returns (
 ) (walk-at t) walk.Post
 walk-returns t c = walk-none _ _ _ (c .if1 .taken)
 
--- src/walk.rt:18:9
 walk-at-requires : (t : ℕ) → walk-lts.Need-at-requires (
   at-reads.Asked,
   at-reads.Learnt,
@@ -40,7 +38,6 @@ walk-at-requires : (t : ℕ) → walk-lts.Need-at-requires (
 walk-at-requires t c κs = let s = c .before .before in
     (s .pre .1 .0, walk-here _ _ _ (c .if1 .left) (s .pre .1 .1))
 
--- src/walk.rt:19:15
 walk-sub-walk : (t : ℕ) → walk-lts.Need-sub-walk (
   at-reads.Asked,
   at-reads.Learnt,
@@ -49,7 +46,6 @@ walk-sub-walk : (t : ℕ) → walk-lts.Need-sub-walk (
 ) (walk-at t) walk.Post
 walk-sub-walk t c = some (c .before .before .before .args .left) (c .before .if1 .left)
 
--- src/walk.rt:19:5
 walk-walk-requires : (t : ℕ) → walk-lts.Need-walk-requires (
   at-reads.Asked,
   at-reads.Learnt,
@@ -61,7 +57,6 @@ walk-walk-requires t c κs = let s = c .before .before .before in
     let h : 1 ≤ s .args .left = some (s .args .left) n in
     (omega (arith, s .pre .0), (s .pre .1 .0, walk-later _ _ _ n (s .pre .1 .1) (c .at .result) (c .at .ensures .0)))
 
--- src/walk.rt:11:1
 walk-returns-2 : (t : ℕ) → walk-lts.Need-returns-2 (
   at-reads.Asked,
   at-reads.Learnt,

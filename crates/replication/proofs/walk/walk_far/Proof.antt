@@ -6,9 +6,6 @@ use Rattle.replication.specs.Values.{walkable}
 use Rattle.replication.proofs.WalkLaws.{stretch-on, stretch-here, stretch-later}
 use Rattle.replication.proofs.walk.walk_far.Statement.{statement}
 use Rattle.replication.proofs.walk.walk_far.Tie as tie
-use Rattle.replication.proofs.walk.walk_far.Reads as reads
-use Rattle.replication.proofs.walk.walk_far.Lts as lts
-use Rattle.replication.proofs.walk.walk.Reads as walk-reads
 
 abbrev Inv-loop : tie.InvT-loop
 Inv-loop log left r to-go₀ at₀ to-go at = (walkable to-go log at ≡ true) × (walk to-go log at ≡ walk left log r)
@@ -16,35 +13,28 @@ Inv-loop log left r to-go₀ at₀ to-go at = (walkable to-go log at ≡ true) �
 abbrev μ-loop : tie.MeasureT-loop
 μ-loop log left r to-go₀ at₀ to-go at = to-go
 
--- src/walk.rt:32:5
 loop-holds : tie.Need-loop-holds Inv-loop μ-loop
 loop-holds c = (c .before .pre .1, refl)
 
--- src/walk.rt:33:9
 walk-requires : tie.Need-walk-requires Inv-loop μ-loop
 walk-requires c κs = let l = c .before .loop in
     (c .before .before .before .pre .0, stretch-here 16 (l .to-go) _ (l .at) (c .loop-test .taken) (l .inv .0))
 
--- src/walk.rt:34:9
 sub-to-go : tie.Need-sub-to-go Inv-loop μ-loop
 sub-to-go c = let h = c .before .loop-test .taken in omega arith
 
--- src/walk.rt:32:5
 loop-less : tie.Need-loop-less Inv-loop μ-loop
 loop-less c = let h = c .before .loop-test .taken in omega arith
 
--- src/walk.rt:32:5
 loop-again : tie.Need-loop-again Inv-loop μ-loop
 loop-again c = let l = c .before .before .loop in
     let h = c .before .loop-test .taken in
     let e = c .walk .ensures in
     (stretch-later 16 (l .to-go) _ (l .at) h (l .inv .0) _ e, stretch-on 16 (l .to-go) _ (l .at) h _ e ∙ l .inv .1)
 
--- src/walk.rt:36:5
 walk-requires-2 : tie.Need-walk-requires-2 Inv-loop μ-loop
 walk-requires-2 c κs = (c .before .before .before .pre .0, c .before .loop .inv .0)
 
--- src/walk.rt:26:1
 returns : tie.Need-returns Inv-loop μ-loop
 returns c = c .walk2 .ensures ∙ c .before .before .loop .inv .1
 

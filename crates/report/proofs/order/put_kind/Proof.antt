@@ -4,40 +4,29 @@ use borrow.Author.Tests.{eq-eqb, ne-eqb}
 use borrow.Author.Needs.{needs}
 use Rattle.report.proofs.order.put_kind.Statement.{statement}
 use Rattle.report.proofs.order.put_kind.Tie as tie
-use Rattle.report.proofs.order.put_kind.Reads as reads
-use Rattle.report.proofs.order.put_kind.Lts as lts
-use Rattle.report.proofs.page.put_numbered.Reads as put-numbered-reads
 
--- src/order.rt:24:43
 slice-aggregate-put-numbered : tie.Need-slice-aggregate-put-numbered
 slice-aggregate-put-numbered c = search needs
 
--- src/order.rt:24:9
 put-numbered-requires : tie.Need-put-numbered-requires
 put-numbered-requires c κs = search needs
 
--- src/order.rt:24:9
 same-length : tie.Need-same-length
 same-length c = search needs
 
--- src/order.rt:24:9
 returns : tie.Need-returns
 unfolding kindText
 returns c = let p = c .before .before .put-numbered .ensures in let e = p .1 in (rw (eq-eqb _ 1 (c .before .before .before .before .before .if1 .taken)) (p .0), omega arith)
 
--- src/order.rt:26:32
 slice-aggregate-put-numbered-2 : tie.Need-slice-aggregate-put-numbered-2
 slice-aggregate-put-numbered-2 c = search needs
 
--- src/order.rt:26:5
 put-numbered-requires-2 : tie.Need-put-numbered-requires-2
 put-numbered-requires-2 c κs = search needs
 
--- src/order.rt:19:1
 same-length-2 : tie.Need-same-length-2
 same-length-2 c = search needs
 
--- src/order.rt:19:1
 returns-2 : tie.Need-returns-2
 unfolding kindText
 returns-2 c = let p = c .before .before .put-numbered2 .ensures in let e = p .1 in (rw (ne-eqb _ 1 (c .before .before .before .before .before .if1 .left)) (p .0), omega arith)

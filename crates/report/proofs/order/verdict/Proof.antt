@@ -3,54 +3,38 @@ use Rattle.report.proofs.PageLaws.{told-none, told-more}
 use borrow.Author.Needs.{needs}
 use Rattle.report.proofs.order.verdict.Statement.{statement}
 use Rattle.report.proofs.order.verdict.Tie as tie
-use Rattle.report.proofs.order.verdict.Reads as reads
-use Rattle.report.proofs.order.verdict.Lts as lts
-use Rattle.report.proofs.order.put_unlike.Reads as put-unlike-reads
-use Rattle.report.proofs.page.put.Reads as put-reads
-use Rattle.report.proofs.page.put_count.Reads as put-count-reads
 
--- src/order.rt:58:31
 slice-aggregate-put : tie.Need-slice-aggregate-put
 slice-aggregate-put c = search needs
 
--- src/order.rt:58:9
 put-requires : tie.Need-put-requires
 put-requires c κs = search needs
 
--- src/order.rt:59:47
 slice-aggregate-put-count : tie.Need-slice-aggregate-put-count
 slice-aggregate-put-count c = search needs
 
--- src/order.rt:59:9
 put-count-requires : tie.Need-put-count-requires
 put-count-requires c κs = search needs
 
--- src/order.rt:61:34
 slice-aggregate-put-2 : tie.Need-slice-aggregate-put-2
 slice-aggregate-put-2 c = search needs
 
--- src/order.rt:61:9
 put-requires-2 : tie.Need-put-requires-2
 put-requires-2 c κs = search needs
 
--- src/order.rt:61:9
 same-length : tie.Need-same-length
 same-length c = search needs
 
--- src/order.rt:61:9
 returns : tie.Need-returns
 unfolding verdictText
 returns c = rw (c .before .before .before .before .before .if1 .taken) (told-more (told-more (told-more (told-none _) (c .before .before .before .before .before .before .before .before .before .before .before .before .before .put .ensures)) (c .before .before .before .before .before .before .before .before .put-count .ensures .0)) (c .before .before .put2 .ensures))
 
--- src/order.rt:63:5
 put-unlike-requires : tie.Need-put-unlike-requires
 put-unlike-requires c κs = search needs
 
--- src/order.rt:54:1
 same-length-2 : tie.Need-same-length-2
 same-length-2 c = search needs
 
--- src/order.rt:54:1
 returns-2 : tie.Need-returns-2
 unfolding verdictText
 returns-2 c = rw (c .before .before .before .before .if1 .left) (told-more (told-more (told-more (told-none _) (c .before .before .before .before .before .before .before .before .before .before .before .before .put .ensures)) (c .before .before .before .before .before .before .before .put-count .ensures .0)) (c .before .before .put-unlike .ensures))

@@ -1,5 +1,5 @@
-use Prim.Native.Nat.{_+_, _/_, _≤_}
-use lib.ListN.{length, length-append}
+use Prim.Native.Nat.{_+_}
+use lib.ListN.{length}
 use mathlib.Core.Path.{_≡_, ap, _∙_}
 use Rattle.report.specs.Page.{decimal}
 use native.Mathlib.Omega.{arith}
@@ -25,7 +25,6 @@ abbrev put-digits-below : ℕ → In 1 put-digits-kinds.ps
 put-digits-below t =
     and 1 put-digits-kinds.ps (falls 1 put-digits-kinds.ps _<_ μ-put-digits t) put-digits.Pre
 
--- src/page.rt:34:9
 put-digits-put-digit-requires : (t : ℕ) → put-digits-lts.Need-put-digit-requires (
   put-digit-reads.Asked,
   put-digit-reads.Learnt,
@@ -34,7 +33,6 @@ put-digits-put-digit-requires : (t : ℕ) → put-digits-lts.Need-put-digit-requ
 ) (put-digits-at t) put-digits.Post
 put-digits-put-digit-requires t c κs = let a = c .before .before .before .args in let e : length (decimal (a .n)) ≡ 1 = ap length (decimal-last (a .n) (c .before .if1 .taken)) in (c .before .if1 .taken, omega arith)
 
--- src/page.rt:34:9
 put-digits-same-length : (t : ℕ) → put-digits-lts.Need-same-length (
   put-digit-reads.Asked,
   put-digit-reads.Learnt,
@@ -43,7 +41,6 @@ put-digits-same-length : (t : ℕ) → put-digits-lts.Need-same-length (
 ) (put-digits-at t) put-digits.Post
 put-digits-same-length t c = c .before .before .put-digit .kept .0
 
--- src/page.rt:34:9
 put-digits-returns : (t : ℕ) → put-digits-lts.Need-returns (
   put-digit-reads.Asked,
   put-digit-reads.Learnt,
@@ -52,7 +49,6 @@ put-digits-returns : (t : ℕ) → put-digits-lts.Need-returns (
 ) (put-digits-at t) put-digits.Post
 put-digits-returns t c = let a = c .before .before .before .before .before .before .args in rw (decimal-last (a .n) (c .before .before .before .before .if1 .taken)) (c .before .before .put-digit .ensures)
 
--- src/page.rt:36:9
 put-digits-put-digits-requires : (t : ℕ) → put-digits-lts.Need-put-digits-requires (
   put-digit-reads.Asked,
   put-digit-reads.Learnt,
@@ -61,7 +57,6 @@ put-digits-put-digits-requires : (t : ℕ) → put-digits-lts.Need-put-digits-re
 ) (put-digits-at t) put-digits.Post
 put-digits-put-digits-requires t c κs = let a = c .before .before .before .args in let e = longer (a .n) (omega arith) (omega arith) in (omega arith, omega arith)
 
--- src/page.rt:37:5
 put-digits-put-digit-requires-2 : (t : ℕ) → put-digits-lts.Need-put-digit-requires-2 (
   put-digit-reads.Asked,
   put-digit-reads.Learnt,
@@ -70,7 +65,6 @@ put-digits-put-digit-requires-2 : (t : ℕ) → put-digits-lts.Need-put-digit-re
 ) (put-digits-at t) put-digits.Post
 put-digits-put-digit-requires-2 t c κs = let s = c .before .before .before .before .before .before .before in let a = s .args in let p = c .before .before .before .put-digits in let e = longer (a .n) (omega arith) (omega arith) in let r = p .ensures .end in let k = p .kept .0 in (omega arith, omega arith)
 
--- src/page.rt:29:1
 put-digits-same-length-2 : (t : ℕ) → put-digits-lts.Need-same-length-2 (
   put-digit-reads.Asked,
   put-digit-reads.Learnt,
@@ -79,7 +73,6 @@ put-digits-same-length-2 : (t : ℕ) → put-digits-lts.Need-same-length-2 (
 ) (put-digits-at t) put-digits.Post
 put-digits-same-length-2 t c = c .before .before .put-digit2 .kept .0 ∙ c .before .before .before .before .before .before .put-digits .kept .0
 
--- src/page.rt:29:1
 put-digits-returns-2 : (t : ℕ) → put-digits-lts.Need-returns-2 (
   put-digit-reads.Asked,
   put-digit-reads.Learnt,

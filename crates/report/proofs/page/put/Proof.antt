@@ -3,35 +3,25 @@ use native.Mathlib.Nat.{add-sub-cancel-left}
 use borrow.Author.Needs.{needs}
 use Rattle.report.proofs.page.put.Statement.{statement}
 use Rattle.report.proofs.page.put.Tie as tie
-use Rattle.report.proofs.page.put.Reads as reads
-use Rattle.report.proofs.page.put.Lts as lts
-use Rattle.carts.proofs.bytes.copy_all.Reads as copy-all-reads
 
--- src/page.rt:14:15
 add-end : tie.Need-add-end
 add-end c = search needs
 
--- src/page.rt:15:21
 sub-copy-all : tie.Need-sub-copy-all
 sub-copy-all c = search needs
 
--- src/page.rt:15:21
 part-copy-all-start : tie.Need-part-copy-all-start
 part-copy-all-start c = search needs
 
--- src/page.rt:15:21
 part-copy-all-end : tie.Need-part-copy-all-end
 part-copy-all-end c = search needs
 
--- src/page.rt:15:5
 copy-all-requires : tie.Need-copy-all-requires
 copy-all-requires c κs = search needs
 
--- src/page.rt:10:1
 same-length : tie.Need-same-length
 same-length c = search needs
 
--- src/page.rt:10:1
 returns : tie.Need-returns
 returns c = record { page = rw (c .before .before .copy-all .ensures, add-sub-cancel-left); end = refl }
 

@@ -3,49 +3,35 @@ use Rattle.report.proofs.PageLaws.{put-both, count-one, count-more}
 use borrow.Author.Needs.{needs}
 use Rattle.report.proofs.page.put_count.Statement.{statement}
 use Rattle.report.proofs.page.put_count.Tie as tie
-use Rattle.report.proofs.page.put_count.Reads as reads
-use Rattle.report.proofs.page.put_count.Lts as lts
-use Rattle.report.proofs.page.put.Reads as put-reads
-use Rattle.report.proofs.page.put_number.Reads as put-number-reads
 
--- src/page.rt:73:9
 put-number-requires : tie.Need-put-number-requires
 put-number-requires c κs = search needs
 
--- src/page.rt:74:25
 slice-aggregate-put : tie.Need-slice-aggregate-put
 slice-aggregate-put c = search needs
 
--- src/page.rt:74:9
 put-requires : tie.Need-put-requires
 put-requires c κs = search needs
 
--- src/page.rt:75:9
 put-requires-2 : tie.Need-put-requires-2
 put-requires-2 c κs = search needs
 
--- src/page.rt:77:9
 same-length : tie.Need-same-length
 same-length c = search needs
 
--- src/page.rt:77:9
 returns : tie.Need-returns
 returns c = let s = c .before .before .before .before .before .before .before .before .before .before .before .before .before .before .before .before .args in let p = c .before .before .before .before .before .before .before .before .before .before .before .before .put-number .ensures in let q = c .before .before .before .before .before .before .before .put .ensures in let r = c .before .before .before .put2 .ensures in let a = p .1 in let d = q .end in let e = r .end in
     (rw (count-one (s .n) (s .thing .now) (c .if1 .taken)) (put-both (omega arith) (put-both (omega arith) (p .0) q) r), omega arith)
 
--- src/page.rt:79:17
 slice-aggregate-put-2 : tie.Need-slice-aggregate-put-2
 slice-aggregate-put-2 c = search needs
 
--- src/page.rt:79:5
 put-requires-3 : tie.Need-put-requires-3
 put-requires-3 c κs = search needs
 
--- src/page.rt:69:1
 same-length-2 : tie.Need-same-length-2
 same-length-2 c = search needs
 
--- src/page.rt:69:1
 returns-2 : tie.Need-returns-2
 returns-2 c = let s = c .before .before .before .before .before .before .before .before .before .before .before .before .before .before .before .before .before .before .before .before .before .args in let p = c .before .before .before .before .before .before .before .before .before .before .before .before .before .before .before .before .before .put-number .ensures in let q = c .before .before .before .before .before .before .before .before .before .before .before .before .put .ensures in let r = c .before .before .before .before .before .before .before .before .put2 .ensures in let t = c .before .before .put3 .ensures in let a = p .1 in let d = q .end in let e = r .end in let f = t .end in
     (rw (count-more (s .n) (s .thing .now) (c .before .before .before .before .before .if1 .left)) (put-both (omega arith) (put-both (omega arith) (put-both (omega arith) (p .0) q) r) t), omega arith)

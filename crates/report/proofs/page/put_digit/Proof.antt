@@ -4,30 +4,22 @@ use Rattle.report.proofs.PageLaws.{put-one}
 use borrow.Author.Needs.{needs}
 use Rattle.report.proofs.page.put_digit.Statement.{statement}
 use Rattle.report.proofs.page.put_digit.Tie as tie
-use Rattle.report.proofs.page.put_digit.Reads as reads
-use Rattle.report.proofs.page.put_digit.Lts as lts
 
--- src/page.rt:24:16
 add-out : tie.Need-add-out
 add-out c = search needs
 
--- src/page.rt:24:15
 cast-out : tie.Need-cast-out
 cast-out c = search needs
 
--- src/page.rt:24:5
 slice-write-out : tie.Need-slice-write-out
 slice-write-out c = search needs
 
--- src/page.rt:25:5
 add-result : tie.Need-add-result
 add-result c = search needs
 
--- src/page.rt:20:1
 same-length : tie.Need-same-length
 same-length c = search needs
 
--- src/page.rt:20:1
 returns : tie.Need-returns
 returns c = let a = c .args in put-one (a .out .now) (a .at) (48 + a .n) (omega arith)
 

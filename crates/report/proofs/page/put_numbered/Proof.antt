@@ -3,24 +3,16 @@ use Rattle.report.proofs.PageLaws.{put-both}
 use borrow.Author.Needs.{needs}
 use Rattle.report.proofs.page.put_numbered.Statement.{statement}
 use Rattle.report.proofs.page.put_numbered.Tie as tie
-use Rattle.report.proofs.page.put_numbered.Reads as reads
-use Rattle.report.proofs.page.put_numbered.Lts as lts
-use Rattle.report.proofs.page.put.Reads as put-reads
-use Rattle.report.proofs.page.put_number.Reads as put-number-reads
 
--- src/page.rt:64:9
 put-requires : tie.Need-put-requires
 put-requires c κs = search needs
 
--- src/page.rt:65:5
 put-number-requires : tie.Need-put-number-requires
 put-number-requires c κs = search needs
 
--- src/page.rt:60:1
 same-length : tie.Need-same-length
 same-length c = search needs
 
--- src/page.rt:60:1
 returns : tie.Need-returns
 returns c = let p = c .before .before .before .before .before .before .put .ensures in let q = c .before .before .put-number .ensures in let e = p .end in let b = q .1 in (put-both (omega arith) p (q .0), omega arith)
 

@@ -4,35 +4,25 @@ use Rattle.report.proofs.PageLaws.{put-both}
 use borrow.Author.Needs.{needs}
 use Rattle.report.proofs.page.put_quoted.Statement.{statement}
 use Rattle.report.proofs.page.put_quoted.Tie as tie
-use Rattle.report.proofs.page.put_quoted.Reads as reads
-use Rattle.report.proofs.page.put_quoted.Lts as lts
-use Rattle.report.proofs.page.put.Reads as put-reads
 
--- src/page.rt:87:26
 slice-aggregate-put : tie.Need-slice-aggregate-put
 slice-aggregate-put c = search needs
 
--- src/page.rt:87:9
 put-requires : tie.Need-put-requires
 put-requires c κs = search needs
 
--- src/page.rt:88:9
 put-requires-2 : tie.Need-put-requires-2
 put-requires-2 c κs = search needs
 
--- src/page.rt:89:17
 slice-aggregate-put-2 : tie.Need-slice-aggregate-put-2
 slice-aggregate-put-2 c = search needs
 
--- src/page.rt:89:5
 put-requires-3 : tie.Need-put-requires-3
 put-requires-3 c κs = search needs
 
--- src/page.rt:83:1
 same-length : tie.Need-same-length
 same-length c = search needs
 
--- src/page.rt:83:1
 returns : tie.Need-returns
 unfolding quoted
 returns c = let p = c .before .before .before .before .before .before .before .before .before .before .before .put .ensures in let q = c .before .before .before .before .before .before .before .put2 .ensures in let r = c .before .before .put3 .ensures in let a = p .end in let b = q .end in let d = r .end in (put-both (omega arith) (put-both (omega arith) p q) r, omega arith)

@@ -1,5 +1,5 @@
 use native.Mathlib.Omega.{arith}
-use mathlib.Core.Path.{_≡_, refl, sym, _∙_}
+use mathlib.Core.Path.{_≡_, refl, _∙_}
 use Prim.Native.Nat.{_+_, _-_, _*_, _≤_}
 use lib.ListN.{length}
 use borrow.Author.Needs.{needs}
@@ -8,10 +8,6 @@ use Rattle.report.specs.Lines.{askedNumbers}
 use Rattle.report.proofs.PageLaws.{put-none, put-both, asked-more}
 use Rattle.report.proofs.state.put_asked.Statement.{statement}
 use Rattle.report.proofs.state.put_asked.Tie as tie
-use Rattle.report.proofs.state.put_asked.Reads as reads
-use Rattle.report.proofs.state.put_asked.Lts as lts
-use Rattle.report.proofs.page.put_numbered.Reads as put-numbered-reads
-use Rattle.transcript.proofs.replay.asked.Reads as asked-reads
 
 abbrev Inv-loop : tie.InvT-loop
 Inv-loop out₀ at request n end₀ i₀ t7 out end i = (i ≤ n) × (end ≤ at + 11 * i) × (length out ≡ length out₀) × Put (askedNumbers request i) out₀ at out end
@@ -19,41 +15,32 @@ Inv-loop out₀ at request n end₀ i₀ t7 out end i = (i ≤ n) × (end ≤ at
 abbrev μ-loop : tie.MeasureT-loop
 μ-loop out₀ at request n end₀ i₀ t7 out end i = n - i
 
--- src/state.rt:50:5
 loop-holds : tie.Need-loop-holds Inv-loop μ-loop
 unfolding askedNumbers
 loop-holds c = (omega arith, omega arith, refl, put-none _ _)
 
--- src/state.rt:51:44
 slice-aggregate-put-numbered : tie.Need-slice-aggregate-put-numbered Inv-loop μ-loop
 slice-aggregate-put-numbered c = search needs
 
--- src/state.rt:51:50
 asked-requires : tie.Need-asked-requires Inv-loop μ-loop
 asked-requires c κs = tt
 
--- src/state.rt:51:9
 put-numbered-requires : tie.Need-put-numbered-requires Inv-loop μ-loop
 put-numbered-requires c κs = omega arith
 
--- src/state.rt:52:9
 add-i : tie.Need-add-i Inv-loop μ-loop
 add-i c = omega arith
 
--- src/state.rt:50:5
 loop-less : tie.Need-loop-less Inv-loop μ-loop
 loop-less c = omega arith
 
--- src/state.rt:50:5
 loop-again : tie.Need-loop-again Inv-loop μ-loop
 loop-again c = let t = c .before .before .before .before .before .before .before in let p = c .before .before .put-numbered .ensures in let l = p .1 in
     (omega arith, omega arith, c .before .before .put-numbered .kept .0 ∙ t .loop .inv .2, rw (asked-more _ (t .loop .i), ← c .before .before .before .asked .ensures) (put-both (omega arith) (t .loop .inv .3) (p .0)))
 
--- src/state.rt:44:1
 same-length : tie.Need-same-length Inv-loop μ-loop
 same-length c = c .before .loop .inv .2
 
--- src/state.rt:44:1
 returns : tie.Need-returns Inv-loop μ-loop
 returns c = let e : c .before .loop .i ≡ c .before .before .before .before .args .n = omega arith in (rw (← e) (c .before .loop .inv .3), omega arith)
 

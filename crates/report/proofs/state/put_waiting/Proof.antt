@@ -5,98 +5,71 @@ use Rattle.report.proofs.PageLaws.{put-both}
 use borrow.Author.Needs.{needs}
 use Rattle.report.proofs.state.put_waiting.Statement.{statement}
 use Rattle.report.proofs.state.put_waiting.Tie as tie
-use Rattle.report.proofs.state.put_waiting.Reads as reads
-use Rattle.report.proofs.state.put_waiting.Lts as lts
-use Rattle.carts.proofs.bytes.byte_at.Reads as byte-at-reads
-use Rattle.report.proofs.page.put.Reads as put-reads
-use Rattle.report.proofs.page.put_title.Reads as put-title-reads
-use Rattle.report.proofs.state.put_asked.Reads as put-asked-reads
 
--- src/state.rt:61:9
 byte-at-requires : tie.Need-byte-at-requires
 byte-at-requires c κs = search needs
 
--- src/state.rt:62:8
 shared-slice-read-if1 : tie.Need-shared-slice-read-if1
 shared-slice-read-if1 c = search needs
 
--- src/state.rt:63:36
 slice-aggregate-put : tie.Need-slice-aggregate-put
 slice-aggregate-put c = search needs
 
--- src/state.rt:63:13
 put-requires : tie.Need-put-requires
 put-requires c κs = search needs
 
--- src/state.rt:64:13
 put-asked-requires : tie.Need-put-asked-requires
 put-asked-requires c κs = search needs
 
--- src/state.rt:65:34
 slice-aggregate-put-2 : tie.Need-slice-aggregate-put-2
 slice-aggregate-put-2 c = search needs
 
--- src/state.rt:65:9
 put-requires-2 : tie.Need-put-requires-2
 put-requires-2 c κs = search needs
 
--- src/state.rt:65:9
 same-length : tie.Need-same-length
 same-length c = search needs
 
--- src/state.rt:65:9
 returns : tie.Need-returns
 unfolding waitingText
 returns c = let p = c .before .before .before .before .before .before .before .before .before .before .before .put .ensures in let q = c .before .before .before .before .before .before .before .put-asked .ensures in let e = p .end in let f = q .1 in
     rw (eq-eqb _ 1 (c .before .before .before .before .before .before .before .before .before .before .before .before .before .before .if1 .taken), ← c .before .before .before .before .before .before .before .before .before .before .before .before .before .before .before .before .byte-at .ensures .0) (put-both (omega arith) (put-both (omega arith) p (q .0)) (c .before .before .put2 .ensures))
 
--- src/state.rt:67:8
 shared-slice-read-if2 : tie.Need-shared-slice-read-if2
 shared-slice-read-if2 c = search needs
 
--- src/state.rt:68:36
 slice-aggregate-put-3 : tie.Need-slice-aggregate-put-3
 slice-aggregate-put-3 c = search needs
 
--- src/state.rt:68:13
 put-requires-3 : tie.Need-put-requires-3
 put-requires-3 c κs = search needs
 
--- src/state.rt:69:13
 put-title-requires : tie.Need-put-title-requires
 put-title-requires c κs = search needs
 
--- src/state.rt:70:34
 slice-aggregate-put-4 : tie.Need-slice-aggregate-put-4
 slice-aggregate-put-4 c = search needs
 
--- src/state.rt:70:9
 put-requires-4 : tie.Need-put-requires-4
 put-requires-4 c κs = search needs
 
--- src/state.rt:70:9
 same-length-2 : tie.Need-same-length-2
 same-length-2 c = search needs
 
--- src/state.rt:70:9
 returns-2 : tie.Need-returns-2
 unfolding waitingText
 returns-2 c = let p = c .before .before .before .before .before .before .before .before .before .before .before .put3 .ensures in let q = c .before .before .before .before .before .before .before .put-title .ensures in let e = p .end in let f = q .1 in
     rw (ne-eqb _ 1 (c .before .before .before .before .before .before .before .before .before .before .before .before .before .before .before .before .if1 .left), eq-eqb _ 2 (c .before .before .before .before .before .before .before .before .before .before .before .before .before .before .if2 .taken), ← c .before .before .before .before .before .before .before .before .before .before .before .before .before .before .before .before .before .before .byte-at .ensures .0) (put-both (omega arith) (put-both (omega arith) p (q .0)) (c .before .before .put4 .ensures))
 
--- src/state.rt:72:24
 slice-aggregate-put-5 : tie.Need-slice-aggregate-put-5
 slice-aggregate-put-5 c = search needs
 
--- src/state.rt:72:5
 put-requires-5 : tie.Need-put-requires-5
 put-requires-5 c κs = search needs
 
--- src/state.rt:57:1
 same-length-3 : tie.Need-same-length-3
 same-length-3 c = search needs
 
--- src/state.rt:57:1
 returns-3 : tie.Need-returns-3
 unfolding waitingText
 returns-3 c = rw (ne-eqb _ 1 (c .before .before .before .before .before .before .before .if1 .left), ne-eqb _ 2 (c .before .before .before .before .before .if2 .left)) (c .before .before .put5 .ensures)

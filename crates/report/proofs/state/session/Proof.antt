@@ -3,49 +3,34 @@ use Rattle.report.proofs.PageLaws.{told-none, told-more}
 use borrow.Author.Needs.{needs}
 use Rattle.report.proofs.state.session.Statement.{statement}
 use Rattle.report.proofs.state.session.Tie as tie
-use Rattle.report.proofs.state.session.Reads as reads
-use Rattle.report.proofs.state.session.Lts as lts
-use Rattle.carts.proofs.bytes.u16_at.Reads as u16-at-reads
-use Rattle.report.proofs.page.put_numbered.Reads as put-numbered-reads
-use Rattle.report.proofs.state.put_waiting.Reads as put-waiting-reads
 
--- src/state.rt:80:40
 slice-aggregate-put-numbered : tie.Need-slice-aggregate-put-numbered
 slice-aggregate-put-numbered c = search needs
 
--- src/state.rt:80:9
 put-numbered-requires : tie.Need-put-numbered-requires
 put-numbered-requires c κs = search needs
 
--- src/state.rt:81:40
 slice-aggregate-put-numbered-2 : tie.Need-slice-aggregate-put-numbered-2
 slice-aggregate-put-numbered-2 c = search needs
 
--- src/state.rt:81:9
 put-numbered-requires-2 : tie.Need-put-numbered-requires-2
 put-numbered-requires-2 c κs = search needs
 
--- src/state.rt:82:40
 slice-aggregate-put-numbered-3 : tie.Need-slice-aggregate-put-numbered-3
 slice-aggregate-put-numbered-3 c = search needs
 
--- src/state.rt:82:54
 u16-at-requires : tie.Need-u16-at-requires
 u16-at-requires c κs = search needs
 
--- src/state.rt:82:9
 put-numbered-requires-3 : tie.Need-put-numbered-requires-3
 put-numbered-requires-3 c κs = search needs
 
--- src/state.rt:83:5
 put-waiting-requires : tie.Need-put-waiting-requires
 put-waiting-requires c κs = search needs
 
--- src/state.rt:76:1
 same-length : tie.Need-same-length
 same-length c = search needs
 
--- src/state.rt:76:1
 returns : tie.Need-returns
 unfolding sessionText
 returns c = rw (← c .before .before .before .before .before .before .before .u16-at .ensures .0) (told-more (told-more (told-more (told-more (told-none _) (c .before .before .before .before .before .before .before .before .before .before .before .before .before .before .before .before .before .put-numbered .ensures .0)) (c .before .before .before .before .before .before .before .before .before .before .before .before .put-numbered2 .ensures .0)) (c .before .before .before .before .before .before .put-numbered3 .ensures .0)) (c .before .before .put-waiting .ensures))

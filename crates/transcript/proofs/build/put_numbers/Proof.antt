@@ -6,48 +6,34 @@ use native.Mathlib.Omega.{arith}
 use borrow.Author.Needs.{needs}
 use Rattle.transcript.proofs.build.put_numbers.Statement.{statement}
 use Rattle.transcript.proofs.build.put_numbers.Tie as tie
-use Rattle.transcript.proofs.build.put_numbers.Reads as reads
-use Rattle.transcript.proofs.build.put_numbers.Lts as lts
-use Rattle.carts.proofs.bytes.clear.Reads as clear-reads
-use Rattle.transcript.proofs.build.put_u16s.Reads as put-u16s-reads
 
--- src/build.rt:53:5
 clear-requires : tie.Need-clear-requires
 clear-requires c κs = search needs
 
--- src/build.rt:54:5
 slice-write-request : tie.Need-slice-write-request
 slice-write-request c = search needs
 
--- src/build.rt:55:18
 cast-request : tie.Need-cast-request
 cast-request c = search needs
 
--- src/build.rt:55:5
 slice-write-request-2 : tie.Need-slice-write-request-2
 slice-write-request-2 c = search needs
 
--- src/build.rt:56:14
 sub-put-u16s : tie.Need-sub-put-u16s
 sub-put-u16s c = search needs
 
--- src/build.rt:56:14
 part-put-u16s-start : tie.Need-part-put-u16s-start
 part-put-u16s-start c = search needs
 
--- src/build.rt:56:14
 part-put-u16s-end : tie.Need-part-put-u16s-end
 part-put-u16s-end c = simp length-set (omega arith)
 
--- src/build.rt:56:5
 put-u16s-requires : tie.Need-put-u16s-requires
 put-u16s-requires c κs = search needs
 
--- src/build.rt:49:1
 same-length : tie.Need-same-length
 same-length c = let xs = set (set (c .before .before .before .before .before .before .clear .last .0) 0 1) 1 (length (c .before .before .before .before .before .before .before .before .before .before .args .numbers .now)) in same-len-mid 16 64 xs (c .before .before .put-u16s .last .0) (c .before .before .put-u16s .kept .0) ∙ simp length-set (c .before .before .before .before .before .before .clear .kept .0)
 
--- src/build.rt:49:1
 returns : tie.Need-returns
 returns c = rw (c .before .before .put-u16s .ensures, c .before .before .before .before .before .before .clear .ensures, c .before .before .before .before .before .before .before .before .before .before .pre .0) (numbers-stored (c .before .before .before .before .before .before .before .before .before .before .args .numbers .now))
 

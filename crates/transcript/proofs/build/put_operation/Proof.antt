@@ -6,62 +6,43 @@ use native.Mathlib.Omega.{arith}
 use borrow.Author.Needs.{needs}
 use Rattle.transcript.proofs.build.put_operation.Statement.{statement}
 use Rattle.transcript.proofs.build.put_operation.Tie as tie
-use Rattle.transcript.proofs.build.put_operation.Reads as reads
-use Rattle.transcript.proofs.build.put_operation.Lts as lts
-use Rattle.carts.proofs.bytes.clear.Reads as clear-reads
-use Rattle.carts.proofs.bytes.put_u16.Reads as put-u16-reads
-use Rattle.transcript.proofs.build.put_title.Reads as put-title-reads
-use Rattle.transcript.proofs.build.put_u32.Reads as put-u32-reads
 
--- src/build.rt:39:5
 clear-requires : tie.Need-clear-requires
 clear-requires c κs = search needs
 
--- src/build.rt:40:5
 slice-write-s : tie.Need-slice-write-s
 slice-write-s c = search needs
 
--- src/build.rt:41:12
 cast-s : tie.Need-cast-s
 cast-s c = search needs
 
--- src/build.rt:41:5
 slice-write-s-2 : tie.Need-slice-write-s-2
 slice-write-s-2 c = search needs
 
--- src/build.rt:42:5
 put-u16-requires : tie.Need-put-u16-requires
 put-u16-requires c κs = simp length-set (omega arith, omega arith)
 
--- src/build.rt:43:5
 put-u32-requires : tie.Need-put-u32-requires
 put-u32-requires c κs = omega (arith, simp length-set at (c .before .before .before .put-u16 .kept .0))
 
--- src/build.rt:44:5
 put-u32-requires-2 : tie.Need-put-u32-requires-2
 put-u32-requires-2 c κs = omega (arith, c .before .before .before .put-u32 .kept .0, simp length-set at (c .before .before .before .before .before .before .before .put-u16 .kept .0))
 
--- src/build.rt:45:15
 sub-put-title : tie.Need-sub-put-title
 sub-put-title c = search needs
 
--- src/build.rt:45:15
 part-put-title-start : tie.Need-part-put-title-start
 part-put-title-start c = search needs
 
--- src/build.rt:45:15
 part-put-title-end : tie.Need-part-put-title-end
 part-put-title-end c = omega (arith, c .before .before .put-u322 .kept .0, c .before .before .before .before .before .before .put-u32 .kept .0, simp length-set at (c .before .before .before .before .before .before .before .before .before .before .put-u16 .kept .0))
 
--- src/build.rt:45:5
 put-title-requires : tie.Need-put-title-requires
 put-title-requires c κs = search needs
 
--- src/build.rt:35:1
 same-length : tie.Need-same-length
 same-length c = same-len-mid 16 64 (c .before .before .before .before .before .before .put-u322 .last .0) (c .before .before .put-title .last .0) (c .before .before .put-title .kept .0) ∙ c .before .before .before .before .before .before .put-u322 .kept .0 ∙ c .before .before .before .before .before .before .before .before .before .before .put-u32 .kept .0 ∙ c .before .before .before .before .before .before .before .before .before .before .before .before .before .before .put-u16 .kept .0 ∙ simp length-set (c .before .before .before .before .before .before .before .before .before .before .before .before .before .before .before .before .before .before .clear .kept .0)
 
--- src/build.rt:35:1
 returns : tie.Need-returns
 returns c = let a = c .before .before .before .before .before .before .before .before .before .before .before .before .before .before .before .before .before .before .before .before .before .before .args in
     rw (c .before .before .put-title .ensures, c .before .before .before .before .before .before .put-u322 .ensures, c .before .before .before .before .before .before .before .before .before .before .put-u32 .ensures, c .before .before .before .before .before .before .before .before .before .before .before .before .before .before .put-u16 .ensures, c .before .before .before .before .before .before .before .before .before .before .before .before .before .before .before .before .before .before .clear .ensures, c .before .before .before .before .before .before .before .before .before .before .before .before .before .before .before .before .before .before .before .before .before .before .pre .0)

@@ -9,43 +9,31 @@ use mathlib.Core.Path.{sym}
 use borrow.Author.Needs.{needs}
 use Rattle.transcript.proofs.build.put_title.Statement.{statement}
 use Rattle.transcript.proofs.build.put_title.Tie as tie
-use Rattle.transcript.proofs.build.put_title.Reads as reads
-use Rattle.transcript.proofs.build.put_title.Lts as lts
-use Rattle.carts.proofs.bytes.copy_all.Reads as copy-all-reads
 
--- src/build.rt:28:25
 slice-relend-prefix-copy-all : tie.Need-slice-relend-prefix-copy-all
 slice-relend-prefix-copy-all c = search needs
 
--- src/build.rt:28:25
 slice-aggregate-copy-all : tie.Need-slice-aggregate-copy-all
 slice-aggregate-copy-all c = let a = c .before .before .before .before .args in let h : length (a .title .now) ≤ length (a .field .now) = omega arith in sym (length-take-le _ _ h)
 
--- src/build.rt:28:9
 copy-all-requires : tie.Need-copy-all-requires
 copy-all-requires c κs = let a = c .before .before .before .before .args in let h : length (a .title .now) ≤ length (a .field .now) = omega arith in length-take-le _ _ h
 
--- src/build.rt:29:9
 same-length : tie.Need-same-length
 same-length c = search needs
 
--- src/build.rt:29:9
 returns : tie.Need-returns
 returns c = let t = c .before .before .before .before .before .before .before .args .title .now in rw (c .before .before .copy-all .ensures, take-all 64 t (omega arith))
 
--- src/build.rt:31:28
 slice-aggregate-copy-all-2 : tie.Need-slice-aggregate-copy-all-2
 slice-aggregate-copy-all-2 c = let t = c .before .before .before .before .before .args .title .now in let h : 64 ≤ length t = omega arith in sym (length-take-le 64 t h)
 
--- src/build.rt:31:5
 copy-all-requires-2 : tie.Need-copy-all-requires-2
 copy-all-requires-2 c κs = let a = c .before .before .before .before .before in let t = a .args .title .now in let h : 64 ≤ length t = omega arith in a .pre ∙ sym (length-take-le 64 t h)
 
--- src/build.rt:22:1
 same-length-2 : tie.Need-same-length-2
 same-length-2 c = search needs
 
--- src/build.rt:22:1
 returns-2 : tie.Need-returns-2
 returns-2 c = let a = c .before .before .before .before .before .before .before .before in let f = a .args .field .now in let t = a .args .title .now in let h : length f ≤ length t = omega arith in rw (c .before .before .copy-all2 .ensures, drop-of-length-le f h) (sym (append-nil _))
 

@@ -3,13 +3,10 @@ use Rattle.transcript.specs.Build.{u16List}
 use lib.ListN.{length, take, drop}
 use mathlib.Core.List.{_++_}
 use mathlib.Core.Path.{_≡_, refl, sym, _∙_}
-use Prim.Native.Nat.{ℕ, _≤_, _-_, _*_}
+use Prim.Native.Nat.{_≤_, _-_, _*_}
 use native.Mathlib.Omega.{arith}
 use Rattle.transcript.proofs.build.put_u16s.Statement.{statement}
 use Rattle.transcript.proofs.build.put_u16s.Tie as tie
-use Rattle.transcript.proofs.build.put_u16s.Reads as reads
-use Rattle.transcript.proofs.build.put_u16s.Lts as lts
-use Rattle.carts.proofs.bytes.put_u16.Reads as put-u16-reads
 
 abbrev Inv-loop : tie.InvT-loop
 Inv-loop field₀ numbers i₀ field i = (i ≤ length numbers) × (length field ≡ 64) × (field ≡ u16List (take i numbers) ++ drop (2 * i) field₀)
@@ -17,45 +14,35 @@ Inv-loop field₀ numbers i₀ field i = (i ≤ length numbers) × (length field
 abbrev μ-loop : tie.MeasureT-loop
 μ-loop field₀ numbers i₀ field i = length numbers - i
 
--- src/build.rt:65:5
 loop-holds : tie.Need-loop-holds Inv-loop μ-loop
 unfolding u16List
 loop-holds c = (omega arith, c .before .before .pre .0, refl)
 
--- src/build.rt:66:31
 mul-put-u16 : tie.Need-mul-put-u16 Inv-loop μ-loop
 mul-put-u16 c = omega arith
 
--- src/build.rt:66:38
 mul-put-u16-2 : tie.Need-mul-put-u16-2 Inv-loop μ-loop
 mul-put-u16-2 c = omega arith
 
--- src/build.rt:66:38
 shared-slice-read-put-u16 : tie.Need-shared-slice-read-put-u16 Inv-loop μ-loop
 shared-slice-read-put-u16 c = omega arith
 
--- src/build.rt:66:9
 put-u16-requires : tie.Need-put-u16-requires Inv-loop μ-loop
 put-u16-requires c κs = (omega arith, omega arith)
 
--- src/build.rt:67:9
 add-i : tie.Need-add-i Inv-loop μ-loop
 add-i c = omega arith
 
--- src/build.rt:65:5
 loop-less : tie.Need-loop-less Inv-loop μ-loop
 loop-less c = omega arith
 
--- src/build.rt:65:5
 loop-again : tie.Need-loop-again Inv-loop μ-loop
 loop-again c = let t = c .before .before .before .before .before .before in let p = c .before .before .put-u16 in
     (omega arith, p .kept .0 ∙ t .loop .inv .1, p .ensures ∙ rw (t .loop .inv .2) (u16s-more (c .before .before .before .before .before .before .before .before .before .args .numbers .now) (c .before .before .before .before .before .before .before .before .before .args .field .now) (t .loop .i) (omega arith)))
 
--- src/build.rt:60:1
 same-length : tie.Need-same-length Inv-loop μ-loop
 same-length c = c .before .loop .inv .1 ∙ sym (c .before .before .before .before .pre .0)
 
--- src/build.rt:60:1
 returns : tie.Need-returns Inv-loop μ-loop
 returns c = let ns = c .before .before .before .before .args .numbers .now in let e : c .before .loop .i ≡ length ns = omega arith in c .before .loop .inv .2 ∙ u16s-end ns (c .before .before .before .before .args .field .now) (c .before .loop .i) e
 

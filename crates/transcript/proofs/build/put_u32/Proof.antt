@@ -6,58 +6,43 @@ use native.Mathlib.Omega.{arith}
 use borrow.Author.Needs.{needs}
 use Rattle.transcript.proofs.build.put_u32.Statement.{statement}
 use Rattle.transcript.proofs.build.put_u32.Tie as tie
-use Rattle.transcript.proofs.build.put_u32.Reads as reads
-use Rattle.transcript.proofs.build.put_u32.Lts as lts
 
--- src/build.rt:15:13
 cast-s : tie.Need-cast-s
 cast-s c = search needs
 
--- src/build.rt:15:5
 slice-write-s : tie.Need-slice-write-s
 slice-write-s c = search needs
 
--- src/build.rt:16:17
 cast-s-2 : tie.Need-cast-s-2
 cast-s-2 c = search needs
 
--- src/build.rt:16:7
 add-s : tie.Need-add-s
 add-s c = search needs
 
--- src/build.rt:16:5
 slice-write-s-2 : tie.Need-slice-write-s-2
 slice-write-s-2 c = simp length-set (omega arith)
 
--- src/build.rt:17:17
 cast-s-3 : tie.Need-cast-s-3
 cast-s-3 c = search needs
 
--- src/build.rt:17:7
 add-s-2 : tie.Need-add-s-2
 add-s-2 c = search needs
 
--- src/build.rt:17:5
 slice-write-s-3 : tie.Need-slice-write-s-3
 slice-write-s-3 c = simp length-set (omega arith)
 
--- src/build.rt:18:17
 cast-s-4 : tie.Need-cast-s-4
 cast-s-4 c = search needs
 
--- src/build.rt:18:7
 add-s-3 : tie.Need-add-s-3
 add-s-3 c = search needs
 
--- src/build.rt:18:5
 slice-write-s-4 : tie.Need-slice-write-s-4
 slice-write-s-4 c = simp length-set (omega arith)
 
--- src/build.rt:11:1
 same-length : tie.Need-same-length
 same-length c = search needs
 
--- src/build.rt:11:1
 returns : tie.Need-returns
 unfolding u32Bytes
 returns c = let a = c .args in over-four (a .s .now) (a .at) (a .v % 256) (a .v / 256 % 256) (a .v / 65536 % 256) (a .v / 16777216) (omega arith)

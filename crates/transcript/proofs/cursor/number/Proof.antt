@@ -5,69 +5,48 @@ use native.Mathlib.Omega.{arith}
 use borrow.Author.Needs.{needs}
 use Rattle.transcript.proofs.cursor.number.Statement.{statement}
 use Rattle.transcript.proofs.cursor.number.Tie as tie
-use Rattle.transcript.proofs.cursor.number.Reads as reads
-use Rattle.transcript.proofs.cursor.number.Lts as lts
-use Rattle.transcript.proofs.cursor.Cursor.moved.Reads as moved-reads
-use Rattle.transcript.proofs.cursor.Cursor.stopped.Reads as stopped-reads
-use Rattle.transcript.proofs.text.number_of.Reads as number-of-reads
-use Rattle.transcript.proofs.text.part_of.Reads as part-of-reads
-use Rattle.transcript.proofs.text.run_end.Reads as run-end-reads
 
--- src/cursor.rt:147:9
 run-end-requires : tie.Need-run-end-requires
 run-end-requires c κs = search needs
 
--- src/cursor.rt:148:9
 run-end-requires-2 : tie.Need-run-end-requires-2
 run-end-requires-2 c κs = search needs
 
--- src/cursor.rt:149:51
 sub-part-of : tie.Need-sub-part-of
 sub-part-of c = search needs
 
--- src/cursor.rt:149:27
 part-of-requires : tie.Need-part-of-requires
 part-of-requires c κs = search needs
 
--- src/cursor.rt:149:11
 number-of-requires : tie.Need-number-of-requires
 number-of-requires c κs = search needs
 
--- src/cursor.rt:150:23
 enum-known-value : tie.Need-enum-known-value
 enum-known-value c = search needs
 
--- src/cursor.rt:152:21
 moved-requires : tie.Need-moved-requires
 moved-requires c κs = search needs
 
--- src/cursor.rt:156:31
 enum-told : tie.Need-enum-told
 enum-told c = search needs
 
--- src/cursor.rt:156:21
 stopped-requires : tie.Need-stopped-requires
 stopped-requires c κs = search needs
 
--- src/cursor.rt:160:31
 enum-told-2 : tie.Need-enum-told-2
 enum-told-2 c = search needs
 
--- src/cursor.rt:160:21
 stopped-requires-2 : tie.Need-stopped-requires-2
 stopped-requires-2 c κs = search needs
 
--- src/cursor.rt:144:1
 returns : tie.Need-returns
 returns c = let n = c .before .before .before .before .number-of in
     (rw (c .moved .ensures) (number-by-parts (c .before .before .before .before .before .before .before .before .before .args .s .now) (c .before .before .before .before .before .before .before .before .before .args .c) (c .before .before .before .before .before .before .before .before .before .args .most) (c .before .before .before .before .before .before .before .run-end .result) (c .before .before .before .before .before .before .run-end2 .result) (c .before .before .before .before .before .part-of .result .now) _ (c .before .before .before .before .before .before .before .run-end .ensures .0) (c .before .before .before .before .before .before .run-end2 .ensures .0) (c .before .before .before .before .before .part-of .ensures) (sym (c .before .before .value .given .1) ∙ n .ensures)), number-at-most (c .before .before .before .before .before .before .before .before .before .args .most) (c .before .before .value .given .0 .0) _ (sym (n .ensures) ∙ c .before .before .value .given .1))
 
--- src/cursor.rt:144:1
 returns-2 : tie.Need-returns-2
 returns-2 c = let n = c .before .before .before .number-of in
     (rw (c .stopped .ensures) (number-by-parts (c .before .before .before .before .before .before .before .before .args .s .now) (c .before .before .before .before .before .before .before .before .args .c) (c .before .before .before .before .before .before .before .before .args .most) (c .before .before .before .before .before .before .run-end .result) (c .before .before .before .before .before .run-end2 .result) (c .before .before .before .before .part-of .result .now) _ (c .before .before .before .before .before .before .run-end .ensures .0) (c .before .before .before .before .before .run-end2 .ensures .0) (c .before .before .before .before .part-of .ensures) (sym (c .before .enum-told .given .1) ∙ n .ensures)), omega arith)
 
--- src/cursor.rt:144:1
 returns-3 : tie.Need-returns-3
 returns-3 c = let n = c .before .before .before .number-of in
     (rw (c .stopped2 .ensures) (number-by-parts (c .before .before .before .before .before .before .before .before .args .s .now) (c .before .before .before .before .before .before .before .before .args .c) (c .before .before .before .before .before .before .before .before .args .most) (c .before .before .before .before .before .before .run-end .result) (c .before .before .before .before .before .run-end2 .result) (c .before .before .before .before .part-of .result .now) _ (c .before .before .before .before .before .before .run-end .ensures .0) (c .before .before .before .before .before .run-end2 .ensures .0) (c .before .before .before .before .part-of .ensures) (sym (c .before .enum-told2 .given .1) ∙ n .ensures)), omega arith)

@@ -9,45 +9,30 @@ use native.Mathlib.Omega.{arith}
 use borrow.Author.Needs.{needs}
 use Rattle.transcript.proofs.cursor.title.Statement.{statement}
 use Rattle.transcript.proofs.cursor.title.Tie as tie
-use Rattle.transcript.proofs.cursor.title.Reads as reads
-use Rattle.transcript.proofs.cursor.title.Lts as lts
-use Rattle.carts.proofs.bytes.all_printable.Reads as all-printable-reads
-use Rattle.transcript.proofs.cursor.Cursor.moved.Reads as moved-reads
-use Rattle.transcript.proofs.cursor.no_title.Reads as no-title-reads
-use Rattle.transcript.proofs.text.letter.Reads as letter-reads
-use Rattle.transcript.proofs.text.run_end.Reads as run-end-reads
 
--- src/cursor.rt:180:9
 run-end-requires : tie.Need-run-end-requires
 run-end-requires c κs = search needs
 
--- src/cursor.rt:181:9
 letter-requires : tie.Need-letter-requires
 letter-requires c κs = search needs
 
--- src/cursor.rt:183:9
 no-title-requires : tie.Need-no-title-requires
 no-title-requires c κs = search needs
 
--- src/cursor.rt:183:9
 returns : tie.Need-returns
 unfolding titleAt
 returns c = (rw (c .no-title .ensures, ← c .before .before .before .run-end .ensures .0, ← c .before .before .letter .ensures, c .before .if1 .taken), no-title _ _ (c .before .before .before .before .before .args .c) TitleMissing (c .no-title .ensures))
 
--- src/cursor.rt:186:9
 no-title-requires-2 : tie.Need-no-title-requires-2
 no-title-requires-2 c κs = search needs
 
--- src/cursor.rt:186:9
 returns-2 : tie.Need-returns-2
 unfolding titleAt
 returns-2 c = (rw (c .no-title2 .ensures, ← c .before .before .before .before .run-end .ensures .0, List·getD-eq-default {A = ℕ} (c .before .before .before .before .before .before .args .s .now) 0 (c .before .if2 .taken)), no-title _ _ (c .before .before .before .before .before .before .args .c) TitleMissing (c .no-title2 .ensures))
 
--- src/cursor.rt:188:17
 add-start : tie.Need-add-start
 add-start c = search needs
 
--- src/cursor.rt:189:9
 run-end-requires-2 : tie.Need-run-end-requires-2
 run-end-requires-2 c κs = search needs
 
@@ -58,71 +43,55 @@ opened : (c : tie.After-run-end2) →
 unfolding titleAt
 opened c = rw (← c .before .before .before .before .run-end .ensures .0, ← c .before .before .before .letter .ensures, c .before .before .if1 .left, ← c .run-end2 .ensures .0)
 
--- src/cursor.rt:191:9
 no-title-requires-3 : tie.Need-no-title-requires-3
 no-title-requires-3 c κs = search needs
 
--- src/cursor.rt:191:9
 returns-3 : tie.Need-returns-3
 unfolding titleFrom
 returns-3 c = (rw (c .no-title3 .ensures, ← opened (c .before .before), le-leb _ _ (c .before .if3 .taken)), no-title _ _ (c .before .before .before .before .before .before .before .before .args .c) TitleOpen (c .no-title3 .ensures))
 
--- src/cursor.rt:193:18
 sub-length : tie.Need-sub-length
 sub-length c = search needs
 
--- src/cursor.rt:195:9
 no-title-requires-4 : tie.Need-no-title-requires-4
 no-title-requires-4 c κs = search needs
 
--- src/cursor.rt:195:9
 returns-4 : tie.Need-returns-4
 unfolding titleFrom
 returns-4 c = (rw (c .no-title4 .ensures, ← opened (c .before .before .before), lt-leb _ _ (c .before .before .if3 .left), eq-eqb _ _ (c .before .if4 .taken)), no-title _ _ (c .before .before .before .before .before .before .before .before .before .args .c) TitleEmpty (c .no-title4 .ensures))
 
--- src/cursor.rt:198:9
 no-title-requires-5 : tie.Need-no-title-requires-5
 no-title-requires-5 c κs = search needs
 
--- src/cursor.rt:198:9
 returns-5 : tie.Need-returns-5
 unfolding titleFrom
 returns-5 c = (rw (c .no-title5 .ensures, ← opened (c .before .before .before .before), lt-leb _ _ (c .before .before .before .if3 .left), ne-eqb _ _ (c .before .before .if4 .left), lt-ltb _ _ (c .before .if5 .taken)), no-title _ _ (c .before .before .before .before .before .before .before .before .before .before .args .c) TitleTooLong (c .no-title5 .ensures))
 
--- src/cursor.rt:200:30
 sub-all-printable : tie.Need-sub-all-printable
 sub-all-printable c = search needs
 
--- src/cursor.rt:200:30
 part-all-printable-start : tie.Need-part-all-printable-start
 part-all-printable-start c = search needs
 
--- src/cursor.rt:200:30
 part-all-printable-end : tie.Need-part-all-printable-end
 part-all-printable-end c = search needs
 
--- src/cursor.rt:200:9
 all-printable-requires : tie.Need-all-printable-requires
 all-printable-requires c κs = search needs
 
--- src/cursor.rt:201:9
 no-title-requires-6 : tie.Need-no-title-requires-6
 no-title-requires-6 c κs = search needs
 
--- src/cursor.rt:201:9
 returns-6 : tie.Need-returns-6
 unfolding titleFrom
 returns-6 c = (rw (c .no-title6 .ensures, ← opened (c .before .before .before .before .before .before .before), lt-leb _ _ (c .before .before .before .before .before .before .if3 .left), ne-eqb _ _ (c .before .before .before .before .before .if4 .left), le-ltb _ _ (c .before .before .before .before .if5 .left), ← c .before .before .all-printable .ensures, c .before .if6 .taken), no-title _ _ (c .before .before .before .before .before .before .before .before .before .before .before .before .before .args .c) TitleUnprintable (c .no-title6 .ensures))
 
--- src/cursor.rt:206:25
 add-moved : tie.Need-add-moved
 add-moved c = search needs
 
--- src/cursor.rt:206:17
 moved-requires : tie.Need-moved-requires
 moved-requires c κs = search needs
 
--- src/cursor.rt:177:1
 returns-7 : tie.Need-returns-7
 unfolding titleFrom
 returns-7 c = let p = c .before .before .all-printable in

@@ -2,35 +2,23 @@ use Rattle.transcript.specs.Cursor.{pastWord}
 use borrow.Author.Needs.{needs}
 use Rattle.transcript.proofs.cursor.word.Statement.{statement}
 use Rattle.transcript.proofs.cursor.word.Tie as tie
-use Rattle.transcript.proofs.cursor.word.Reads as reads
-use Rattle.transcript.proofs.cursor.word.Lts as lts
-use Rattle.transcript.proofs.cursor.Cursor.stopped.Reads as stopped-reads
-use Rattle.transcript.proofs.cursor.past_word.Reads as past-word-reads
-use Rattle.transcript.proofs.cursor.peek_word.Reads as peek-word-reads
-use Rattle.transcript.proofs.text.same.Reads as same-reads
 
--- src/cursor.rt:123:19
 peek-word-requires : tie.Need-peek-word-requires
 peek-word-requires c κs = search needs
 
--- src/cursor.rt:123:8
 same-requires : tie.Need-same-requires
 same-requires c κs = search needs
 
--- src/cursor.rt:124:9
 past-word-requires : tie.Need-past-word-requires
 past-word-requires c κs = search needs
 
--- src/cursor.rt:124:9
 returns : tie.Need-returns
 unfolding pastWord
 returns c = rw (c .past-word .ensures, ← c .before .before .before .peek-word .ensures, ← c .before .before .same .ensures, c .before .if1 .taken)
 
--- src/cursor.rt:126:5
 stopped-requires : tie.Need-stopped-requires
 stopped-requires c κs = search needs
 
--- src/cursor.rt:120:1
 returns-2 : tie.Need-returns-2
 unfolding pastWord
 returns-2 c = rw (c .stopped .ensures, ← c .before .before .before .peek-word .ensures, ← c .before .before .same .ensures, c .before .if1 .left)

@@ -2,68 +2,49 @@ use Rattle.transcript.specs.Parse.{numberCallAt}
 use borrow.Author.Needs.{needs}
 use Rattle.transcript.proofs.parse.by_number.Statement.{statement}
 use Rattle.transcript.proofs.parse.by_number.Tie as tie
-use Rattle.transcript.proofs.parse.by_number.Reads as reads
-use Rattle.transcript.proofs.parse.by_number.Lts as lts
-use Rattle.transcript.proofs.cursor.number.Reads as number-reads
-use Rattle.transcript.proofs.parse.whole.Reads as whole-reads
-use Rattle.transcript.proofs.text.same.Reads as same-reads
 
--- src/parse.rt:263:9
 number-requires : tie.Need-number-requires
 number-requires c κs = search needs
 
--- src/parse.rt:264:25
 slice-aggregate-same : tie.Need-slice-aggregate-same
 slice-aggregate-same c = search needs
 
--- src/parse.rt:264:8
 same-requires : tie.Need-same-requires
 same-requires c κs = search needs
 
--- src/parse.rt:265:9
 whole-requires : tie.Need-whole-requires
 whole-requires c κs = search needs
 
--- src/parse.rt:265:9
 returns : tie.Need-returns
 unfolding numberCallAt
 returns c = (rw (c .whole .ensures .0, c .before .before .before .before .number .ensures .0, ← c .before .before .same .ensures, c .before .if1 .taken), c .whole .ensures .1)
 
--- src/parse.rt:267:25
 slice-aggregate-same-2 : tie.Need-slice-aggregate-same-2
 slice-aggregate-same-2 c = search needs
 
--- src/parse.rt:267:8
 same-requires-2 : tie.Need-same-requires-2
 same-requires-2 c κs = search needs
 
--- src/parse.rt:268:9
 whole-requires-2 : tie.Need-whole-requires-2
 whole-requires-2 c κs = search needs
 
--- src/parse.rt:268:9
 returns-2 : tie.Need-returns-2
 unfolding numberCallAt
 returns-2 c = (rw (c .whole2 .ensures .0, c .before .before .before .before .before .before .before .number .ensures .0, ← c .before .before .before .before .before .same .ensures, c .before .before .before .before .if1 .left, ← c .before .before .same2 .ensures, c .before .if2 .taken), c .whole2 .ensures .1)
 
--- src/parse.rt:270:25
 slice-aggregate-same-3 : tie.Need-slice-aggregate-same-3
 slice-aggregate-same-3 c = search needs
 
--- src/parse.rt:270:8
 same-requires-3 : tie.Need-same-requires-3
 same-requires-3 c κs = search needs
 
--- src/parse.rt:271:9
 whole-requires-3 : tie.Need-whole-requires-3
 whole-requires-3 c κs = search needs
 
--- src/parse.rt:271:9
 returns-3 : tie.Need-returns-3
 unfolding numberCallAt
 returns-3 c = (rw (c .whole3 .ensures .0, c .before .before .before .before .before .before .before .before .before .before .number .ensures .0, ← c .before .before .before .before .before .before .before .before .same .ensures, c .before .before .before .before .before .before .before .if1 .left, ← c .before .before .before .before .before .same2 .ensures, c .before .before .before .before .if2 .left, ← c .before .before .same3 .ensures, c .before .if3 .taken), c .whole3 .ensures .1)
 
--- src/parse.rt:260:1
 returns-4 : tie.Need-returns-4
 unfolding numberCallAt
 returns-4 c = (rw (← c .before .before .before .before .before .before .before .same .ensures, c .before .before .before .before .before .before .if1 .left, ← c .before .before .before .before .same2 .ensures, c .before .before .before .if2 .left, ← c .before .same3 .ensures, c .if3 .left), tt)

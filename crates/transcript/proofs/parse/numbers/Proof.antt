@@ -9,12 +9,6 @@ use Prim.Native.Nat.{_+_, _-_}
 use native.Mathlib.Omega.{arith}
 use Rattle.transcript.proofs.parse.numbers.Statement.{statement}
 use Rattle.transcript.proofs.parse.numbers.Tie as tie
-use Rattle.transcript.proofs.parse.numbers.Reads as reads
-use Rattle.transcript.proofs.parse.numbers.Lts as lts
-use Rattle.transcript.proofs.cursor.Cursor.stopped.Reads as stopped-reads
-use Rattle.transcript.proofs.cursor.number.Reads as number-reads
-use Rattle.transcript.proofs.cursor.peek.Reads as peek-reads
-use Rattle.transcript.proofs.text.is_in.Reads as is-in-reads
 
 abbrev Inv-loop : tie.InvT-loop
 Inv-loop s most out₀ next₀ n₀ out next n = Passed (numbersAt (length out₀) s next₀ most) 1 n out₀ out (numbersAt (length out₀ - n) s next most)
@@ -22,31 +16,24 @@ Inv-loop s most out₀ next₀ n₀ out next n = Passed (numbersAt (length out�
 abbrev μ-loop : tie.MeasureT-loop
 μ-loop s most out₀ next₀ n₀ out next n = length out₀ - n
 
--- src/parse.rt:169:5
 loop-holds : tie.Need-loop-holds Inv-loop μ-loop
 loop-holds c = let o = c .before .before .args .out .now in let e : length o - 0 ≡ length o = omega arith in passed-none _ _ 1 o (rw e)
 
--- src/parse.rt:170:13
 number-requires : tie.Need-number-requires Inv-loop μ-loop
 number-requires c κs = tt
 
--- src/parse.rt:171:9
 mul-out : tie.Need-mul-out Inv-loop μ-loop
 mul-out c = omega arith
 
--- src/parse.rt:171:9
 slice-write-out : tie.Need-slice-write-out Inv-loop μ-loop
 slice-write-out c = omega arith
 
--- src/parse.rt:173:9
 add-n : tie.Need-add-n Inv-loop μ-loop
 add-n c = omega arith
 
--- src/parse.rt:174:39
 peek-requires : tie.Need-peek-requires Inv-loop μ-loop
 peek-requires c κs = tt
 
--- src/parse.rt:174:13
 is-in-requires : tie.Need-is-in-requires Inv-loop μ-loop
 is-in-requires c κs = tt
 
@@ -64,31 +51,24 @@ turn c =
     let one = c .before .before .before .number in
     rw (← c .before .peek .ensures, ← c .is-in .ensures) at (numbers-turn _ (a .s .now) (t .next) (a .most) (t .n) (a .out .now) (t .out) (one .result) (t .inv) (omega arith) (one .ensures .0))
 
--- src/parse.rt:175:13
 same-length : tie.Need-same-length Inv-loop μ-loop
 same-length c = rw length-set (c .before .before .before .before .before .before .loop .inv .kept)
 
--- src/parse.rt:175:13
 returns : tie.Need-returns Inv-loop μ-loop
 returns c = let p = rw (not-true (c .before .is-in .result) (c .if1 .taken)) at (turn (c .before)) in (passed-all _ 1 _ _ _ _ p, omega arith)
 
--- src/parse.rt:169:5
 loop-less : tie.Need-loop-less Inv-loop μ-loop
 loop-less c = omega arith
 
--- src/parse.rt:169:5
 loop-again : tie.Need-loop-again Inv-loop μ-loop
 loop-again c = rw (not-false (c .before .is-in .result) (c .if1 .left)) at (turn (c .before))
 
--- src/parse.rt:183:17
 stopped-requires : tie.Need-stopped-requires Inv-loop μ-loop
 stopped-requires c κs = tt
 
--- src/parse.rt:164:1
 same-length-2 : tie.Need-same-length-2 Inv-loop μ-loop
 same-length-2 c = c .before .before .loop .inv .kept
 
--- src/parse.rt:164:1
 returns-2 : tie.Need-returns-2 Inv-loop μ-loop
 returns-2 c = let t = c .before .before in let a = c .before .before .before .before .before .args in
     let p = numbers-full _ (a .s .now) (t .loop .next) (a .most) (t .loop .n) (a .out .now) (t .loop .out) (t .loop .inv) (omega arith) in

@@ -14,12 +14,6 @@ use Prim.Native.Nat.{ℕ, _≤_, _-_}
 use native.Mathlib.Omega.{arith}
 use Rattle.transcript.proofs.parse.operations.Statement.{statement}
 use Rattle.transcript.proofs.parse.operations.Tie as tie
-use Rattle.transcript.proofs.parse.operations.Reads as reads
-use Rattle.transcript.proofs.parse.operations.Lts as lts
-use Rattle.transcript.proofs.cursor.Cursor.stopped.Reads as stopped-reads
-use Rattle.transcript.proofs.cursor.mark.Reads as mark-reads
-use Rattle.transcript.proofs.cursor.peek.Reads as peek-reads
-use Rattle.transcript.proofs.parse.operation.Reads as operation-reads
 
 abbrev Inv-loop : tie.InvT-loop
 Inv-loop s payload₀ next₀ n₀ payload next n = (1 ≤ n) × (n ≤ 8) × (length payload ≡ 640) × ((w : Gathered) (m : List ℕ) → Passed w 80 1 m payload₀ (moreOperations 7 s next₀) → Passed w 80 n m payload (moreOperations (8 - n) s next))
@@ -27,27 +21,21 @@ Inv-loop s payload₀ next₀ n₀ payload next n = (1 ≤ n) × (n ≤ 8) × (l
 abbrev μ-loop : tie.MeasureT-loop
 μ-loop s payload₀ next₀ n₀ payload next n = 8 - n
 
--- src/parse.rt:136:36
 sub-operation : tie.Need-sub-operation Inv-loop μ-loop
 sub-operation c = omega arith
 
--- src/parse.rt:136:36
 part-operation-start : tie.Need-part-operation-start Inv-loop μ-loop
 part-operation-start c = omega arith
 
--- src/parse.rt:136:36
 part-operation-end : tie.Need-part-operation-end Inv-loop μ-loop
 part-operation-end c = omega arith
 
--- src/parse.rt:136:9
 operation-requires : tie.Need-operation-requires Inv-loop μ-loop
 operation-requires c κs = let p = c .before .before .before .args .payload .now in let h : 80 ≤ length p = omega arith in length-take-le 80 p h
 
--- src/parse.rt:138:5
 loop-holds : tie.Need-loop-holds Inv-loop μ-loop
 loop-holds c = (omega arith, omega arith, same-len-mid 0 80 (c .before .before .before .before .before .before .args .payload .now) (c .before .before .operation .last .1 .1 .0) (c .before .before .operation .kept .1 .1 .0) ∙ c .before .before .before .before .before .before .pre, λ w m p. p)
 
--- src/parse.rt:139:12
 peek-requires : tie.Need-peek-requires Inv-loop μ-loop
 peek-requires c κs = tt
 
@@ -61,53 +49,41 @@ first c =
     let one = c .before .before .before .operation in
     operations-first (a .s .now) (a .c) (one .result) (a .payload .now) (one .last .1 .1 .0) (one .ensures) (one .kept .1 .1 .0 ∙ length-take-le 80 (a .payload .now) (omega arith)) (omega arith)
 
--- src/parse.rt:140:13
 same-length : tie.Need-same-length Inv-loop μ-loop
 same-length c = c .before .before .before .loop .inv .2 ∙ sym (c .before .before .before .before .before .before .before .before .before .before .pre)
 
--- src/parse.rt:140:13
 returns : tie.Need-returns Inv-loop μ-loop
 returns c = let t = c .before .before .before in let a = c .before .before .before .before .before .before .before .before .before .before .args in
     let p = operations-last _ (a .s .now) (t .loop .next) (t .loop .n) _ (t .loop .payload) (t .loop .inv .3 _ _ (first t)) (omega arith) (λ e. c .if1 .taken (c .before .peek .ensures ∙ e)) in
     (passed-all _ 80 _ _ _ _ p, omega arith, omega arith)
 
--- src/parse.rt:145:21
 mul-start : tie.Need-mul-start Inv-loop μ-loop
 mul-start c = omega arith
 
--- src/parse.rt:146:19
 add-end : tie.Need-add-end Inv-loop μ-loop
 add-end c = omega arith
 
--- src/parse.rt:149:13
 mark-requires : tie.Need-mark-requires Inv-loop μ-loop
 mark-requires c κs = tt
 
--- src/parse.rt:150:13
 sub-operation-2 : tie.Need-sub-operation-2 Inv-loop μ-loop
 sub-operation-2 c = omega arith
 
--- src/parse.rt:150:13
 part-operation-start-2 : tie.Need-part-operation-start-2 Inv-loop μ-loop
 part-operation-start-2 c = omega arith
 
--- src/parse.rt:150:13
 part-operation-end-2 : tie.Need-part-operation-end-2 Inv-loop μ-loop
 part-operation-end-2 c = omega arith
 
--- src/parse.rt:147:9
 operation-requires-2 : tie.Need-operation-requires-2 Inv-loop μ-loop
 operation-requires-2 c κs = let t = c .before .before .before .before .before in let h : 80 * t .loop .n + 80 ≤ length (t .loop .payload) = omega arith in rw add-sub-cancel-left (length-part (t .loop .payload) (80 * t .loop .n) 80 h)
 
--- src/parse.rt:152:9
 add-n : tie.Need-add-n Inv-loop μ-loop
 add-n c = omega arith
 
--- src/parse.rt:138:5
 loop-less : tie.Need-loop-less Inv-loop μ-loop
 loop-less c = omega arith
 
--- src/parse.rt:138:5
 loop-again : tie.Need-loop-again Inv-loop μ-loop
 loop-again c = let t = c .before .before .before .before .before .before .before .before in let s = c .before .before .before .before .before .before .before .before .before .before .before .before .before .before .before .args .s .now in let p = c .before .before .operation2 in let a = 80 * t .loop .n in let item = p .last .1 .1 .0 in
     let h : a + 80 ≤ length (t .loop .payload) = omega arith in
@@ -119,29 +95,23 @@ loop-again c = let t = c .before .before .before .before .before .before .before
           rw add-sub-cancel-left (operations-more w s (t .loop .next) (p .result) (t .loop .n) m (t .loop .payload) item r (omega arith) (sym (c .before .before .before .before .before .before .peek .ensures) ∙ c .before .before .before .before .before .if1 .left) (rw (c .before .before .before .before .mark .ensures) at (p .ensures)) l (omega arith)),
     )
 
--- src/parse.rt:154:8
 peek-requires-2 : tie.Need-peek-requires-2 Inv-loop μ-loop
 peek-requires-2 c κs = tt
 
--- src/parse.rt:155:9
 stopped-requires : tie.Need-stopped-requires Inv-loop μ-loop
 stopped-requires c κs = tt
 
--- src/parse.rt:132:1
 same-length-2 : tie.Need-same-length-2 Inv-loop μ-loop
 same-length-2 c = c .before .before .before .before .loop .inv .2 ∙ sym (c .before .before .before .before .before .before .before .before .before .before .before .pre)
 
--- src/parse.rt:132:1
 returns-2 : tie.Need-returns-2 Inv-loop μ-loop
 returns-2 c = let t = c .before .before .before .before in let a = c .before .before .before .before .before .before .before .before .before .before .before .args in
     let p = operations-full _ (a .s .now) (t .loop .next) (t .loop .n) _ (t .loop .payload) (t .loop .inv .3 _ _ (first t)) (omega arith) in
     (rw (c .stopped .ensures) (rw (← c .before .before .peek2 .ensures, c .before .if2 .taken) at (passed-all _ 80 _ _ _ _ p)), omega arith, omega arith)
 
--- src/parse.rt:132:1
 same-length-3 : tie.Need-same-length-3 Inv-loop μ-loop
 same-length-3 c = c .before .before .before .loop .inv .2 ∙ sym (c .before .before .before .before .before .before .before .before .before .before .pre)
 
--- src/parse.rt:132:1
 returns-3 : tie.Need-returns-3 Inv-loop μ-loop
 returns-3 c = let t = c .before .before .before in let a = c .before .before .before .before .before .before .before .before .before .before .args in
     let p = operations-full _ (a .s .now) (t .loop .next) (t .loop .n) _ (t .loop .payload) (t .loop .inv .3 _ _ (first t)) (omega arith) in

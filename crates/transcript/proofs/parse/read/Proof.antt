@@ -6,82 +6,57 @@ use Rattle.transcript.proofs.ParseLaws.{read-by-parts}
 use borrow.Author.Needs.{needs}
 use Rattle.transcript.proofs.parse.read.Statement.{statement}
 use Rattle.transcript.proofs.parse.read.Tie as tie
-use Rattle.transcript.proofs.parse.read.Reads as reads
-use Rattle.transcript.proofs.parse.read.Lts as lts
-use Rattle.transcript.proofs.cursor.mark.Reads as mark-reads
-use Rattle.transcript.proofs.cursor.number.Reads as number-reads
-use Rattle.transcript.proofs.cursor.peek.Reads as peek-reads
-use Rattle.transcript.proofs.parse.numbers_request.Reads as numbers-request-reads
-use Rattle.transcript.proofs.parse.title_request.Reads as title-request-reads
-use Rattle.transcript.proofs.parse.whole.Reads as whole-reads
 
--- src/parse.rt:248:9
 number-requires : tie.Need-number-requires
 number-requires c κs = search needs
 
--- src/parse.rt:249:9
 mark-requires : tie.Need-mark-requires
 mark-requires c κs = search needs
 
--- src/parse.rt:250:9
 peek-requires : tie.Need-peek-requires
 peek-requires c κs = search needs
 
--- src/parse.rt:252:43
 sub-title-request : tie.Need-sub-title-request
 sub-title-request c = search needs
 
--- src/parse.rt:252:43
 part-title-request-start : tie.Need-part-title-request-start
 part-title-request-start c = search needs
 
--- src/parse.rt:252:43
 part-title-request-end : tie.Need-part-title-request-end
 part-title-request-end c = search needs
 
--- src/parse.rt:252:13
 title-request-requires : tie.Need-title-request-requires
 title-request-requires c κs = search needs
 
--- src/parse.rt:253:9
 whole-requires : tie.Need-whole-requires
 whole-requires c κs = search needs
 
--- src/parse.rt:253:9
 same-length : tie.Need-same-length
 same-length c = search needs
 
--- src/parse.rt:253:9
 returns : tie.Need-returns
 unfolding requestAt
 returns c = let one = c .before .before .before .title-request in let p = c .before .before .before .before .before .before .before .before .before .before .before .args .payload .now in
     read-by-parts _ _ (c .before .before .before .before .before .before .before .mark .result) (one .result) (c .before .before .before .before .before .before .before .before .number .result) p (one .last .1 .1 .0) _ (c .before .before .before .before .before .before .before .before .number .ensures .0) (c .before .before .before .before .before .before .before .mark .ensures) (rw (← c .before .before .before .before .before .before .peek .ensures, c .before .before .before .before .before .if1 .taken) (one .ensures)) (one .kept .1 .1 .0 ∙ length-take-le 80 p (omega arith)) (c .whole .ensures .0) (c .whole .ensures .1)
 
--- src/parse.rt:255:41
 sub-numbers-request : tie.Need-sub-numbers-request
 sub-numbers-request c = search needs
 
--- src/parse.rt:255:41
 part-numbers-request-start : tie.Need-part-numbers-request-start
 part-numbers-request-start c = search needs
 
--- src/parse.rt:255:41
 part-numbers-request-end : tie.Need-part-numbers-request-end
 part-numbers-request-end c = search needs
 
--- src/parse.rt:255:9
 numbers-request-requires : tie.Need-numbers-request-requires
 numbers-request-requires c κs = search needs
 
--- src/parse.rt:256:5
 whole-requires-2 : tie.Need-whole-requires-2
 whole-requires-2 c κs = search needs
 
--- src/parse.rt:244:1
 same-length-2 : tie.Need-same-length-2
 same-length-2 c = search needs
 
--- src/parse.rt:244:1
 returns-2 : tie.Need-returns-2
 unfolding requestAt
 returns-2 c = let one = c .before .before .before .numbers-request in let p = c .before .before .before .before .before .before .before .before .before .before .before .args .payload .now in

@@ -7,64 +7,44 @@ use native.Mathlib.Omega.{arith}
 use borrow.Author.Needs.{needs}
 use Rattle.transcript.proofs.parse.setup.Statement.{statement}
 use Rattle.transcript.proofs.parse.setup.Tie as tie
-use Rattle.transcript.proofs.parse.setup.Reads as reads
-use Rattle.transcript.proofs.parse.setup.Lts as lts
-use Rattle.transcript.proofs.build.put_studios.Reads as put-studios-reads
-use Rattle.transcript.proofs.cursor.mark.Reads as mark-reads
-use Rattle.transcript.proofs.cursor.number.Reads as number-reads
-use Rattle.transcript.proofs.parse.numbers.Reads as numbers-reads
-use Rattle.transcript.proofs.parse.whole.Reads as whole-reads
 
--- src/parse.rt:192:9
 number-requires : tie.Need-number-requires
 number-requires c κs = search needs
 
--- src/parse.rt:194:9
 mark-requires : tie.Need-mark-requires
 mark-requires c κs = search needs
 
--- src/parse.rt:195:39
 slice-aggregate-numbers : tie.Need-slice-aggregate-numbers
 slice-aggregate-numbers c = search needs
 
--- src/parse.rt:195:9
 numbers-requires : tie.Need-numbers-requires
 numbers-requires c κs = search needs
 
--- src/parse.rt:197:24
 sub-put-studios : tie.Need-sub-put-studios
 sub-put-studios c = search needs
 
--- src/parse.rt:197:24
 part-put-studios-start : tie.Need-part-put-studios-start
 part-put-studios-start c = search needs
 
--- src/parse.rt:197:24
 part-put-studios-end : tie.Need-part-put-studios-end
 part-put-studios-end c = search needs
 
--- src/parse.rt:197:45
 array-share-prefix-places : tie.Need-array-share-prefix-places
 array-share-prefix-places c = search needs
 
--- src/parse.rt:197:45
 slice-aggregate-put-studios : tie.Need-slice-aggregate-put-studios
 slice-aggregate-put-studios c = let n = c .before .before .before .numbers in let h : n .result .count ≤ length (n .last .1 .1 .1 .0) = omega arith in sym (length-take-le _ _ h)
 
--- src/parse.rt:197:5
 put-studios-requires : tie.Need-put-studios-requires
 put-studios-requires c κs = let n = c .before .before .before .numbers in let h : n .result .count ≤ length (n .last .1 .1 .1 .0) = omega arith in let p = c .before .before .before .before .before .before .before .before .before .args .payload .now in let k : 16 ≤ length p = omega arith in
     (length-take-le 16 p k, rw (length-take-le _ _ h) (omega arith))
 
--- src/parse.rt:198:5
 whole-requires : tie.Need-whole-requires
 whole-requires c κs = search needs
 
--- src/parse.rt:188:1
 same-length : tie.Need-same-length
 same-length c = search needs
 
--- src/parse.rt:188:1
 returns : tie.Need-returns
 returns c = let put = c .before .before .before .put-studios in let read = c .before .before .before .before .before .before .before .numbers in let p = c .before .before .before .before .before .before .before .before .before .before .before .before .before .args .payload .now in
     rw (put .ensures) (setup-by-parts _ _ (c .before .before .before .before .before .before .before .before .before .mark .result) (c .before .before .before .before .before .before .before .before .before .before .number .result) _ (read .last .1 .1 .1 .0) (read .result) p _ (c .before .before .before .before .before .before .before .before .before .before .number .ensures .0) (c .before .before .before .before .before .before .before .before .before .mark .ensures) (read .ensures .0) (rw (put .ensures) at (put .kept .0 ∙ length-take-le 16 p (omega arith))) (c .whole .ensures .0) (c .whole .ensures .1))

@@ -3,20 +3,14 @@ use Rattle.transcript.specs.Parse.{titleIf}
 use borrow.Author.Needs.{needs}
 use Rattle.transcript.proofs.parse.title_if.Statement.{statement}
 use Rattle.transcript.proofs.parse.title_if.Tie as tie
-use Rattle.transcript.proofs.parse.title_if.Reads as reads
-use Rattle.transcript.proofs.parse.title_if.Lts as lts
-use Rattle.transcript.proofs.cursor.title.Reads as title-reads
 
--- src/parse.rt:63:9
 title-requires : tie.Need-title-requires
 title-requires c κs = search needs
 
--- src/parse.rt:63:9
 returns : tie.Need-returns
 unfolding titleIf
 returns c = (rw (c .before .if1 .taken) (c .title .ensures .0), c .title .ensures .1)
 
--- src/parse.rt:59:1
 returns-2 : tie.Need-returns-2
 unfolding titleIf
 returns-2 c = (rw (c .if1 .left), no-letters _)

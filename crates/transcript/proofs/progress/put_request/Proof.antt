@@ -1,6 +1,5 @@
 use Rattle.transcript.specs.Progress.{requestIn}
 use borrow.Author.Tests.{eq-eqb, ne-eqb}
-use mathlib.Core.Path.{refl}
 use borrow.Author.Needs.{needs}
 use Rattle.transcript.proofs.progress.put_request.Statement.{statement}
 use Rattle.transcript.proofs.progress.put_request.Tie as tie

@@ -1,41 +1,30 @@
 use Rattle.transcript.specs.Replay.{heldAt}
 use Rattle.carts.proofs.ScanLaws.{within-true}
 use Rattle.carts.specs.Cart.{held}
-use mathlib.Core.Path.{_≡_, refl, sym, ap, ap₂, _∙_}
-use borrow.Author.Tests.{eq-eqb, ne-eqb, lt-ltb, le-ltb, lt-leb, le-leb, not-true, not-false}
+use mathlib.Core.Path.{sym, ap, _∙_}
+use borrow.Author.Tests.{not-true, not-false}
 use native.Mathlib.Omega.{arith}
 use borrow.Author.Needs.{needs}
 use Rattle.transcript.proofs.replay.held_at.Statement.{statement}
 use Rattle.transcript.proofs.replay.held_at.Tie as tie
-use Rattle.transcript.proofs.replay.held_at.Reads as reads
-use Rattle.transcript.proofs.replay.held_at.Lts as lts
-use Rattle.carts.proofs.bytes.is_within.Reads as is-within-reads
-use Rattle.carts.proofs.cart.cart_at.Reads as cart-at-reads
-use Rattle.carts.proofs.cart.is_held.Reads as is-held-reads
 
--- src/replay.rt:48:9
 is-within-requires : tie.Need-is-within-requires
 is-within-requires c κs = search needs
 
--- src/replay.rt:49:9
 returns : tie.Need-returns
 unfolding heldAt
 returns c = let e = (sym (c .before .is-within .ensures) ∙ not-true (c .before .is-within .result) (c .if1 .taken)) in (rw e, omega arith)
 
--- src/replay.rt:51:22
 cart-at-requires : tie.Need-cart-at-requires
 cart-at-requires c κs = (c .before .before .before .pre, within-true 1 128 (c .before .before .before .args .c) ((sym (c .before .is-within .ensures) ∙ not-false (c .before .is-within .result) (c .if1 .left))))
 
--- src/replay.rt:51:8
 is-held-requires : tie.Need-is-held-requires
 is-held-requires c κs = search needs
 
--- src/replay.rt:52:9
 returns-2 : tie.Need-returns-2
 unfolding heldAt
 returns-2 c = let e = (sym (c .before .before .before .before .is-within .ensures) ∙ not-false (c .before .before .before .before .is-within .result) (c .before .before .before .if1 .left)) in let h = ap held (sym (c .before .before .cart-at .ensures .0)) ∙ sym (c .before .is-held .ensures) ∙ c .if2 .taken in (rw (e, h), omega arith)
 
--- src/replay.rt:44:1
 returns-3 : tie.Need-returns-3
 unfolding heldAt
 returns-3 c = let e = (sym (c .before .before .before .before .is-within .ensures) ∙ not-false (c .before .before .before .before .is-within .result) (c .before .before .before .if1 .left)) in let h = ap held (sym (c .before .before .cart-at .ensures .0)) ∙ sym (c .before .is-held .ensures) ∙ c .if2 .left in (rw (e, h), omega arith)

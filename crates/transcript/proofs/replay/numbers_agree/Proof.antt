@@ -4,19 +4,12 @@ use Rattle.carts.proofs.ScanLaws.{test-more}
 use Rattle.carts.specs.Bytes.{byte}
 use native.Mathlib.Nat.{sub-zero}
 use mathlib.Core.Bool.{_&&_}
-use Prim.Native.Nat.{ℕ, _+_, _-_, _<_, _≤_}
-use mathlib.Core.Path.{_≡_, refl, sym, ap, ap₂, _∙_}
-use borrow.Author.Tests.{eq-eqb, ne-eqb, lt-ltb, le-ltb, lt-leb, le-leb, not-true, not-false}
+use Prim.Native.Nat.{_+_, _-_, _<_, _≤_}
+use mathlib.Core.Path.{_≡_, refl, ap}
+use borrow.Author.Tests.{lt-leb}
 use native.Mathlib.Omega.{arith}
 use Rattle.transcript.proofs.replay.numbers_agree.Statement.{statement}
 use Rattle.transcript.proofs.replay.numbers_agree.Tie as tie
-use Rattle.transcript.proofs.replay.numbers_agree.Reads as reads
-use Rattle.transcript.proofs.replay.numbers_agree.Lts as lts
-use Rattle.carts.proofs.bytes.byte_at.Reads as byte-at-reads
-use Rattle.carts.proofs.bytes.u16_at.Reads as u16-at-reads
-use Rattle.transcript.proofs.replay.held_at.Reads as held-at-reads
-use Rattle.transcript.proofs.replay.place_agrees.Reads as place-agrees-reads
-use Rattle.transcript.proofs.text.part_of.Reads as part-of-reads
 
 abbrev Inv-loop : tie.InvT-loop
 Inv-loop copy request found shown n ok₀ held₀ i₀ ok held i = (i ≤ n) × ((held ≤ i) × ((placesAgree copy request shown 0 n ≡ (ok && placesAgree copy request shown i (n - i))) × (heldPlaces copy request 0 n ≡ held + heldPlaces copy request i (n - i))))
@@ -24,64 +17,49 @@ Inv-loop copy request found shown n ok₀ held₀ i₀ ok held i = (i ≤ n) × 
 abbrev μ-loop : tie.MeasureT-loop
 μ-loop copy request found shown n ok₀ held₀ i₀ ok held i = n - i
 
--- src/replay.rt:62:13
 byte-at-requires : tie.Need-byte-at-requires Inv-loop μ-loop
 byte-at-requires c κs = omega arith
 
--- src/replay.rt:62:13
 cast-n : tie.Need-cast-n Inv-loop μ-loop
 cast-n c = omega arith
 
--- src/replay.rt:64:9
 returns : tie.Need-returns Inv-loop μ-loop
 unfolding numbersAgree
 returns c = let h : 32 < byte (c .before .before .before .before .before .args .request .now) 1 = omega arith in rw (lt-leb _ _ h)
 
--- src/replay.rt:69:5
 loop-holds : tie.Need-loop-holds Inv-loop μ-loop
 loop-holds c = rw sub-zero (omega arith, (omega arith, (refl, omega arith)))
 
--- src/replay.rt:70:45
 mul-u16-at : tie.Need-mul-u16-at Inv-loop μ-loop
 mul-u16-at c = omega arith
 
--- src/replay.rt:70:40
 add-u16-at : tie.Need-add-u16-at Inv-loop μ-loop
 add-u16-at c = omega arith
 
--- src/replay.rt:70:13
 u16-at-requires : tie.Need-u16-at-requires Inv-loop μ-loop
 u16-at-requires c κs = omega arith
 
--- src/replay.rt:71:58
 mul-part-of : tie.Need-mul-part-of Inv-loop μ-loop
 mul-part-of c = omega arith
 
--- src/replay.rt:71:37
 part-of-requires : tie.Need-part-of-requires Inv-loop μ-loop
 part-of-requires c κs = tt
 
--- src/replay.rt:71:15
 place-agrees-requires : tie.Need-place-agrees-requires Inv-loop μ-loop
 place-agrees-requires c κs = c .before .before .before .before .before .before .before .before .before .pre .0
 
--- src/replay.rt:72:17
 held-at-requires : tie.Need-held-at-requires Inv-loop μ-loop
 held-at-requires c κs = c .before .before .before .before .before .before .before .before .before .before .pre .0
 
--- src/replay.rt:72:9
 add-held : tie.Need-add-held Inv-loop μ-loop
 add-held c = omega arith
 
--- src/replay.rt:73:9
 add-i : tie.Need-add-i Inv-loop μ-loop
 add-i c = omega arith
 
--- src/replay.rt:69:5
 loop-less : tie.Need-loop-less Inv-loop μ-loop
 loop-less c = omega arith
 
--- src/replay.rt:69:5
 loop-again : tie.Need-loop-again Inv-loop μ-loop
 loop-again c = let s = c .before .before .before .before .before .before .before .before .before .before .before .args in let t = c .before .before .before .before .before .loop in let i = t .i in let n = c .before .before .before .before .before .before .before .byte-at .result in
     let e = rw (c .before .before .before .u16-at .ensures .0, c .before .before .part-of .ensures) at (c .before .place-agrees .ensures) in
@@ -90,7 +68,6 @@ loop-again c = let s = c .before .before .before .before .before .before .before
     let q = held-next (s .copy .now) (s .request .now) (s .shown .now) n i h in
     (omega arith, (omega arith, (test-more (t .ok) _ _ (t .inv .1 .1 .0) (places-next (s .copy .now) (s .request .now) (s .shown .now) n i h) (ap (λ b. t .ok && b) e), omega arith)))
 
--- src/replay.rt:58:1
 returns-2 : tie.Need-returns-2 Inv-loop μ-loop
 returns-2 c = let s = c .before .before .before .before .before .before .before .args in let t = c .before .loop in numbers-done (s .copy .now) (s .request .now) (s .shown .now) (c .before .before .before .byte-at .result) (t .i) (s .found) (t .held) (t .ok) (c .before .before .before .byte-at .ensures .0) (omega arith) (omega arith) (t .inv .1 .1 .0) (t .inv .1 .1 .1)
 

@@ -7,78 +7,57 @@ use native.Mathlib.Omega.{arith}
 use borrow.Author.Needs.{needs}
 use Rattle.transcript.proofs.replay.read_agrees.Statement.{statement}
 use Rattle.transcript.proofs.replay.read_agrees.Tie as tie
-use Rattle.transcript.proofs.replay.read_agrees.Reads as reads
-use Rattle.transcript.proofs.replay.read_agrees.Lts as lts
-use Rattle.carts.proofs.bytes.byte_at.Reads as byte-at-reads
-use Rattle.transcript.proofs.replay.numbers_agree.Reads as numbers-agree-reads
-use Rattle.transcript.proofs.replay.title_agrees.Reads as title-agrees-reads
 
--- src/replay.rt:106:9
 returns : tie.Need-returns
 unfolding readAgrees
 returns c = rw (ne-eqb _ _ (c .if1 .taken))
 
--- src/replay.rt:109:9
 returns-2 : tie.Need-returns-2
 unfolding readAgrees
 returns-2 c = rw (eq-eqb _ _ (c .before .if1 .left), ne-eqb _ _ (c .if2 .taken))
 
--- src/replay.rt:111:8
 shared-slice-read-if3 : tie.Need-shared-slice-read-if3
 shared-slice-read-if3 c = search needs
 
--- src/replay.rt:112:9
 numbers-agree-requires : tie.Need-numbers-agree-requires
 numbers-agree-requires c κs = search needs
 
--- src/replay.rt:112:9
 returns-3 : tie.Need-returns-3
 unfolding readAgrees
 returns-3 c = rw (c .numbers-agree .ensures, eq-eqb _ _ (c .before .before .before .before .if1 .left), eq-eqb _ _ (c .before .before .before .if2 .left), eq-eqb _ _ (c .before .if3 .taken))
 
--- src/replay.rt:114:8
 shared-slice-read-if4 : tie.Need-shared-slice-read-if4
 shared-slice-read-if4 c = search needs
 
--- src/replay.rt:115:9
 returns-4 : tie.Need-returns-4
 unfolding readAgrees
 returns-4 c = rw (eq-eqb _ _ (c .before .before .before .before .before .if1 .left), eq-eqb _ _ (c .before .before .before .before .if2 .left), ne-eqb _ _ (c .before .before .if3 .left), ne-eqb _ _ (c .if4 .taken))
 
--- src/replay.rt:117:13
 byte-at-requires : tie.Need-byte-at-requires
 byte-at-requires c κs = search needs
 
--- src/replay.rt:117:13
 cast-n : tie.Need-cast-n
 cast-n c = search needs
 
--- src/replay.rt:119:9
 returns-5 : tie.Need-returns-5
 unfolding readAgrees
 returns-5 c = let h : 64 < byte (c .before .before .before .before .before .before .before .before .before .before .before .args .request .now) 1 = omega arith in rw (eq-eqb _ _ (c .before .before .before .before .before .before .before .if1 .left), eq-eqb _ _ (c .before .before .before .before .before .before .if2 .left), ne-eqb _ _ (c .before .before .before .before .if3 .left), eq-eqb _ _ (c .before .before .if4 .left), lt-leb _ _ h)
 
--- src/replay.rt:121:15
 add-end : tie.Need-add-end
 add-end c = search needs
 
--- src/replay.rt:122:24
 sub-title-agrees : tie.Need-sub-title-agrees
 sub-title-agrees c = search needs
 
--- src/replay.rt:122:24
 part-title-agrees-start : tie.Need-part-title-agrees-start
 part-title-agrees-start c = search needs
 
--- src/replay.rt:122:24
 part-title-agrees-end : tie.Need-part-title-agrees-end
 part-title-agrees-end c = search needs
 
--- src/replay.rt:122:5
 title-agrees-requires : tie.Need-title-agrees-requires
 title-agrees-requires c κs = search needs
 
--- src/replay.rt:94:1
 returns-6 : tie.Need-returns-6
 unfolding readAgrees
 returns-6 c = let h : byte (c .before .before .before .before .before .before .before .before .before .before .before .before .before .args .request .now) 1 ≤ 64 = omega arith in

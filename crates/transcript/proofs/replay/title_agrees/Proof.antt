@@ -3,58 +3,41 @@ use Rattle.replication.proofs.OutputLaws.{title-found, title-not-one, one-withi
 use Rattle.carts.specs.Bytes.{zeros, pairwise}
 use lib.Dec.{eqb}
 use mathlib.Core.Bool.{_&&_}
-use mathlib.Core.Path.{_≡_, refl, sym, ap, ap₂, _∙_}
+use mathlib.Core.Path.{ap₂, _∙_}
 use borrow.Author.Needs.{needs}
 use Rattle.transcript.proofs.replay.title_agrees.Statement.{statement}
 use Rattle.transcript.proofs.replay.title_agrees.Tie as tie
-use Rattle.transcript.proofs.replay.title_agrees.Reads as reads
-use Rattle.transcript.proofs.replay.title_agrees.Lts as lts
-use Rattle.carts.proofs.cart.cart_at.Reads as cart-at-reads
-use Rattle.carts.proofs.titles.found_count.Reads as found-count-reads
-use Rattle.carts.proofs.titles.search.Reads as search-reads
-use Rattle.transcript.proofs.text.part_of.Reads as part-of-reads
-use Rattle.transcript.proofs.text.same.Reads as same-reads
 
--- src/replay.rt:83:9
 search-requires : tie.Need-search-requires
 search-requires c κs = search needs
 
--- src/replay.rt:84:9
 found-count-requires : tie.Need-found-count-requires
 found-count-requires c κs = search needs
 
--- src/replay.rt:85:9
 part-of-requires : tie.Need-part-of-requires
 part-of-requires c κs = search needs
 
--- src/replay.rt:86:20
 enum-known-result : tie.Need-enum-known-result
 enum-known-result c = search needs
 
--- src/replay.rt:88:46
 slice-aggregate-same : tie.Need-slice-aggregate-same
 slice-aggregate-same c = search needs
 
--- src/replay.rt:88:35
 same-requires : tie.Need-same-requires
 same-requires c κs = search needs
 
--- src/replay.rt:88:9
 returns : tie.Need-returns
 unfolding titleAgrees zeros
 returns c = let s = c .before .before .before .before .before .before .before .before .before .args in let q = c .before .before .before .before .before .search .ensures in
     ap₂ (λ n b. eqb n (s .found) && b) (c .before .before .before .before .found-count .ensures ∙ title-found (s .copy .now) (s .title .now) _ q)
     (c .same .ensures ∙ ap₂ (λ x y. pairwise eqb x y) (title-not-one (s .copy .now) (s .title .now) _ q (c .before .before .match .keys2)) (c .before .before .before .part-of .ensures))
 
--- src/replay.rt:90:35
 cart-at-requires : tie.Need-cart-at-requires
 cart-at-requires c κs = let s = c .before .before .before .before .before .before .before .before .before in (s .pre .0, one-within (s .args .copy .now) (s .args .title .now) _ (c .before .before .before .before .before .search .ensures) _ (c .before .result .given .1))
 
--- src/replay.rt:90:24
 same-requires-2 : tie.Need-same-requires-2
 same-requires-2 c κs = search needs
 
--- src/replay.rt:79:1
 returns-2 : tie.Need-returns-2
 unfolding titleAgrees
 returns-2 c = let s = c .before .before .before .before .before .before .before .before .before .before .before .args in let q = c .before .before .before .before .before .before .before .search .ensures in

@@ -1,41 +1,30 @@
 use Rattle.transcript.specs.Text.{inClass}
 use mathlib.Core.Path.{sym, ap}
-use mathlib.Core.Path.{refl}
 use borrow.Author.Needs.{needs}
 use Rattle.transcript.proofs.text.is_in.Statement.{statement}
 use Rattle.transcript.proofs.text.is_in.Tie as tie
-use Rattle.transcript.proofs.text.is_in.Reads as reads
-use Rattle.transcript.proofs.text.is_in.Lts as lts
 
--- src/text.rt:64:26
 enum-told : tie.Need-enum-told
 enum-told c = search needs
 
--- src/text.rt:65:26
 enum-told-2 : tie.Need-enum-told-2
 enum-told-2 c = search needs
 
--- src/text.rt:66:26
 enum-told-3 : tie.Need-enum-told-3
 enum-told-3 c = search needs
 
--- src/text.rt:67:22
 enum-known-class : tie.Need-enum-known-class
 enum-known-class c = search needs
 
--- src/text.rt:60:1
 returns : tie.Need-returns
 returns c = sym (ap (λ k. inClass k (c .before .before .args .b)) (c .enum-told .given .1))
 
--- src/text.rt:60:1
 returns-2 : tie.Need-returns-2
 returns-2 c = sym (ap (λ k. inClass k (c .before .before .args .b)) (c .enum-told2 .given .1))
 
--- src/text.rt:60:1
 returns-3 : tie.Need-returns-3
 returns-3 c = sym (ap (λ k. inClass k (c .before .before .args .b)) (c .enum-told3 .given .1))
 
--- src/text.rt:60:1
 returns-4 : tie.Need-returns-4
 returns-4 c = sym (ap (λ k. inClass k (c .before .before .before .args .b)) (c .before .class .given .1))
 

@@ -3,18 +3,13 @@ use mathlib.Core.Path.{sym}
 use borrow.Author.Needs.{needs}
 use Rattle.transcript.proofs.text.letter.Statement.{statement}
 use Rattle.transcript.proofs.text.letter.Tie as tie
-use Rattle.transcript.proofs.text.letter.Reads as reads
-use Rattle.transcript.proofs.text.letter.Lts as lts
 
--- src/text.rt:32:16
 shared-slice-read-result : tie.Need-shared-slice-read-result
 shared-slice-read-result c = search needs
 
--- src/text.rt:32:9
 returns : tie.Need-returns
 returns c = search needs
 
--- src/text.rt:28:1
 returns-2 : tie.Need-returns-2
 returns-2 c = sym (List·getD-eq-default (c .before .args .s .now) 0 (c .if1 .left))
 

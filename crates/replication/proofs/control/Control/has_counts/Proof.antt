@@ -2,16 +2,10 @@ use Rattle.replication.proofs.ControlLaws.{counts-above, counts-fewer, 
 use borrow.Author.Needs.{needs}
 use Rattle.replication.proofs.control.Control.has_counts.Statement.{statement}
 use Rattle.replication.proofs.control.Control.has_counts.Tie as tie
-use Rattle.replication.proofs.control.Control.has_counts.Reads as reads
-use Rattle.replication.proofs.control.Control.has_counts.Lts as lts
-use Rattle.replication.proofs.control.Control.applied_by.Reads as applied-by-reads
-use Rattle.replication.proofs.control.Control.sent_to.Reads as sent-to-reads
 
--- src/control.rt:86:13
 sent-to-requires : tie.Need-sent-to-requires
 sent-to-requires c κs = search needs
 
--- src/control.rt:87:13
 applied-by-requires : tie.Need-applied-by-requires
 applied-by-requires c κs = search needs
 

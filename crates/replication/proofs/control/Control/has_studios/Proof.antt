@@ -4,20 +4,14 @@ use native.Mathlib.Omega.{arith}
 use borrow.Author.Needs.{needs}
 use Rattle.replication.proofs.control.Control.has_studios.Statement.{statement}
 use Rattle.replication.proofs.control.Control.has_studios.Tie as tie
-use Rattle.replication.proofs.control.Control.has_studios.Reads as reads
-use Rattle.replication.proofs.control.Control.has_studios.Lts as lts
-use Rattle.replication.proofs.control.are_at_most.Reads as are-at-most-reads
 
--- src/control.rt:56:21
 slice-aggregate-are-at-most : tie.Need-slice-aggregate-are-at-most
 slice-aggregate-are-at-most c = search needs
 
--- src/control.rt:56:9
 are-at-most-requires : tie.Need-are-at-most-requires
 are-at-most-requires c κs = let e : length (c .before .before .args .self .«session_studios») ≡ 16 = search needs in
     omega arith
 
--- src/control.rt:52:5
 returns : tie.Need-returns
 returns c = search needs
 

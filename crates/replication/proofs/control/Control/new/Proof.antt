@@ -3,10 +3,7 @@ use Rattle.replication.specs.Calls.{controlOf}
 use Rattle.carts.specs.Bytes.{zeros}
 use Rattle.replication.proofs.control.Control.new.Statement.{statement}
 use Rattle.replication.proofs.control.Control.new.Tie as tie
-use Rattle.replication.proofs.control.Control.new.Reads as reads
-use Rattle.replication.proofs.control.Control.new.Lts as lts
 
--- src/control.rt:28:5
 returns : tie.Need-returns
 unfolding controlOf zeros
 returns c = refl

@@ -3,22 +3,16 @@ use Rattle.replication.specs.Calls.{withApplied}
 use borrow.Author.Needs.{needs}
 use Rattle.replication.proofs.control.Control.with_applied.Statement.{statement}
 use Rattle.replication.proofs.control.Control.with_applied.Tie as tie
-use Rattle.replication.proofs.control.Control.with_applied.Reads as reads
-use Rattle.replication.proofs.control.Control.with_applied.Lts as lts
 
--- src/control.rt:109:17
 sub-j : tie.Need-sub-j
 sub-j c = search needs
 
--- src/control.rt:111:9
 mul-next : tie.Need-mul-next
 mul-next c = search needs
 
--- src/control.rt:111:9
 element-write-next : tie.Need-element-write-next
 element-write-next c = search needs
 
--- src/control.rt:105:5
 returns : tie.Need-returns
 unfolding withApplied
 returns c = refl

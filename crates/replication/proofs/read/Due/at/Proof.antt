@@ -2,30 +2,19 @@ use Rattle.replication.proofs.ReadLaws.{due-is}
 use borrow.Author.Needs.{needs}
 use Rattle.replication.proofs.read.Due.at.Statement.{statement}
 use Rattle.replication.proofs.read.Due.at.Tie as tie
-use Rattle.replication.proofs.read.Due.at.Reads as reads
-use Rattle.replication.proofs.read.Due.at.Lts as lts
-use Rattle.carts.proofs.bytes.u16_at.Reads as u16-at-reads
-use Rattle.replication.proofs.control.Control.applied_by.Reads as applied-by-reads
-use Rattle.replication.proofs.control.Control.studio_of.Reads as studio-of-reads
-use Rattle.replication.proofs.session.session_at.Reads as session-at-reads
 
--- src/read.rt:67:36
 session-at-requires : tie.Need-session-at-requires
 session-at-requires c κs = search needs
 
--- src/read.rt:67:13
 u16-at-requires : tie.Need-u16-at-requires
 u16-at-requires c κs = search needs
 
--- src/read.rt:68:13
 studio-of-requires : tie.Need-studio-of-requires
 studio-of-requires c κs = search needs
 
--- src/read.rt:69:13
 applied-by-requires : tie.Need-applied-by-requires
 applied-by-requires c κs = search needs
 
--- src/read.rt:62:5
 returns : tie.Need-returns
 returns c = let u = c .before .before in
     let g = u .before .before .before .args in

@@ -2,24 +2,16 @@ use Rattle.replication.specs.Log.{nextOperation, nextTransaction}
 use borrow.Author.Needs.{needs}
 use Rattle.replication.proofs.record.Record.at.Statement.{statement}
 use Rattle.replication.proofs.record.Record.at.Tie as tie
-use Rattle.replication.proofs.record.Record.at.Reads as reads
-use Rattle.replication.proofs.record.Record.at.Lts as lts
-use Rattle.carts.proofs.bytes.u16_at.Reads as u16-at-reads
-use Rattle.replication.proofs.record.record_at.Reads as record-at-reads
 
--- src/record.rt:28:13
 record-at-requires : tie.Need-record-at-requires
 record-at-requires c κs = search needs
 
--- src/record.rt:30:29
 u16-at-requires : tie.Need-u16-at-requires
 u16-at-requires c κs = search needs
 
--- src/record.rt:31:31
 u16-at-requires-2 : tie.Need-u16-at-requires-2
 u16-at-requires-2 c κs = search needs
 
--- src/record.rt:24:5
 returns : tie.Need-returns
 unfolding nextOperation nextTransaction
 returns c = let first = c .before .u16-at .ensures in

@@ -4,34 +4,24 @@ use Rattle.replication.specs.Values.{sessionValue, waitingValue}
 use borrow.Author.Needs.{needs}
 use Rattle.replication.proofs.session.Session.from_bytes.Statement.{statement}
 use Rattle.replication.proofs.session.Session.from_bytes.Tie as tie
-use Rattle.replication.proofs.session.Session.from_bytes.Reads as reads
-use Rattle.replication.proofs.session.Session.from_bytes.Lts as lts
-use Rattle.carts.proofs.bytes.byte_at.Reads as byte-at-reads
-use Rattle.carts.proofs.bytes.u16_at.Reads as u16-at-reads
 
--- src/session.rt:36:13
 u16-at-requires : tie.Need-u16-at-requires
 u16-at-requires c κs = search needs
 
--- src/session.rt:37:13
 byte-at-requires : tie.Need-byte-at-requires
 byte-at-requires c κs = search needs
 
--- src/session.rt:38:20
 shared-slice-read-kind : tie.Need-shared-slice-read-kind
 shared-slice-read-kind c = search needs
 
--- src/session.rt:40:13
 returns : tie.Need-returns
 unfolding sessionValue waitingValue sequenceOf
 returns c = simp (c .before .before .before .u16-at .ensures .0, c .before .before .byte-at .ensures .0, eq-eqb _ _ (c .if1 .taken))
 
--- src/session.rt:46:13
 returns-2 : tie.Need-returns-2
 unfolding sessionValue waitingValue sequenceOf
 returns-2 c = simp (c .before .before .before .before .u16-at .ensures .0, c .before .before .before .byte-at .ensures .0, eq-eqb _ _ (c .if2 .taken), ne-eqb _ _ (c .before .if1 .left))
 
--- src/session.rt:32:5
 returns-3 : tie.Need-returns-3
 unfolding sessionValue waitingValue sequenceOf
 returns-3 c = simp (c .before .before .before .before .u16-at .ensures .0, c .before .before .before .byte-at .ensures .0, ne-eqb _ _ (c .if2 .left), ne-eqb _ _ (c .before .if1 .left))

@@ -3,38 +3,28 @@ use Rattle.replication.specs.Values.{neededBy}
 use borrow.Author.Needs.{needs}
 use Rattle.replication.proofs.session.Session.needed.Statement.{statement}
 use Rattle.replication.proofs.session.Session.needed.Tie as tie
-use Rattle.replication.proofs.session.Session.needed.Reads as reads
-use Rattle.replication.proofs.session.Session.needed.Lts as lts
 
--- src/session.rt:75:33
 enum-told : tie.Need-enum-told
 enum-told c = search needs
 
--- src/session.rt:76:30
 enum-known-waiting : tie.Need-enum-known-waiting
 enum-known-waiting c = search needs
 
--- src/session.rt:76:42
 cast-result : tie.Need-cast-result
 cast-result c = search needs
 
--- src/session.rt:76:36
 mul-result : tie.Need-mul-result
 mul-result c = search needs
 
--- src/session.rt:77:34
 enum-told-2 : tie.Need-enum-told-2
 enum-told-2 c = search needs
 
--- src/session.rt:70:5
 returns : tie.Need-returns
 returns c = search needs
 
--- src/session.rt:70:5
 returns-2 : tie.Need-returns-2
 returns-2 c = sym (ap neededBy (c .before .waiting .given .1))
 
--- src/session.rt:70:5
 returns-3 : tie.Need-returns-3
 returns-3 c = search needs
 

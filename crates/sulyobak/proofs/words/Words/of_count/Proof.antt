@@ -2,31 +2,22 @@ use Rattle.sulyobak.proofs.WordLaws.{count-words}
 use borrow.Author.Needs.{needs}
 use Rattle.sulyobak.proofs.words.Words.of_count.Statement.{statement}
 use Rattle.sulyobak.proofs.words.Words.of_count.Tie as tie
-use Rattle.sulyobak.proofs.words.Words.of_count.Reads as reads
-use Rattle.sulyobak.proofs.words.Words.of_count.Lts as lts
-use Rattle.sulyobak.proofs.words.Words.new.Reads as new-reads
 
--- src/words.rt:61:33
 enum-known-answer : tie.Need-enum-known-answer
 enum-known-answer c = search needs
 
--- src/words.rt:61:39
 new-requires : tie.Need-new-requires
 new-requires c κs = search needs
 
--- src/words.rt:62:34
 enum-known-answer-2 : tie.Need-enum-known-answer-2
 enum-known-answer-2 c = search needs
 
--- src/words.rt:62:40
 new-requires-2 : tie.Need-new-requires-2
 new-requires-2 c κs = search needs
 
--- src/words.rt:55:5
 returns : tie.Need-returns
 returns c = count-words _ _ _ _ (c .before .before .answer .given .1) (c .new .ensures)
 
--- src/words.rt:55:5
 returns-2 : tie.Need-returns-2
 returns-2 c = count-words _ _ _ _ (c .before .before .answer2 .given .1) (c .new2 .ensures)
 

@@ -3,39 +3,28 @@ use Rattle.sulyobak.proofs.WordLaws.{read-words}
 use borrow.Author.Needs.{needs}
 use Rattle.sulyobak.proofs.words.Words.of_read.Statement.{statement}
 use Rattle.sulyobak.proofs.words.Words.of_read.Tie as tie
-use Rattle.sulyobak.proofs.words.Words.of_read.Reads as reads
-use Rattle.sulyobak.proofs.words.Words.of_read.Lts as lts
-use Rattle.sulyobak.proofs.words.Words.new.Reads as new-reads
 
--- src/words.rt:73:36
 enum-known-answer : tie.Need-enum-known-answer
 enum-known-answer c = search needs
 
--- src/words.rt:79:31
 enum-known-answer-2 : tie.Need-enum-known-answer-2
 enum-known-answer-2 c = search needs
 
--- src/words.rt:79:37
 new-requires : tie.Need-new-requires
 new-requires c κs = search needs
 
--- src/words.rt:80:33
 enum-known-answer-3 : tie.Need-enum-known-answer-3
 enum-known-answer-3 c = search needs
 
--- src/words.rt:80:39
 new-requires-2 : tie.Need-new-requires-2
 new-requires-2 c κs = search needs
 
--- src/words.rt:67:5
 returns : tie.Need-returns
 returns c = read-words _ _ _ _ (c .before .answer .given .1) refl
 
--- src/words.rt:67:5
 returns-2 : tie.Need-returns-2
 returns-2 c = read-words _ _ _ _ (c .before .before .answer2 .given .1) (c .new .ensures)
 
--- src/words.rt:67:5
 returns-3 : tie.Need-returns-3
 returns-3 c = read-words _ _ _ _ (c .before .before .answer3 .given .1) (c .new2 .ensures)
 

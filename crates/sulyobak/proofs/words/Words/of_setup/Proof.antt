@@ -2,31 +2,22 @@ use Rattle.sulyobak.proofs.WordLaws.{setup-words}
 use borrow.Author.Needs.{needs}
 use Rattle.sulyobak.proofs.words.Words.of_setup.Statement.{statement}
 use Rattle.sulyobak.proofs.words.Words.of_setup.Tie as tie
-use Rattle.sulyobak.proofs.words.Words.of_setup.Reads as reads
-use Rattle.sulyobak.proofs.words.Words.of_setup.Lts as lts
-use Rattle.sulyobak.proofs.words.Words.new.Reads as new-reads
 
--- src/words.rt:49:35
 enum-told : tie.Need-enum-told
 enum-told c = search needs
 
--- src/words.rt:49:35
 new-requires : tie.Need-new-requires
 new-requires c κs = search needs
 
--- src/words.rt:50:34
 enum-known-answer : tie.Need-enum-known-answer
 enum-known-answer c = search needs
 
--- src/words.rt:50:40
 new-requires-2 : tie.Need-new-requires-2
 new-requires-2 c κs = search needs
 
--- src/words.rt:43:5
 returns : tie.Need-returns
 returns c = setup-words _ _ _ _ (c .before .enum-told .given .1) (c .new .ensures)
 
--- src/words.rt:43:5
 returns-2 : tie.Need-returns-2
 returns-2 c = setup-words _ _ _ _ (c .before .before .answer .given .1) (c .new2 .ensures)
 

@@ -1,13 +1,9 @@
 use Rattle.transcript.proofs.cursor.Cursor.moved.Statement.{statement}
 use Rattle.transcript.proofs.cursor.Cursor.moved.Tie as tie
-use Rattle.transcript.proofs.cursor.Cursor.moved.Reads as reads
-use Rattle.transcript.proofs.cursor.Cursor.moved.Lts as lts
 
--- src/cursor.rt:68:13
 returns : tie.Need-returns
 returns c = rw (c .if1 .taken)
 
--- src/cursor.rt:64:5
 returns-2 : tie.Need-returns-2
 returns-2 c = rw (c .if1 .left)
 

@@ -1,13 +1,9 @@
 use Rattle.transcript.proofs.cursor.Cursor.stopped.Statement.{statement}
 use Rattle.transcript.proofs.cursor.Cursor.stopped.Tie as tie
-use Rattle.transcript.proofs.cursor.Cursor.stopped.Reads as reads
-use Rattle.transcript.proofs.cursor.Cursor.stopped.Lts as lts
 
--- src/cursor.rt:80:13
 returns : tie.Need-returns
 returns c = rw (c .if1 .taken)
 
--- src/cursor.rt:76:5
 returns-2 : tie.Need-returns-2
 returns-2 c = rw (c .if1 .left)
 

@@ -1,4 +1,4 @@
-use Rattle.transcript.specs.declared.progress.Outcome.the-variants.{Waited, Refused}
+use Rattle.transcript.specs.declared.progress.Outcome.the-variants.{Refused}
 use Rattle.transcript.proofs.ProgressLaws.{commit-entry, commit-refused, same-room}
 use lib.ListN.{length}
 use borrow.Author.Needs.{needs}

@@ -1,5 +1,4 @@
 use Rattle.transcript.specs.Progress.{nextLine}
-use mathlib.Core.Path.{refl}
 use native.Mathlib.Omega.{arith}
 use borrow.Author.Needs.{needs}
 use Rattle.transcript.proofs.progress.Progress.next_line.Statement.{statement}
