@@ -12,9 +12,9 @@ use Rattle.carts.proofs.TestLaws.{all-at}
 use Rattle.replication.specs.Memory.{Memory, lengthsForm}
 use Rattle.replication.specs.Log.{noRoom}
 use Rattle.replication.specs.Request.{Request, nothing, byNumbers, byTitle, requestOf, requestForm, isWaiting, needed}
-use Rattle.replication.specs.Rows.{Row, stopped, lengthsRow, setupRows, sessionRow, studioRow, sizeForm, commitRows, sendRows, refreshRows, readRows, collectRows}
+use Rattle.replication.specs.Rows.{Row, stopped, lengthsRow, setupRows, setupStop, sessionRow, studioRow, sizeForm, commitRows, sendRows, refreshRows, readRows, collectRows}
 use Rattle.replication.proofs.RowLaws.{passed, none-stops, session-numbered, studio-numbered}
-use Rattle.replication.proofs.DecideLaws.{right-session, right-studio}
+use Rattle.replication.proofs.DecideLaws.{KnownSession, KnownStudio, known-session, known-studio}
 
 -- rows 1 and 15
 pub record SetupAccepted (m : Memory) (studios : ℕ) (bytes : List ℕ) : Type 0 where
@@ -23,35 +23,24 @@ pub record SetupAccepted (m : Memory) (studios : ℕ) (bytes : List ℕ) : Type 
   pub count : length bytes ≡ 16
   pub places : every (λ b. leb b studios) bytes ≡ true
 
-pub setup-passed : (m : Memory) (studios : ℕ) (bytes : List ℕ) → stopped (lengthsRow m ∷ setupRows studios bytes) ≡ 0 → SetupAccepted m studios bytes
-unfolding lengthsRow setupRows
+pub setup-passed : (m : Memory) (studios : ℕ) (bytes : List ℕ) → setupStop m studios bytes ≡ 0 → SetupAccepted m studios bytes
+unfolding setupStop lengthsRow setupRows
 setup-passed m studios bytes e =
     let tests : List Bool = within 1 4 studios ∷ eqb (length bytes) 16 ∷ every (λ b. leb b studios) bytes ∷ [] in
     let p1 = passed 0 (not (lengthsForm m)) _ e in
     let t : all tests ≡ true = not-false _ (passed 14 (not (all tests)) [] (p1 .1) .0) in
     record { lengths = not-false _ (p1 .0); few = all-at 0 tests t; count = eqb-true _ _ (all-at 1 tests t); places = all-at 2 tests t }
 
--- row 3 of a session, and of a studio
-pub record KnownSession (s studio : ℕ) : Type 0 where
-  pub low : 1 ≤ s
-  pub high : s ≤ 16
-  pub used : studio ≡ 0 → ⊥
-
-pub record KnownStudio (studios i : ℕ) : Type 0 where
-  pub low : 1 ≤ i
-  pub high : i ≤ studios
-
+-- row 3
 session-passed : (s studio : ℕ) (rs : List Row) → stopped (sessionRow s studio ∷ rs) ≡ 0 → KnownSession s studio × (stopped rs ≡ 0)
 session-passed s studio rs e =
     let p = none-stops (sessionRow s studio ∷ []) rs (session-numbered s studio) e in
-    let r = right-session s studio (p .0) in
-    (record { low = r .0 .0; high = r .0 .1; used = r .1 }, p .1)
+    (known-session s studio (p .0), p .1)
 
 studio-passed : (studios i : ℕ) (rs : List Row) → stopped (studioRow studios i ∷ rs) ≡ 0 → KnownStudio studios i × (stopped rs ≡ 0)
 studio-passed studios i rs e =
     let p = none-stops (studioRow studios i ∷ []) rs (studio-numbered studios i) e in
-    let r = right-studio studios i (p .0) in
-    (record { low = r .0; high = r .1 }, p .1)
+    (known-studio studios i (p .0), p .1)
 
 -- row 4
 idle-is : (q : Request) → isWaiting q ≡ false → q ≡ nothing

@@ -1,12 +1,12 @@
 -- Laws of commit: rows 4 to 8, what is known where no row stops it, and an accepted commit.
 use Prim.Native.Nat.{ℕ, _+_, _/_, _%_, _<_, _≤_}
-use mathlib.Core.Path.{_≡_, refl, sym, ap, _∙_}
-use mathlib.Core.Bool.{Bool, true, false, cond, not}
+use mathlib.Core.Path.{_≡_, sym, ap, _∙_}
+use mathlib.Core.Bool.{Bool, true, false}
 use mathlib.Core.List.{List, [], _∷_, _++_}
 use native.Mathlib.Omega.{arith}
 use lib.ListN.{length}
-use lib.Dec.{eqb, ltb}
-use borrow.Author.Tests.{lt-ltb, le-ltb, ltb-false}
+use lib.Dec.{eqb}
+use borrow.Author.Tests.{lt-ltb, le-ltb}
 use Rattle.carts.specs.Bytes.{part, over, within, every}
 use Rattle.carts.specs.Operation.{operationFields, operationForm, operationsOf, meetsAll, actAll}
 use Rattle.carts.proofs.TestLaws.{all-at, within-low, within-high}
@@ -15,14 +15,13 @@ use Rattle.replication.specs.Answer.{refused, done}
 use Rattle.replication.specs.Memory.{Memory, memory, copyAt, withCopy, sessionAt, withSession, withSequence, studioOf}
 use Rattle.replication.specs.Log.{noRoom, firstRecord, appended}
 use Rattle.replication.specs.Request.{requestOf, isWaiting}
-use Rattle.replication.specs.Rows.{Row, row, stopped, sizeForm, memoryRows, sessionRow, commitRows}
-use Rattle.replication.specs.Values.{sessionValue, waitsBy, walkable}
+use Rattle.replication.specs.Rows.{row, stopped, sizeForm, memoryRows, sessionRow, operationRows, commitRows, commitStop}
+use Rattle.replication.specs.Values.{walkable}
 use Rattle.replication.specs.Calls.{after, commit, refusedCommit, committed}
 use Rattle.replication.specs.declared.control.Control.{Control}
-use Rattle.replication.specs.declared.session.Session.{Session}
-use Rattle.replication.proofs.RowLaws.{numbered, row-stops, row-passes, none-stops, session-numbered, unless-stopped, unless-accepted}
-use Rattle.replication.proofs.DecideLaws.{by-rest, accepted-formed, accepted-who, accepted-rest, right-session}
-use Rattle.replication.proofs.RequestLaws.{waiting-is}
+use Rattle.replication.proofs.RowLaws.{row-stops, row-passes, session-numbered, unless-stopped, unless-accepted}
+use Rattle.replication.proofs.DecideLaws.{by-rest, accepted}
+use Rattle.replication.proofs.Accepted.{commit-passed}
 use Rattle.replication.proofs.AppendLaws.{length-operations}
 use Rattle.replication.proofs.WalkLaws.{whole-walkable}
 use Rattle.replication.proofs.Chains.{few-commits}
@@ -38,72 +37,41 @@ size-few bytes e =
     (omega arith, omega arith)
 
 -- rows 5 to 8
-abbrev pub OperationRows : ℕ → List ℕ → List ℕ → List Row
-OperationRows used primary bytes =
-    row 5 (not (sizeForm bytes))
-    ∷ row 6 (not (every operationForm (operationsOf bytes)))
-    ∷ row 7 (noRoom used (length (operationsOf bytes)))
-    ∷ row 8 (not (meetsAll primary (operationsOf bytes)))
-    ∷ []
-
 module _ (used : ℕ) (primary bytes : List ℕ) where
-  pub size-wrong : sizeForm bytes ≡ false → 5 ≡ stopped (OperationRows used primary bytes)
+  pub size-wrong : sizeForm bytes ≡ false → 5 ≡ stopped (operationRows used primary bytes)
   unfolding stopped
   size-wrong e = rw e
 
-  -- where none stops the commit
-  pub right-operations : stopped (OperationRows used primary bytes) ≡ 0
-      → (sizeForm bytes ≡ true) × ((every operationForm (operationsOf bytes) ≡ true) × (used + length bytes / 80 ≤ 512))
-  unfolding stopped noRoom
-  right-operations e = go (sizeForm bytes) (every operationForm (operationsOf bytes)) (ltb 512 (used + length (operationsOf bytes))) (meetsAll primary (operationsOf bytes)) refl e
-    where
-      go : (a b c d : Bool) → ltb 512 (used + length (operationsOf bytes)) ≡ c → _≡_ {A = ℕ} (cond (not a) 5 (cond (not b) 6 (cond c 7 (cond (not d) 8 0)))) 0
-          → (a ≡ true) × ((b ≡ true) × (used + length bytes / 80 ≤ 512))
-      go true true true d f y = absurd (omega arith)
-      go true true false d f y = (refl, (refl, rw (length-operations bytes) at (ltb-false 512 (used + length (operationsOf bytes)) f)))
-      go true false c d f y = absurd (omega arith)
-      go false b c d f y = absurd (omega arith)
-
   module _ (s : sizeForm bytes ≡ true) where
-    pub form-wrong : every operationForm (operationsOf bytes) ≡ false → 6 ≡ stopped (OperationRows used primary bytes)
+    pub form-wrong : every operationForm (operationsOf bytes) ≡ false → 6 ≡ stopped (operationRows used primary bytes)
     unfolding stopped
     form-wrong e = rw (s, e)
 
     module _ (f : every operationForm (operationsOf bytes) ≡ true) where
-      pub log-full : 512 < used + length bytes / 80 → 7 ≡ stopped (OperationRows used primary bytes)
+      pub log-full : 512 < used + length bytes / 80 → 7 ≡ stopped (operationRows used primary bytes)
       unfolding stopped noRoom
       log-full h = rw (s, f, length-operations bytes, lt-ltb 512 (used + length bytes / 80) h)
 
       module _ (r : used + length bytes / 80 ≤ 512) where
-        pub carts-wrong : meetsAll primary (operationsOf bytes) ≡ false → 8 ≡ stopped (OperationRows used primary bytes)
+        pub carts-wrong : meetsAll primary (operationsOf bytes) ≡ false → 8 ≡ stopped (operationRows used primary bytes)
         unfolding stopped noRoom
         carts-wrong e = rw (s, f, length-operations bytes, le-ltb 512 (used + length bytes / 80) r, e)
 
-        pub may-commit : meetsAll primary (operationsOf bytes) ≡ true → 0 ≡ stopped (OperationRows used primary bytes)
+        pub may-commit : meetsAll primary (operationsOf bytes) ≡ true → 0 ≡ stopped (operationRows used primary bytes)
         unfolding stopped noRoom
         may-commit e = rw (s, f, length-operations bytes, le-ltb 512 (used + length bytes / 80) r, e)
-
--- row 4, by the session's value
-pub waiting-by : (x : List ℕ) (v : Session) (b : Bool) → v ≡ sessionValue x → b ≡ waitsBy (v .waiting) → b ≡ isWaiting (requestOf x)
-unfolding sessionValue
-waiting-by x v b e f = f ∙ ap (λ (z : Session). waitsBy (z .waiting)) e ∙ sym (waiting-is x)
-
--- the number of the row that stops a commit, or 0
-abbrev pub CommitStops : Control → Memory → ℕ → List ℕ → ℕ
-CommitStops c m s bytes =
-    stopped (memoryRows c m ++ commitRows s (studioOf c s) (requestOf (sessionAt (m .sessions) s)) (c .used) (copyAt (m .library) 0) bytes)
 
 -- neither memory nor who calls stops it: v is what the code has found of them, b whether a read is waiting
 module _ (c : Control) (m : Memory) (s : ℕ) (bytes : List ℕ) (v : ℕ) (e : v ≡ stopped (memoryRows c m ++ (sessionRow s (studioOf c s) ∷ []))) (z : v ≡ 0)
     (b : Bool) (q : b ≡ isWaiting (requestOf (sessionAt (m .sessions) s))) where
-  rest-decides : (n : ℕ) → n ≡ stopped (row 4 (isWaiting (requestOf (sessionAt (m .sessions) s))) ∷ OperationRows (c .used) (copyAt (m .library) 0) bytes) → n ≡ CommitStops c m s bytes
-  unfolding commitRows
+  rest-decides : (n : ℕ) → n ≡ stopped (row 4 (isWaiting (requestOf (sessionAt (m .sessions) s))) ∷ operationRows (c .used) (copyAt (m .library) 0) bytes) → n ≡ commitStop c m s bytes
+  unfolding commitStop commitRows
   rest-decides n g = by-rest c m _ _ (session-numbered s (studioOf c s)) v e z n g
 
-  pub read-waits : b ≡ true → 4 ≡ CommitStops c m s bytes
+  pub read-waits : b ≡ true → 4 ≡ commitStop c m s bytes
   read-waits t = rest-decides 4 (row-stops 4 _ _ (sym q ∙ t))
 
-  pub operations-decide : b ≡ false → (n : ℕ) → n ≡ stopped (OperationRows (c .used) (copyAt (m .library) 0) bytes) → n ≡ CommitStops c m s bytes
+  pub operations-decide : b ≡ false → (n : ℕ) → n ≡ stopped (operationRows (c .used) (copyAt (m .library) 0) bytes) → n ≡ commitStop c m s bytes
   operations-decide t n g = rest-decides n (g ∙ sym (row-passes 4 _ _ (sym q ∙ t)))
 
 -- what is known where no row stops a commit
@@ -122,24 +90,24 @@ unfolding committed
 next-small c n next e h = rw e (omega arith)
 
 -- the whole call; v is the number that the rows give
-module _ (c : Control) (m : Memory) (s : ℕ) (bytes : List ℕ) (v : ℕ) (e : v ≡ CommitStops c m s bytes) where
+module _ (c : Control) (m : Memory) (s : ℕ) (bytes : List ℕ) (v : ℕ) (e : v ≡ commitStop c m s bytes) where
   pub commit-refused : (v ≡ 0 → ⊥) → after (refused v) c m [] ≡ commit c m s bytes
   unfolding commit refusedCommit
   commit-refused n = rw e (unless-stopped _ _ _ (λ z. n (e ∙ z)))
 
   pub commit-known : v ≡ 0 → Known c m s bytes
-  unfolding commitRows numbered every
+  unfolding commitStop
   commit-known z =
-      let waits : Row = row 4 (isWaiting (requestOf (sessionAt (m .sessions) s))) in
-      let rest = accepted-rest c m _ _ (session-numbered s (studioOf c s)) (sym e ∙ z) in
-      let o = right-operations (c .used) (copyAt (m .library) 0) bytes (none-stops (waits ∷ []) _ refl rest .1) in
-      let f = accepted-formed c m _ _ (session-numbered s (studioOf c s)) (sym e ∙ z) in
+      let a = accepted c m _ (sym e ∙ z) in
+      let f = a .0 in
+      let p = commit-passed s (studioOf c s) (requestOf (sessionAt (m .sessions) s)) (c .used) (copyAt (m .library) 0) bytes (a .1) in
+      let size = size-few bytes (p .size) in
       record {
         formed = f;
-        session = right-session s (studioOf c s) (accepted-who c m _ _ (session-numbered s (studioOf c s)) (sym e ∙ z)) .0;
-        fields = forms-fields (operationsOf bytes) (o .1 .0);
-        some = size-few bytes (o .0) .0;
-        room = o .1 .1;
+        session = (p .who .low, p .who .high);
+        fields = forms-fields (operationsOf bytes) (p .form);
+        some = size .0;
+        room = rw (length-operations bytes) at (p .room);
         few = few-commits c m f;
         walks = whole-walkable c m f (c .commits) (omega arith);
       }

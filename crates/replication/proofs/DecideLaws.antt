@@ -5,13 +5,13 @@ use mathlib.Core.Bool.{Bool, true, false, cond, _||_, not}
 use mathlib.Core.List.{List, [], _∷_, _++_, append-assoc}
 use native.Mathlib.Omega.{arith}
 use lib.Dec.{eqb}
-use borrow.Author.Tests.{eqb-false}
+use borrow.Author.Tests.{eqb-false, not-false}
 use Rattle.carts.specs.Bytes.{within}
 use Rattle.carts.proofs.TestLaws.{within-low, within-high}
 use Rattle.replication.specs.Memory.{Memory}
 use Rattle.replication.specs.Rows.{Row, stopped, memoryRows, sessionRow, studioRow}
 use Rattle.replication.specs.declared.control.Control.{Control}
-use Rattle.replication.proofs.RowLaws.{numbered, stops-first, decides, none-stops, right-memory, memory-numbered}
+use Rattle.replication.proofs.RowLaws.{numbered, passed, stops-first, decides, none-stops, right-memory, memory-numbered}
 use Rattle.replication.proofs.Formed.{Formed, formed}
 
 pub memory-formed : (c : Control) (m : Memory) (v : ℕ) → v ≡ stopped (memoryRows c m) → v ≡ 0 → Formed c m
@@ -40,45 +40,41 @@ module _ (c : Control) (m : Memory) (who : Row) where
     pub first-who : stopped (who ∷ []) ≡ 0
     first-who = first-pass .1
 
--- the rows of a call: those three, and the rest; v is what the code has found of the first three
-module _ (c : Control) (m : Memory) (who : Row) (rest : List Row) (k : numbered (who ∷ []) ≡ true) where
-  abbrev pub CallRows : List Row
-  CallRows = memoryRows c m ++ (who ∷ rest)
+-- the rows of a call: those three, and its own; v is what the code has found of the first three
+module _ (c : Control) (m : Memory) (who : Row) (rest : List Row) (k : numbered (who ∷ []) ≡ true) (v : ℕ) (e : v ≡ stopped (FirstRows c m who)) where
+  pub by-first : (v ≡ 0 → ⊥) → v ≡ stopped (memoryRows c m ++ (who ∷ rest))
+  by-first n = stops-first (FirstRows c m who) rest v e n ∙ ap stopped (append-assoc (memoryRows c m) (who ∷ []) rest)
 
-  module _ (v : ℕ) (e : v ≡ stopped (FirstRows c m who)) where
-    pub by-first : (v ≡ 0 → ⊥) → v ≡ stopped CallRows
-    by-first n = stops-first (FirstRows c m who) rest v e n ∙ ap stopped (append-assoc (memoryRows c m) (who ∷ []) rest)
+  pub by-rest : v ≡ 0 → (n : ℕ) → n ≡ stopped rest → n ≡ stopped (memoryRows c m ++ (who ∷ rest))
+  by-rest z n g =
+      let p = first-pass c m who v e z in
+      decides (memoryRows c m) (who ∷ rest) 0 n (memory-numbered c m) (sym (p .0)) refl (decides (who ∷ []) rest 0 n k (sym (p .1)) refl g)
 
-    pub by-rest : v ≡ 0 → (n : ℕ) → n ≡ stopped rest → n ≡ stopped CallRows
-    by-rest z n g =
-        let p = first-pass c m who v e z in
-        decides (memoryRows c m) (who ∷ rest) 0 n (memory-numbered c m) (sym (p .0)) refl (decides (who ∷ []) rest 0 n k (sym (p .1)) refl g)
-
-  -- where none stops the call
-  module _ (e : stopped CallRows ≡ 0) where
-    pub accepted-formed : Formed c m
-    accepted-formed = let r = right-memory c m (none-stops (memoryRows c m) (who ∷ rest) (memory-numbered c m) e .0) in formed c m (r .0) (r .1)
-
-    pub accepted-who : stopped (who ∷ []) ≡ 0
-    accepted-who = none-stops (who ∷ []) rest k (none-stops (memoryRows c m) (who ∷ rest) (memory-numbered c m) e .1) .0
-
-    pub accepted-rest : stopped rest ≡ 0
-    accepted-rest = none-stops (who ∷ []) rest k (none-stops (memoryRows c m) (who ∷ rest) (memory-numbered c m) e .1) .1
+-- a call that no row stops
+pub accepted : (c : Control) (m : Memory) (rs : List Row) → stopped (memoryRows c m ++ rs) ≡ 0 → Formed c m × (stopped rs ≡ 0)
+accepted c m rs e = let p = none-stops (memoryRows c m) rs (memory-numbered c m) e in (memory-formed c m 0 (sym (p .0)) refl, p .1)
 
 -- who calls, where row 3 does not stop the call
-pub right-studio : (studios i : ℕ) → stopped (studioRow studios i ∷ []) ≡ 0 → (1 ≤ i) × (i ≤ studios)
-unfolding stopped studioRow
-right-studio studios i e = go (within 1 studios i) refl e
-  where
-    go : (b : Bool) → within 1 studios i ≡ b → _≡_ {A = ℕ} (cond (not b) 3 0) 0 → (1 ≤ i) × (i ≤ studios)
-    go true f y = (within-low 1 studios i f, within-high 1 studios i f)
-    go false f y = absurd (omega arith)
+pub record KnownStudio (studios i : ℕ) : Type 0 where
+  pub low : 1 ≤ i
+  pub high : i ≤ studios
 
-pub right-session : (s studio : ℕ) → stopped (sessionRow s studio ∷ []) ≡ 0 → ((1 ≤ s) × (s ≤ 16)) × (studio ≡ 0 → ⊥)
+pub known-studio : (studios i : ℕ) → stopped (studioRow studios i ∷ []) ≡ 0 → KnownStudio studios i
+unfolding studioRow
+known-studio studios i e =
+    let w = not-false _ (passed 2 (not (within 1 studios i)) [] e .0) in
+    record { low = within-low 1 studios i w; high = within-high 1 studios i w }
+
+pub record KnownSession (s studio : ℕ) : Type 0 where
+  pub low : 1 ≤ s
+  pub high : s ≤ 16
+  pub used : studio ≡ 0 → ⊥
+
+pub known-session : (s studio : ℕ) → stopped (sessionRow s studio ∷ []) ≡ 0 → KnownSession s studio
 unfolding stopped sessionRow
-right-session s studio e = go (within 1 16 s) (eqb studio 0) refl refl e
+known-session s studio e = go (within 1 16 s) (eqb studio 0) refl refl e
   where
-    go : (a b : Bool) → within 1 16 s ≡ a → eqb studio 0 ≡ b → _≡_ {A = ℕ} (cond (not a || b) 3 0) 0 → ((1 ≤ s) × (s ≤ 16)) × (studio ≡ 0 → ⊥)
+    go : (a b : Bool) → within 1 16 s ≡ a → eqb studio 0 ≡ b → _≡_ {A = ℕ} (cond (not a || b) 3 0) 0 → KnownSession s studio
     go true true f g y = absurd (omega arith)
-    go true false f g y = ((within-low 1 16 s f, within-high 1 16 s f), eqb-false studio 0 g)
+    go true false f g y = record { low = within-low 1 16 s f; high = within-high 1 16 s f; used = eqb-false studio 0 g }
     go false b f g y = absurd (omega arith)

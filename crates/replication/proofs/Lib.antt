@@ -1,6 +1,7 @@
 -- Worked examples, and laws on the definitions of specs/ for the proofs of this crate and of the crates above.
 pub mod Accepted
 pub mod AppendLaws
+pub mod BlockLaws
 pub mod Chains
 pub mod CommitLaws
 pub mod ControlLaws
@@ -16,6 +17,7 @@ pub mod RequestLaws
 pub mod RowLaws
 pub mod Samples
 pub mod SendLaws
+pub mod SessionLaws
 pub mod SetupLaws
 pub mod ShownLaws
 pub mod SpanLaws

@@ -2,12 +2,11 @@
 use Prim.Native.Nat.{ℕ, _+_, _-_, _*_, _<_, _≤_}
 use mathlib.Core.Path.{_≡_, sym, ap, _∙_}
 use mathlib.Core.Bool.{true}
-use mathlib.Core.List.{List, [], _∷_}
+use mathlib.Core.List.{List, []}
 use native.Mathlib.Omega.{arith}
-use lib.Dec.{eqb}
 use lib.ListN.{length, take, drop}
 use native.Mathlib.Nat.{add-sub-cancel-left}
-use borrow.Author.Tests.{eq-eqb, ne-eqb, eqb-false}
+use borrow.Author.Tests.{eq-eqb, ne-eqb}
 use Rattle.carts.specs.Bytes.{over, every}
 use Rattle.carts.specs.Operation.{actAll}
 use Rattle.carts.proofs.TestLaws.{within-of, all-cons, all-nil}
@@ -15,25 +14,24 @@ use Rattle.carts.proofs.OperationLaws.{fields-cart}
 use Rattle.replication.specs.Answer.{refused, done}
 use Rattle.replication.specs.Memory.{Memory, memory, nth, copyAt, withCopy, recordAt}
 use Rattle.replication.specs.Log.{recordsOf, transactionAt, walk, firstRecord}
-use Rattle.replication.specs.Rows.{Row, row, stopped, studioRow, refreshRows}
+use Rattle.replication.specs.Rows.{stopped, unappliedRows, refreshStop}
 use Rattle.replication.specs.Calls.{after, refresh, withApplied, transactionAfter}
 use Rattle.replication.specs.Values.{usable, walkable}
 use Rattle.replication.specs.declared.control.Control.{Control}
-use Rattle.replication.proofs.RowLaws.{row-stops, studio-numbered, unless-stopped, unless-accepted, passed}
-use Rattle.replication.proofs.DecideLaws.{CallRows, accepted-formed, accepted-who, accepted-rest}
+use Rattle.replication.proofs.RowLaws.{unless-stopped, unless-accepted}
+use Rattle.replication.proofs.DecideLaws.{accepted}
+use Rattle.replication.proofs.Accepted.{refresh-passed}
 use Rattle.replication.proofs.Formed.{Formed}
 use Rattle.replication.proofs.Chains.{few-commits, placed, upFrom-every}
 use Rattle.replication.proofs.SendLaws.{studio-counts}
 use Rattle.replication.proofs.WalkLaws.{log-walkable}
 
 -- row 11
-abbrev pub RefreshRest : ℕ → ℕ → List Row
-RefreshRest sent applied = row 11 (eqb sent applied) ∷ []
+pub none-left : (sent applied : ℕ) → sent ≡ applied → 11 ≡ stopped (unappliedRows sent applied)
+unfolding stopped
+none-left sent applied e = rw (eq-eqb sent applied e)
 
-pub none-left : (sent applied : ℕ) → sent ≡ applied → 11 ≡ stopped (RefreshRest sent applied)
-none-left sent applied e = row-stops 11 (eqb sent applied) [] (eq-eqb sent applied e)
-
-pub some-left : (sent applied : ℕ) → (sent ≡ applied → ⊥) → 0 ≡ stopped (RefreshRest sent applied)
+pub some-left : (sent applied : ℕ) → (sent ≡ applied → ⊥) → 0 ≡ stopped (unappliedRows sent applied)
 unfolding stopped
 some-left sent applied n = rw (ne-eqb sent applied n)
 
@@ -61,19 +59,21 @@ pub record Refreshable (c : Control) (m : Memory) (i : ℕ) : Type 0 where
   pub acts : every (usable (m .log)) (recordsOf (m .log) (walk (nth (c .applied) i) (m .log) 1)) ≡ true
 
 -- the whole call
-module _ (c : Control) (m : Memory) (i v : ℕ) (e : v ≡ stopped (CallRows c m (studioRow (c .studios) i) (RefreshRest (nth (c .sent) i) (nth (c .applied) i)) (studio-numbered (c .studios) i))) where
+module _ (c : Control) (m : Memory) (i v : ℕ) (e : v ≡ refreshStop c m i) where
   pub refresh-refused : (v ≡ 0 → ⊥) → after (refused v) c m [] ≡ refresh c m i
-  unfolding refresh refreshRows
+  unfolding refresh
   refresh-refused n = rw e (unless-stopped _ _ _ (λ z. n (e ∙ z)))
 
   pub refresh-known : v ≡ 0 → Refreshable c m i
-  unfolding firstRecord
+  unfolding refreshStop firstRecord
   refresh-known z =
-      let f = accepted-formed c m _ _ (studio-numbered (c .studios) i) (sym e ∙ z) in
-      let k = studio-counts c m i f (accepted-who c m _ _ (studio-numbered (c .studios) i) (sym e ∙ z)) in
-      let n : nth (c .sent) i ≡ nth (c .applied) i → ⊥ = eqb-false _ _ (passed 10 (eqb (nth (c .sent) i) (nth (c .applied) i)) [] (accepted-rest c m _ _ (studio-numbered (c .studios) i) (sym e ∙ z)) .0) in
+      let a = accepted c m _ (sym e ∙ z) in
+      let f = a .0 in
+      let p = refresh-passed (c .studios) i (nth (c .sent) i) (nth (c .applied) i) (a .1) in
+      let k = studio-counts c m i f (p .who) in
+      let n = p .behind in
       let few = few-commits c m f in
-      let h : nth (c .applied) i < c .commits = omega (arith, k .1 .order, k .1 .known) in
+      let h : nth (c .applied) i < c .commits = omega (arith, k .1 .order, k .1 .known, n) in
       let one : firstRecord c ≡ 1 = rw (ne-eqb (c .commits) 0 (λ y. omega arith)) in
       record {
         low = k .0 .0;
@@ -89,7 +89,7 @@ module _ (c : Control) (m : Memory) (i v : ℕ) (e : v ≡ stopped (CallRows c m
   pub refresh-accepted : v ≡ 0 → (n : ℕ) → n ≡ nth (c .applied) i + 1 → (next : Control) → next ≡ withApplied c i n → (library : List ℕ)
       → library ≡ over (m .library) (10240 * i) 10240 (actAll (copyAt (m .library) i) (transactionAt (m .log) (walk (nth (c .applied) i) (m .log) 1)))
       → after (done n) next (memory library (m .log) (m .sessions)) [] ≡ refresh c m i
-  unfolding refresh refreshRows withCopy transactionAfter
+  unfolding refresh withCopy transactionAfter
   refresh-accepted z n k next q library l =
       let f : library ≡ over (m .library) (10240 * i) 10240 (actAll (copyAt (m .library) i) (transactionAt (m .log) (walk (nth (c .applied) i) (m .log) (firstRecord c)))) =
       l ∙ ap (λ (r : ℕ). over (m .library) (10240 * i) 10240 (actAll (copyAt (m .library) i) (transactionAt (m .log) (walk (nth (c .applied) i) (m .log) r)))) (sym (refresh-known z .first)) in

@@ -11,7 +11,7 @@ use Rattle.carts.proofs.TestLaws.{all-fails}
 use Rattle.replication.specs.Answer.{refused, done}
 use Rattle.replication.specs.Memory.{Memory, memory, lengthsForm}
 use Rattle.replication.specs.Log.{freshLog}
-use Rattle.replication.specs.Rows.{Row, stopped, lengthsRow, setupRows}
+use Rattle.replication.specs.Rows.{stopped, lengthsRow, setupRows, setupStop}
 use Rattle.replication.specs.Calls.{after, controlOf, freshMemory, setup}
 use Rattle.replication.specs.declared.control.Control.{Control}
 use Rattle.replication.proofs.RowLaws.{lengths-are, unless-stopped, unless-accepted}
@@ -22,25 +22,22 @@ abbrev StudioTests : ℕ → List ℕ → List Bool
 StudioTests studios bytes = within 1 4 studios ∷ eqb (length bytes) 16 ∷ every (λ b. leb b studios) bytes ∷ []
 
 module _ (m : Memory) (studios : ℕ) (bytes : List ℕ) where
-  abbrev pub SetupRows : List Row
-  SetupRows = lengthsRow m ∷ setupRows studios bytes
-
-  pub setup-lengths : lengthsForm m ≡ false → 1 ≡ stopped SetupRows
-  unfolding stopped lengthsRow
+  pub setup-lengths : lengthsForm m ≡ false → 1 ≡ setupStop m studios bytes
+  unfolding setupStop stopped lengthsRow
   setup-lengths e = rw e
 
   -- one of the conditions fails, counted from 0
   module _ (l : lengthsForm m ≡ true) where
-    pub setup-studios : (n : ℕ) → getD (StudioTests studios bytes) n true ≡ false → 15 ≡ stopped SetupRows
-    unfolding stopped lengthsRow setupRows
+    pub setup-studios : (n : ℕ) → getD (StudioTests studios bytes) n true ≡ false → 15 ≡ setupStop m studios bytes
+    unfolding setupStop stopped lengthsRow setupRows
     setup-studios n e = rw (l, all-fails n (StudioTests studios bytes) e)
 
-    pub setup-passes : within 1 4 studios ≡ true → length bytes ≡ 16 → every (λ b. leb b studios) bytes ≡ true → 0 ≡ stopped SetupRows
-    unfolding stopped lengthsRow setupRows all
+    pub setup-passes : within 1 4 studios ≡ true → length bytes ≡ 16 → every (λ b. leb b studios) bytes ≡ true → 0 ≡ setupStop m studios bytes
+    unfolding setupStop stopped lengthsRow setupRows all
     setup-passes a b c = rw (l, a, eq-eqb (length bytes) 16 b, c)
 
   -- the whole call
-  module _ (v : ℕ) (e : v ≡ stopped SetupRows) where
+  module _ (v : ℕ) (e : v ≡ setupStop m studios bytes) where
     pub setup-refused : (v ≡ 0 → ⊥) → (next : Control) → next ≡ controlOf 0 (zeros 16) → after (refused v) next m [] ≡ setup m studios bytes
     unfolding setup
     setup-refused n next q = rw (q, e) (unless-stopped _ _ _ (λ z. n (e ∙ z)))

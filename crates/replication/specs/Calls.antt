@@ -2,17 +2,17 @@
 -- "Commit acts by this same effect on the head end's copy, refresh on its studio's, and an answered read is taken from the copy of
 -- its session's studio, each also where that copy is no L(n)."
 use mathlib.Core.Bool.{cond}
-use mathlib.Core.List.{List, [], _∷_, _++_}
+use mathlib.Core.List.{List, [], _∷_}
 use Prim.Native.Nat.{ℕ, _+_, _-_}
 use lib.ListN.{length, set}
 use lib.Dec.{leb}
 use Rattle.carts.specs.Bytes.{zeros, over}
 use Rattle.carts.specs.Operation.{operationsOf, actAll}
 use Rattle.replication.specs.Answer.{Answer, refused, done, waits, answered}
-use Rattle.replication.specs.Memory.{Memory, librarySize, sessionsSize, sessionSize, sessionCount, studioCount, copyAt, withCopy, sessionAt, withSession, sequenceOf, withSequence, nth, studioOf}
+use Rattle.replication.specs.Memory.{Memory, memory, librarySize, sessionsSize, sessionSize, sessionCount, studioCount, copyAt, withCopy, sessionAt, withSession, sequenceOf, withSequence, nth, studioOf}
 use Rattle.replication.specs.Log.{transactionAt, walk, firstRecord, freshLog, appended}
 use Rattle.replication.specs.Request.{Request, requestOf, needed, foundIn, shownFrom}
-use Rattle.replication.specs.Rows.{stopped, unless, lengthsRow, memoryRows, setupRows, commitRows, sendRows, refreshRows, readRows, collectRows}
+use Rattle.replication.specs.Rows.{unless, setupStop, commitStop, sendStop, refreshStop, readStop, collectStop}
 use Rattle.replication.specs.Call as Call
 use Rattle.replication.specs.declared.control.Control.{Control}
 
@@ -31,10 +31,10 @@ abbrev pub refusal : Control → Memory → List ℕ → ℕ → After
 refusal c m out n = after (refused n) c m out
 
 abbrev pub withLibrary : Memory → List ℕ → Memory
-withLibrary m library = record { library = library; log = m .log; sessions = m .sessions }
+withLibrary m library = memory library (m .log) (m .sessions)
 
 abbrev pub withSessions : Memory → List ℕ → Memory
-withSessions m sessions = record { library = m .library; log = m .log; sessions = sessions }
+withSessions m sessions = memory (m .library) (m .log) sessions
 
 -- control with every count zero
 unfoldable pub controlOf : ℕ → List ℕ → Control
@@ -43,13 +43,13 @@ controlOf studios sessions =
 
 -- "all memory zero"
 unfoldable pub freshMemory : Memory
-freshMemory = record { library = zeros librarySize; log = freshLog; sessions = zeros sessionsSize }
+freshMemory = memory (zeros librarySize) freshLog (zeros sessionsSize)
 
 -- "Setup (S and 16 studio bytes): all memory zero, counts zero. When refused it hands back an all-zero control."
 unfoldable pub setup : Memory → ℕ → List ℕ → After
 setup m studios bytes =
     let good = after (done 0) (controlOf studios bytes) freshMemory [] in
-    unless (stopped (lengthsRow m ∷ setupRows studios bytes)) (refusal (controlOf 0 (zeros sessionCount)) m []) good
+    unless (setupStop m studios bytes) (refusal (controlOf 0 (zeros sessionCount)) m []) good
 
 -- control after a commit of n operations
 unfoldable pub committed : Control → ℕ → Control
@@ -68,13 +68,9 @@ commit c m s bytes =
     let x = sessionAt (m .sessions) s in
     let ops = operationsOf bytes in
     let n = c .commits + 1 in
-    let left : Memory = record {
-      library = withCopy (m .library) 0 (actAll primary ops);
-      log = appended c (m .log) ops;
-      sessions = withSession (m .sessions) s (withSequence n x);
-    } in
+    let left = memory (withCopy (m .library) 0 (actAll primary ops)) (appended c (m .log) ops) (withSession (m .sessions) s (withSequence n x)) in
     let good = after (done n) (committed c (length ops)) left [] in
-    unless (stopped (memoryRows c m ++ commitRows s (studioOf c s) (requestOf x) (c .used) primary bytes)) (refusedCommit c m s) good
+    unless (commitStop c m s bytes) (refusedCommit c m s) good
 
 -- "Send (studio): sent rises by one. Returns it."
 unfoldable pub withSent : Control → ℕ → ℕ → Control
@@ -85,7 +81,7 @@ unfoldable pub send : Control → Memory → ℕ → After
 send c m i =
     let n = nth (c .sent) i + 1 in
     let good = after (done n) (withSent c i n) m [] in
-    unless (stopped (memoryRows c m ++ sendRows (c .studios) i (nth (c .sent) i) (nth (c .applied) i) (c .commits))) (refusal c m []) good
+    unless (sendStop c m i) (refusal c m []) good
 
 -- "Refresh (studio): transaction applied + 1 acts on that studio's copy; applied rises by one. Returns it."
 unfoldable pub withApplied : Control → ℕ → ℕ → Control
@@ -101,19 +97,23 @@ refresh c m i =
     let k = nth (c .applied) i in
     let copy = actAll (copyAt (m .library) i) (transactionAfter c (m .log) k) in
     let good = after (done (k + 1)) (withApplied c i (k + 1)) (withLibrary m (withCopy (m .library) i copy)) [] in
-    unless (stopped (memoryRows c m ++ refreshRows (c .studios) i (nth (c .sent) i) k)) (refusal c m []) good
+    unless (refreshStop c m i) (refusal c m []) good
 
 -- "A read does not change the session's number": what it is after an answer that showed a state
 unfoldable pub numberAfter : ℕ → ℕ → ℕ
 numberAfter number state = number
 
 -- "An answered read returns the state (applied) and found, and writes from output's start. .. Later output bytes are unchanged":
--- from a copy that has reached `state`; session s, with number n, is left with the bytes x
+-- from a copy that has reached `state`; session s is left with the bytes x and the number n
 unfoldable pub answerFrom : ℕ → List ℕ → Request → Control → Memory → ℕ → ℕ → List ℕ → List ℕ → After
 answerFrom state copy q c m s n x out =
     after (answered state (foundIn copy q)) c
-    (withSessions m (withSession (m .sessions) s (withSequence (numberAfter n state) x)))
+    (withSessions m (withSession (m .sessions) s (withSequence n x)))
     (over out 0 (needed q) (shownFrom copy q))
+
+-- "waits, with the session's number"
+abbrev pub waitsIn : Control → Memory → ℕ → List ℕ → After
+waitsIn c m s out = after (waits (sequenceOf (sessionAt (m .sessions) s))) c m out
 
 -- "if applied of the session's studio is at least the session's number, answered; else ..": `behind`
 unfoldable pub block : Control → Memory → ℕ → Request → List ℕ → After → List ℕ → After
@@ -121,7 +121,7 @@ block c m s q x behind out =
     let i = studioOf c s in
     let state = nth (c .applied) i in
     let n = sequenceOf (sessionAt (m .sessions) s) in
-    let now = answerFrom state (copyAt (m .library) i) q c m s n x out in
+    let now = answerFrom state (copyAt (m .library) i) q c m s (numberAfter n state) x out in
     cond (leb n state) now behind
 
 -- "Read (session, request): .. else the request is stored and the answer is waits, with the session's number"
@@ -131,15 +131,14 @@ read c m s request out =
     let n = sequenceOf x in
     let behind = after (waits n) c (withSessions m (withSession (m .sessions) s (withSequence n request))) out in
     let good = block c m s (requestOf request) x behind out in
-    unless (stopped (memoryRows c m ++ readRows s (studioOf c s) (requestOf x) request (length out))) (refusal c m out) good
+    unless (readStop c m s request (length out)) (refusal c m out) good
 
 -- "Collect (session): the same test on the stored request; answered clears it and keeps bytes 2–3."
 unfoldable pub collect : Control → Memory → ℕ → List ℕ → After
 collect c m s out =
     let x = sessionAt (m .sessions) s in
-    let behind = after (waits (sequenceOf x)) c m out in
-    let good = block c m s (requestOf x) (zeros sessionSize) behind out in
-    unless (stopped (memoryRows c m ++ collectRows s (studioOf c s) (requestOf x) (length out))) (refusal c m out) good
+    let good = block c m s (requestOf x) (zeros sessionSize) (waitsIn c m s out) out in
+    unless (collectStop c m s (length out)) (refusal c m out) good
 
 unfoldable pub call : Control → Memory → Call.Call → After
 call c m (Call.commit s bytes) = commit c m s bytes

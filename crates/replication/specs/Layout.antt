@@ -7,7 +7,7 @@ use lib.Dec.{leb, eqb}
 use Rattle.carts.specs.Bytes.{part, byte, within, all, every, allZero, eachPart}
 use Rattle.carts.specs.Cart.{titleSize, copySize, copyForm}
 use Rattle.carts.specs.Operation.{operationFields}
-use Rattle.replication.specs.Memory.{Memory, copyCount, recordSize, recordCount, sessionSize, sessionCount, studioCount, sequenceOf, nth, studioOf}
+use Rattle.replication.specs.Memory.{Memory, copyCount, recordSize, recordCount, sessionSize, sessionCount, studioCount, window, sequenceOf, nth, studioOf}
 use Rattle.replication.specs.Log.{firstRecord, chainForm}
 use Rattle.replication.specs.Request.{requestFields}
 use Rattle.replication.specs.declared.control.Control.{Control}
@@ -36,7 +36,7 @@ countsForm c i =
     let sent = nth (c .sent) i in
     let applied = nth (c .applied) i in
     cond (leb i (c .studios))
-    (all (leb applied sent ∷ leb sent (c .commits) ∷ leb (sent - applied) 32 ∷ []))
+    (all (leb applied sent ∷ leb sent (c .commits) ∷ leb (sent - applied) window ∷ []))
     (all (eqb sent 0 ∷ eqb applied 0 ∷ []))
 
 -- "every field above is within its rule; the log's chain has exactly commits transactions of 1 to 8 operations and used records"

@@ -47,6 +47,14 @@ sessionsSize = 1280
 abbrev pub studioCount : ℕ
 studioCount = 4
 
+-- "transactions of 1 to 8 operations"
+abbrev pub transactionMost : ℕ
+transactionMost = 8
+
+-- "sent − applied ≤ 32"
+abbrev pub window : ℕ
+window = 32
+
 -- the three memories have their lengths
 unfoldable pub lengthsForm : Memory → Bool
 lengthsForm m = all (eqb (length (m .library)) librarySize ∷ eqb (length (m .log)) logSize ∷ eqb (length (m .sessions)) sessionsSize ∷ [])

@@ -6,6 +6,7 @@ use lib.ListN.{length, drop}
 use lib.Dec.{eqb}
 use Rattle.carts.specs.Bytes.{part, byte, u16s, within, all, every, allZero}
 use Rattle.carts.specs.Cart.{cartSize, cartCount, titleSize, titleForm}
+use Rattle.replication.specs.Memory.{Memory, sessionAt}
 use Rattle.carts.specs.Title.{shownByNumbers, foundByNumbers, shownByTitle, foundByTitle}
 
 -- "A session's waiting read is a case (nothing, numbers, title)"; a request is one of the last two
@@ -24,6 +25,10 @@ requestOf s =
     cond (eqb (byte s 0) 1) (byNumbers (numbersIn s))
     (cond (eqb (byte s 0) 2) (byTitle (part s 16 (byte s 1)))
     nothing)
+
+-- the read that session s has waiting
+abbrev pub waitingIn : Memory → ℕ → Request
+waitingIn m s = requestOf (sessionAt (m .sessions) s)
 
 -- "count of numbers 1–32"; "u16 cart numbers 1–128 .., then zeros"
 unfoldable pub numbersForm : List ℕ → Bool

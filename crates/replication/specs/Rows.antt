@@ -1,15 +1,16 @@
 -- Document 01, "Where a call is stopped": for each call its rows, "checked from top to bottom", over what they look at, so that the
 -- calls on bytes and the plain machine share them. Rows 1 and 2 are the bytes' own.
 use mathlib.Core.Bool.{Bool, cond, _||_, not}
-use mathlib.Core.List.{List, [], _∷_}
-use Prim.Native.Nat.{ℕ, zero, suc, _-_, _%_}
+use mathlib.Core.List.{List, [], _∷_, _++_}
+use Prim.Native.Nat.{ℕ, zero, suc, _*_, _-_, _%_}
 use lib.ListN.{length}
 use lib.Dec.{leb, ltb, eqb}
 use Rattle.carts.specs.Bytes.{within, all, every}
+use Rattle.carts.specs.Cart.{cartSize}
 use Rattle.carts.specs.Operation.{operationForm, operationsOf, meetsAll}
-use Rattle.replication.specs.Memory.{Memory, sessionCount, studioCount, lengthsForm}
+use Rattle.replication.specs.Memory.{Memory, transactionMost, sessionCount, studioCount, window, lengthsForm, copyAt, nth, studioOf}
 use Rattle.replication.specs.Log.{noRoom}
-use Rattle.replication.specs.Request.{Request, requestOf, requestForm, isWaiting, needed}
+use Rattle.replication.specs.Request.{Request, requestOf, requestForm, isWaiting, needed, waitingIn}
 use Rattle.replication.specs.Layout.{ofLayout}
 use Rattle.replication.specs.declared.control.Control.{Control}
 
@@ -53,44 +54,74 @@ studioRow studios i = row 3 (not (within 1 studios i))
 
 -- "length not 80 to 640 in steps of 80"
 unfoldable pub sizeForm : List ℕ → Bool
-sizeForm bytes = all (within 80 640 (length bytes) ∷ eqb (length bytes % 80) 0 ∷ [])
+sizeForm bytes = all (within cartSize (cartSize * transactionMost) (length bytes) ∷ eqb (length bytes % cartSize) 0 ∷ [])
 
--- session s of that studio and waiting read; `used` records; the head end's copy; the operations' bytes
-unfoldable pub commitRows : ℕ → ℕ → Request → ℕ → List ℕ → List ℕ → List Row
-commitRows s studio waiting used primary bytes =
-    sessionRow s studio
-    ∷ row 4 (isWaiting waiting)
-    ∷ row 5 (not (sizeForm bytes))
+-- rows 5 to 7: `used` records; the operations' bytes
+abbrev pub formRows : ℕ → List ℕ → List Row
+formRows used bytes =
+    row 5 (not (sizeForm bytes))
     ∷ row 6 (not (every operationForm (operationsOf bytes)))
     ∷ row 7 (noRoom used (length (operationsOf bytes)))
-    ∷ row 8 (not (meetsAll primary (operationsOf bytes)))
     ∷ []
+
+-- "commit: carts": "an operation meets its cart in the wrong state"
+abbrev pub cartsRow : List ℕ → List ℕ → Row
+cartsRow primary bytes = row 8 (not (meetsAll primary (operationsOf bytes)))
+
+abbrev pub operationRows : ℕ → List ℕ → List ℕ → List Row
+operationRows used primary bytes = formRows used bytes ++ (cartsRow primary bytes ∷ [])
+
+-- session s of that studio and waiting read; the head end's copy
+unfoldable pub commitRows : ℕ → ℕ → Request → ℕ → List ℕ → List ℕ → List Row
+commitRows s studio waiting used primary bytes = sessionRow s studio ∷ row 4 (isWaiting waiting) ∷ operationRows used primary bytes
+
+-- "send": 9 and 10
+abbrev pub windowRows : ℕ → ℕ → ℕ → List Row
+windowRows sent applied commits = row 9 (eqb sent commits) ∷ row 10 (eqb (sent - applied) window) ∷ []
 
 unfoldable pub sendRows : ℕ → ℕ → ℕ → ℕ → ℕ → List Row
-sendRows studios i sent applied commits =
-    studioRow studios i
-    ∷ row 9 (eqb sent commits)
-    ∷ row 10 (eqb (sent - applied) 32)
-    ∷ []
+sendRows studios i sent applied commits = studioRow studios i ∷ windowRows sent applied commits
+
+-- "refresh": 11
+abbrev pub unappliedRows : ℕ → ℕ → List Row
+unappliedRows sent applied = row 11 (eqb sent applied) ∷ []
 
 unfoldable pub refreshRows : ℕ → ℕ → ℕ → ℕ → List Row
-refreshRows studios i sent applied =
-    studioRow studios i
-    ∷ row 11 (eqb sent applied)
-    ∷ []
+refreshRows studios i sent applied = studioRow studios i ∷ unappliedRows sent applied
 
--- the request's bytes; output's length
-unfoldable pub readRows : ℕ → ℕ → Request → List ℕ → ℕ → List Row
-readRows s studio waiting request room =
-    sessionRow s studio
-    ∷ row 4 (isWaiting waiting)
+-- "read": 4, 12 and 13; the request's bytes; output's length
+abbrev pub requestRows : Request → List ℕ → ℕ → List Row
+requestRows waiting request room =
+    row 4 (isWaiting waiting)
     ∷ row 12 (not (requestForm request))
     ∷ row 13 (ltb room (needed (requestOf request)))
     ∷ []
 
+unfoldable pub readRows : ℕ → ℕ → Request → List ℕ → ℕ → List Row
+readRows s studio waiting request room = sessionRow s studio ∷ requestRows waiting request room
+
+-- "collect": 14 and 13
+abbrev pub waitingRows : Request → ℕ → List Row
+waitingRows waiting room = row 14 (not (isWaiting waiting)) ∷ row 13 (ltb room (needed waiting)) ∷ []
+
 unfoldable pub collectRows : ℕ → ℕ → Request → ℕ → List Row
-collectRows s studio waiting room =
-    sessionRow s studio
-    ∷ row 14 (not (isWaiting waiting))
-    ∷ row 13 (ltb room (needed waiting))
-    ∷ []
+collectRows s studio waiting room = sessionRow s studio ∷ waitingRows waiting room
+
+-- the number of the row that stops a call on bytes, or 0
+unfoldable pub setupStop : Memory → ℕ → List ℕ → ℕ
+setupStop m studios bytes = stopped (lengthsRow m ∷ setupRows studios bytes)
+
+unfoldable pub commitStop : Control → Memory → ℕ → List ℕ → ℕ
+commitStop c m s bytes = stopped (memoryRows c m ++ commitRows s (studioOf c s) (waitingIn m s) (c .used) (copyAt (m .library) 0) bytes)
+
+unfoldable pub sendStop : Control → Memory → ℕ → ℕ
+sendStop c m i = stopped (memoryRows c m ++ sendRows (c .studios) i (nth (c .sent) i) (nth (c .applied) i) (c .commits))
+
+unfoldable pub refreshStop : Control → Memory → ℕ → ℕ
+refreshStop c m i = stopped (memoryRows c m ++ refreshRows (c .studios) i (nth (c .sent) i) (nth (c .applied) i))
+
+unfoldable pub readStop : Control → Memory → ℕ → List ℕ → ℕ → ℕ
+readStop c m s request room = stopped (memoryRows c m ++ readRows s (studioOf c s) (waitingIn m s) request room)
+
+unfoldable pub collectStop : Control → Memory → ℕ → ℕ → ℕ
+collectStop c m s room = stopped (memoryRows c m ++ collectRows s (studioOf c s) (waitingIn m s) room)

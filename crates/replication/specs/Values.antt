@@ -12,7 +12,7 @@ use Rattle.replication.specs.declared.session.Session.{Session}
 use Rattle.replication.specs.declared.session.Waiting.{Waiting}
 use Rattle.replication.specs.declared.session.Waiting.the-variants.{Nothing, Numbers, Title}
 use Rattle.replication.specs.declared.record.Record.{Record}
-use Rattle.replication.specs.declared.read.Due.{Due}
+use Rattle.replication.specs.declared.block.Due.{Due}
 use Rattle.replication.specs.declared.control.Control.{Control}
 
 -- a session's waiting read, or a request, as the code's case: by byte 0, with byte 1

@@ -1,20 +1,17 @@
 // Collect: the stored read, answered where the studio's copy has reached the session's number.
 use crate::answer::ReadAnswer;
 use crate::answer::ReadResult;
+use crate::block;
 use crate::control::Control;
-use crate::output;
-use crate::read;
-use crate::read::Due;
 use crate::rows;
 use crate::session;
 use crate::session::Session;
+use carts::bytes;
 ghost use mathlib.Core.Path.{_≡_};
-ghost use mathlib.Core.List.{_++_};
 ghost use Prim.Native.Nat.{_+_, _-_, _<_};
 ghost use Rattle.replication.specs.Answer.{readAnswer};
-ghost use Rattle.replication.specs.Memory.{memory, sessionAt, studioOf};
-ghost use Rattle.replication.specs.Request.{requestOf};
-ghost use Rattle.replication.specs.Rows.{stopped, memoryRows, collectRows};
+ghost use Rattle.replication.specs.Memory.{memory};
+ghost use Rattle.replication.specs.Rows.{collectStop};
 ghost use Rattle.replication.specs.Calls.{after, collect};
 
 // The number of the row that stops a collect, or 0.
@@ -26,8 +23,7 @@ pub fn decide_collect(
     session: u32,
     room: usize,
 ) -> u32
-    ensures { λ r. ⌜ r ≡ stopped (memoryRows control (memory (now (library .entry)) (now (log .entry)) (now (sessions .entry)))
-        ++ collectRows session (studioOf control session) (requestOf (sessionAt (now (sessions .entry)) session)) room) ⌝ }
+    ensures { λ r. ⌜ r ≡ collectStop control (memory (now (library .entry)) (now (log .entry)) (now (sessions .entry))) session room ⌝ }
 {
     let stopped = rows::stopped_by_session(control, library, log, sessions, session);
     if stopped != 0 {
@@ -63,23 +59,17 @@ pub fn collect(
             control,
         };
     }
-    let due = Due::at(control, sessions, session);
-    if due.state < due.number {
-        return ReadResult {
-            answer: ReadAnswer::Waits(due.number),
-            control,
-        };
-    }
-    let asked = session::session_at(sessions, session);
-    let found = output::answer(library, due.studio, asked, output);
+    let mut asked = [0u8; 80];
+    bytes::copy_all(&mut asked, session::session_at(sessions, session));
     let nothing = [0u8; 80];
-    let next = read::number_after(due.number, due.state);
-    session::store(sessions, session, &nothing, next);
-    ReadResult {
-        answer: ReadAnswer::Answered {
-            state: due.state,
-            found,
-        },
+    let answer = block::block(
         control,
-    }
+        library,
+        sessions,
+        session,
+        &asked,
+        &nothing,
+        output,
+    );
+    ReadResult { answer, control }
 }

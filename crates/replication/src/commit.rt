@@ -10,17 +10,13 @@ use crate::session::Session;
 use carts::cart::Cart;
 use carts::operation;
 ghost use mathlib.Core.Path.{_≡_};
-ghost use mathlib.Core.Bool.{not};
-ghost use mathlib.Core.List.{[], _∷_, _++_};
+ghost use mathlib.Core.List.{[]};
 ghost use Prim.Native.Nat.{_+_, _*_, _-_, _<_, _≤_};
 ghost use lib.ListN.{length};
-ghost use Rattle.carts.specs.Bytes.{every};
-ghost use Rattle.carts.specs.Operation.{operationForm, operationsOf, meetsAll};
 ghost use Rattle.replication.specs.Answer.{countAnswer};
-ghost use Rattle.replication.specs.Memory.{memory, copyAt, sessionAt, studioOf};
-ghost use Rattle.replication.specs.Log.{noRoom};
+ghost use Rattle.replication.specs.Memory.{memory, sessionAt};
 ghost use Rattle.replication.specs.Request.{requestOf, isWaiting};
-ghost use Rattle.replication.specs.Rows.{row, stopped, sizeForm, memoryRows, commitRows};
+ghost use Rattle.replication.specs.Rows.{stopped, sizeForm, operationRows, commitStop};
 ghost use Rattle.replication.specs.Calls.{after, commit};
 
 // The bytes are those of 1 to 8 operations.
@@ -34,11 +30,7 @@ fn is_size(operations: &[u8]) -> bool
 // Rows 5 to 8: the number of the row that stops a commit of these operations, or 0.
 fn stopped_by_operations(used: u32, primary: &[u8], operations: &[u8]) -> u32
     requires { ⌜ (used ≤ 512) × (length (now primary) ≡ 10240) ⌝ }
-    ensures { λ r. ⌜ r ≡ stopped (row 5 (not (sizeForm (now (operations .entry))))
-        ∷ row 6 (not (every operationForm (operationsOf (now (operations .entry)))))
-        ∷ row 7 (noRoom used (length (operationsOf (now (operations .entry)))))
-        ∷ row 8 (not (meetsAll (now (primary .entry)) (operationsOf (now (operations .entry)))))
-        ∷ []) ⌝ }
+    ensures { λ r. ⌜ r ≡ stopped (operationRows used (now (primary .entry)) (now (operations .entry))) ⌝ }
 {
     if !is_size(operations) {
         return 5;
@@ -73,9 +65,7 @@ pub fn decide_commit(
     session: u32,
     operations: &[u8],
 ) -> u32
-    ensures { λ r. ⌜ r ≡ stopped (memoryRows control (memory (now (library .entry)) (now (log .entry)) (now (sessions .entry)))
-        ++ commitRows session (studioOf control session) (requestOf (sessionAt (now (sessions .entry)) session)) (control .used)
-        (copyAt (now (library .entry)) 0) (now (operations .entry))) ⌝ }
+    ensures { λ r. ⌜ r ≡ commitStop control (memory (now (library .entry)) (now (log .entry)) (now (sessions .entry))) session (now (operations .entry)) ⌝ }
 {
     let stopped = rows::stopped_by_session(control, library, log, sessions, session);
     if stopped != 0 {

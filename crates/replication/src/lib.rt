@@ -1,6 +1,7 @@
 // Log, sessions and studios of document 01: control, and what the calls answer.
 pub mod answer;
 pub mod append;
+pub mod block;
 pub mod cell;
 pub mod chain;
 pub mod collect;

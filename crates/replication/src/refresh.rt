@@ -7,11 +7,11 @@ use crate::transaction;
 use crate::walk;
 use carts::cart::Cart;
 ghost use mathlib.Core.Path.{_≡_};
-ghost use mathlib.Core.List.{[], _++_};
+ghost use mathlib.Core.List.{[]};
 ghost use Prim.Native.Nat.{ℕ, _+_, _*_, _-_, _<_, _≤_};
 ghost use Rattle.replication.specs.Answer.{countAnswer};
-ghost use Rattle.replication.specs.Memory.{memory, nth};
-ghost use Rattle.replication.specs.Rows.{stopped, memoryRows, refreshRows};
+ghost use Rattle.replication.specs.Memory.{memory};
+ghost use Rattle.replication.specs.Rows.{refreshStop};
 ghost use Rattle.replication.specs.Calls.{after, refresh};
 
 // The number of the row that stops a refresh, or 0.
@@ -22,8 +22,7 @@ pub fn decide_refresh(
     sessions: &[u8],
     studio: u32,
 ) -> u32
-    ensures { λ r. ⌜ r ≡ stopped (memoryRows control (memory (now (library .entry)) (now (log .entry)) (now (sessions .entry)))
-        ++ refreshRows (control .studios) studio (nth (control .sent) studio) (nth (control .applied) studio)) ⌝ }
+    ensures { λ r. ⌜ r ≡ refreshStop control (memory (now (library .entry)) (now (log .entry)) (now (sessions .entry))) studio ⌝ }
 {
     let stopped = rows::stopped_by_studio(control, library, log, sessions, studio);
     if stopped != 0 {

@@ -4,11 +4,11 @@ use crate::answer::CountResult;
 use crate::control::Control;
 use crate::rows;
 ghost use mathlib.Core.Path.{_≡_};
-ghost use mathlib.Core.List.{[], _++_};
+ghost use mathlib.Core.List.{[]};
 ghost use Prim.Native.Nat.{ℕ, _+_, _*_, _-_, _<_, _≤_};
 ghost use Rattle.replication.specs.Answer.{countAnswer};
-ghost use Rattle.replication.specs.Memory.{memory, nth};
-ghost use Rattle.replication.specs.Rows.{stopped, memoryRows, sendRows};
+ghost use Rattle.replication.specs.Memory.{memory};
+ghost use Rattle.replication.specs.Rows.{sendStop};
 ghost use Rattle.replication.specs.Calls.{after, send};
 
 // The number of the row that stops a send, or 0.
@@ -19,8 +19,7 @@ pub fn decide_send(
     sessions: &[u8],
     studio: u32,
 ) -> u32
-    ensures { λ r. ⌜ r ≡ stopped (memoryRows control (memory (now (library .entry)) (now (log .entry)) (now (sessions .entry)))
-        ++ sendRows (control .studios) studio (nth (control .sent) studio) (nth (control .applied) studio) (control .commits)) ⌝ }
+    ensures { λ r. ⌜ r ≡ sendStop control (memory (now (library .entry)) (now (log .entry)) (now (sessions .entry))) studio ⌝ }
 {
     let stopped = rows::stopped_by_studio(control, library, log, sessions, studio);
     if stopped != 0 {

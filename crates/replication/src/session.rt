@@ -33,7 +33,7 @@ impl Session {
     // The session, or the request, in 80 bytes.
     pub fn from_bytes(x: &[u8]) -> Session
         requires { ⌜ length (now x) ≡ 80 ⌝ }
-        ensures { λ r. ⌜ r ≡ sessionValue (now (x .entry)) ⌝ }
+        ensures { λ r. ⌜ (r ≡ sessionValue (now (x .entry))) × (r .number < 65536) ⌝ }
     {
         let number = bytes::u16_at(x, 2);
         let n = bytes::byte_at(x, 1);

@@ -5,14 +5,14 @@ use crate::control::Control;
 use crate::rows;
 use carts::bytes;
 ghost use mathlib.Core.Path.{_≡_};
-ghost use mathlib.Core.List.{[], _∷_};
+ghost use mathlib.Core.List.{[]};
 ghost use Prim.Native.Nat.{ℕ, _+_, _*_, _-_, _<_, _≤_};
 ghost use lib.ListN.{length};
 ghost use lib.Dec.{leb};
 ghost use Rattle.carts.specs.Bytes.{every};
 ghost use Rattle.replication.specs.Answer.{setupAnswer};
 ghost use Rattle.replication.specs.Memory.{memory};
-ghost use Rattle.replication.specs.Rows.{stopped, lengthsRow, setupRows};
+ghost use Rattle.replication.specs.Rows.{setupStop};
 ghost use Rattle.replication.specs.Calls.{after, setup};
 
 // Each byte is at most the number of studios.
@@ -44,8 +44,7 @@ fn numbers_of(places: &[u8]) -> [u32; 16]
 
 // The number of the row that stops a setup, or 0.
 pub fn decide_setup(library: &[u8], log: &[u8], sessions: &[u8], studios: u32, places: &[u8]) -> u32
-    ensures { λ r. ⌜ r ≡ stopped (lengthsRow (memory (now (library .entry)) (now (log .entry)) (now (sessions .entry)))
-        ∷ setupRows studios (now (places .entry))) ⌝ }
+    ensures { λ r. ⌜ r ≡ setupStop (memory (now (library .entry)) (now (log .entry)) (now (sessions .entry))) studios (now (places .entry)) ⌝ }
 {
     if !rows::are_lengths(library, log, sessions) {
         return 1;

@@ -1,17 +1,18 @@
 use native.Mathlib.Omega.{arith}
 use Rattle.carts.proofs.PartLaws.{length-part}
 use Rattle.replication.specs.Memory.{memory, copyAt}
-use Rattle.replication.specs.Rows.{commitRows}
+use Rattle.replication.specs.Rows.{commitRows, commitStop}
 use Rattle.replication.proofs.Formed.{Formed}
 use Rattle.replication.proofs.RowLaws.{session-numbered}
-use Rattle.replication.proofs.DecideLaws.{by-first, first-formed, first-who, right-session}
+use Rattle.replication.proofs.DecideLaws.{by-first, first-formed, first-who, known-session}
+use Rattle.replication.proofs.SessionLaws.{session-placed}
 use Rattle.replication.proofs.CommitLaws.{read-waits, operations-decide}
 use borrow.Author.Needs.{needs}
 use Rattle.replication.proofs.commit.decide_commit.Statement.{statement}
 use Rattle.replication.proofs.commit.decide_commit.Tie as tie
 
 returns : tie.Need-returns
-unfolding commitRows
+unfolding commitStop commitRows
 returns c = by-first _ _ _ _ (session-numbered _ _) _ (c .before .stopped-by-session .ensures) (c .if1 .taken)
 
 formed-here : (c : tie.Else1) → let g = c .before .before .before .before .before .before .args in Formed (g .control) (memory (g .library .now) (g .log .now) (g .sessions .now))
@@ -21,7 +22,7 @@ stopped-by-session-requires : tie.Need-stopped-by-session-requires
 stopped-by-session-requires c κs = search needs
 
 has-waiting-requires : tie.Need-has-waiting-requires
-has-waiting-requires c κs = (formed-here c .sessions .size, right-session _ _ (first-who _ _ _ _ (c .before .stopped-by-session .ensures) (c .if1 .left)) .0)
+has-waiting-requires c κs = session-placed _ _ _ _ (formed-here c) (known-session _ _ (first-who _ _ _ _ (c .before .stopped-by-session .ensures) (c .if1 .left)))
 
 returns-2 : tie.Need-returns-2
 returns-2 c = let d = c .before .before in

@@ -1,6 +1,6 @@
-use mathlib.Core.Path.{_∙_, ap}
+use mathlib.Core.Path.{_∙_, ap, sym}
 use Rattle.replication.specs.Values.{sessionValue}
-use Rattle.replication.proofs.CommitLaws.{waiting-by}
+use Rattle.replication.proofs.SessionLaws.{waits-is}
 use borrow.Author.Needs.{needs}
 use Rattle.replication.proofs.commit.has_waiting.Statement.{statement}
 use Rattle.replication.proofs.commit.has_waiting.Tie as tie
@@ -16,7 +16,7 @@ is-waiting-requires c κs = search needs
 
 returns : tie.Need-returns
 returns c = let f = c .before in
-    waiting-by _ _ _ (f .from-bytes .ensures ∙ ap sessionValue (f .before .session-at .ensures .0)) (c .is-waiting .ensures)
+    sym (waits-is _ _ (f .from-bytes .ensures .0 ∙ ap sessionValue (f .before .session-at .ensures .0)) _ (c .is-waiting .ensures))
 
 pub has-waiting-spec : {M : Type 1} → statement M
 has-waiting-spec =

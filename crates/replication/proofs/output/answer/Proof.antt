@@ -26,7 +26,7 @@ part-show-end c = search needs
 show-requires : tie.Need-show-requires
 show-requires c κs = let b = c .before .before in
     let s = b .before .before .before .before in
-    ((length-lent 10240 (s .args .studio) (s .args .library .now) (omega arith), (s .pre .0 .1 .1, value-waiting _ _ (b .from-bytes .ensures))), s .pre .1)
+    ((length-lent 10240 (s .args .studio) (s .args .library .now) (omega arith), (s .pre .0 .1 .1, value-waiting _ _ (b .from-bytes .ensures .0))), s .pre .1)
 
 same-length : tie.Need-same-length
 same-length c = search needs

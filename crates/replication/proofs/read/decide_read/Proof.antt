@@ -1,21 +1,21 @@
 use mathlib.Core.Path.{_≡_, sym, ap, _∙_}
-use mathlib.Core.List.{_++_}
 use Prim.Native.Nat.{ℕ, _≤_}
 use lib.ListN.{length}
 use borrow.Author.Tests.{not-true, not-false}
-use Rattle.replication.specs.Memory.{memory, sessionAt, studioOf}
+use Rattle.replication.specs.Memory.{memory, sessionAt}
 use Rattle.replication.specs.Request.{requestOf, isWaiting, needed}
-use Rattle.replication.specs.Rows.{stopped, memoryRows, readRows}
+use Rattle.replication.specs.Rows.{stopped, requestRows, readRows, readStop}
 use Rattle.replication.specs.Values.{sessionValue}
 use Rattle.replication.proofs.RowLaws.{session-numbered}
-use Rattle.replication.proofs.DecideLaws.{by-first, by-rest, first-formed, first-who}
-use Rattle.replication.proofs.ReadLaws.{ReadRest, waits-is, needs-is, read-waiting, read-unformed, read-no-room, may-read, session-placed, request-parts}
+use Rattle.replication.proofs.DecideLaws.{by-first, by-rest, first-formed, first-who, known-session}
+use Rattle.replication.proofs.ReadLaws.{read-waiting, read-unformed, read-no-room, may-read}
+use Rattle.replication.proofs.SessionLaws.{waits-is, needs-is, session-placed, request-parts}
 use borrow.Author.Needs.{needs}
 use Rattle.replication.proofs.read.decide_read.Statement.{statement}
 use Rattle.replication.proofs.read.decide_read.Tie as tie
 
 returns : tie.Need-returns
-unfolding readRows
+unfolding readStop readRows
 returns c = by-first _ _ _ _ (session-numbered _ _) _ (c .before .stopped-by-session .ensures) (c .if1 .taken)
 
 stopped-by-session-requires : tie.Need-stopped-by-session-requires
@@ -23,12 +23,12 @@ stopped-by-session-requires c κs = search needs
 
 -- neither memory nor who calls stops the call
 placed : (c : tie.Else1) → let g = c .before .before .before .before .before .before .args in (length (g .sessions .now) ≡ 1280) × ((1 ≤ g .session) × (g .session ≤ 16))
-placed c = session-placed _ _ _ _ (first-formed _ _ _ _ (c .before .stopped-by-session .ensures) (c .if1 .left)) (first-who _ _ _ _ (c .before .stopped-by-session .ensures) (c .if1 .left))
+placed c = session-placed _ _ _ _ (first-formed _ _ _ _ (c .before .stopped-by-session .ensures) (c .if1 .left)) (known-session _ _ (first-who _ _ _ _ (c .before .stopped-by-session .ensures) (c .if1 .left)))
 
 rest : (c : tie.Else1) → let g = c .before .before .before .before .before .before .args in (n : ℕ)
-    → n ≡ stopped (ReadRest (requestOf (sessionAt (g .sessions .now) (g .session))) (g .request .now) (g .room))
-    → n ≡ stopped (memoryRows (g .control) (memory (g .library .now) (g .log .now) (g .sessions .now)) ++ readRows (g .session) (studioOf (g .control) (g .session)) (requestOf (sessionAt (g .sessions .now) (g .session))) (g .request .now) (g .room))
-unfolding readRows
+    → n ≡ stopped (requestRows (requestOf (sessionAt (g .sessions .now) (g .session))) (g .request .now) (g .room))
+    → n ≡ readStop (g .control) (memory (g .library .now) (g .log .now) (g .sessions .now)) (g .session) (g .request .now) (g .room)
+unfolding readStop readRows
 rest c n e = by-rest _ _ _ _ (session-numbered _ _) _ (c .before .stopped-by-session .ensures) (c .if1 .left) n e
 
 session-at-requires : tie.Need-session-at-requires
@@ -42,7 +42,7 @@ is-waiting-requires c κs = search needs
 
 own-waits : (c : tie.After-is-waiting) → let g = c .before .before .before .before .before .before .before .before .before .args in isWaiting (requestOf (sessionAt (g .sessions .now) (g .session))) ≡ c .is-waiting .result
 own-waits c = let b = c .before in
-    waits-is _ _ (b .from-bytes .ensures ∙ ap sessionValue (b .before .session-at .ensures .0)) _ (c .is-waiting .ensures)
+    waits-is _ _ (b .from-bytes .ensures .0 ∙ ap sessionValue (b .before .session-at .ensures .0)) _ (c .is-waiting .ensures)
 
 returns-2 : tie.Need-returns-2
 returns-2 c = rest (c .before .before .before .before) 4 (read-waiting _ _ _ (own-waits (c .before) ∙ c .if2 .taken))
@@ -65,14 +65,14 @@ returns-4 c = let n = c .before in
     let f = n .before .before in
     let w = f .before .before in
     rest (w .before .before .before .before) 13 (read-no-room _ _ _ (own-waits (w .before) ∙ w .if2 .left)
-    (sym (f .before .is-request .ensures) ∙ not-false (f .before .is-request .result) (f .if3 .left)) _ (needs-is _ _ (n .before .from-bytes2 .ensures) _ (n .needed .ensures)) (c .if4 .taken))
+    (sym (f .before .is-request .ensures) ∙ not-false (f .before .is-request .result) (f .if3 .left)) _ (needs-is _ _ (n .before .from-bytes2 .ensures .0) _ (n .needed .ensures)) (c .if4 .taken))
 
 returns-5 : tie.Need-returns-5
 returns-5 c = let n = c .before in
     let f = n .before .before in
     let w = f .before .before in
     rest (w .before .before .before .before) 0 (may-read _ _ _ (own-waits (w .before) ∙ w .if2 .left)
-    (sym (f .before .is-request .ensures) ∙ not-false (f .before .is-request .result) (f .if3 .left)) _ (needs-is _ _ (n .before .from-bytes2 .ensures) _ (n .needed .ensures)) (c .if4 .left))
+    (sym (f .before .is-request .ensures) ∙ not-false (f .before .is-request .result) (f .if3 .left)) _ (needs-is _ _ (n .before .from-bytes2 .ensures .0) _ (n .needed .ensures)) (c .if4 .left))
 
 pub decide-read-spec : {M : Type 1} → statement M
 decide-read-spec =

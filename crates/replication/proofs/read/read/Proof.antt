@@ -1,9 +1,10 @@
-use Prim.Native.Nat.{_≤_, _<_}
-use native.Mathlib.Omega.{arith}
+use mathlib.Core.Path.{refl, ap, _∙_}
 use lib.ListN.{length}
+use Rattle.replication.specs.Answer.{readAnswer}
 use Rattle.replication.specs.Memory.{memory}
-use Rattle.replication.specs.Rows.{readRows}
-use Rattle.replication.proofs.ReadLaws.{Caller, Asked, call-caller, due-known, read-refused, read-asks, read-waits, read-answers}
+use Rattle.replication.proofs.SessionLaws.{Caller, Asked}
+use Rattle.replication.proofs.BlockLaws.{not-waits}
+use Rattle.replication.proofs.ReadLaws.{read-refused, read-known, read-answers, read-waits}
 use borrow.Author.Needs.{needs}
 use Rattle.replication.proofs.read.read.Statement.{statement}
 use Rattle.replication.proofs.read.read.Tie as tie
@@ -14,78 +15,76 @@ decide-read-requires c κs = search needs
 same-length : tie.Need-same-length
 same-length c = search needs
 
+abbrev start : tie.After-decide-read → tie.Start
+start c = c .before .before .before .before .before .before .before
+
 returns : tie.Need-returns
-unfolding readRows
-returns c = let d = c .before in
-    let g = d .before .before .before .before .before .before .before .args in
-    read-refused (g .control) (memory (g .library .now) (g .log .now) (g .sessions .now)) (g .session) (g .request .now) (g .output .now) _ (d .decide-read .ensures) (c .if1 .taken)
+returns c = read-refused _ _ _ _ _ _ (c .before .decide-read .ensures) (c .if1 .taken)
 
 -- no row stops the call: its session and studio, and what it asks
-who : (c : tie.Else1) → let g = c .before .before .before .before .before .before .before .before .args in Caller (g .control) (memory (g .library .now) (g .log .now) (g .sessions .now)) (g .session)
-unfolding readRows
-who c = let d = c .before in
-    let g = d .before .before .before .before .before .before .before .args in
-    call-caller (g .control) (memory (g .library .now) (g .log .now) (g .sessions .now)) (g .session) _ _ (d .decide-read .ensures) (c .if1 .left)
+known : (c : tie.Else1) → let g = start (c .before) .args in Caller (g .control) (memory (g .library .now) (g .log .now) (g .sessions .now)) (g .session) × Asked (g .request .now) (length (g .output .now))
+known c = let g = start (c .before) .args in read-known _ (memory (g .library .now) (g .log .now) (g .sessions .now)) _ _ (g .output .now) _ (c .before .decide-read .ensures) (c .if1 .left)
 
-asks : (c : tie.Else1) → let g = c .before .before .before .before .before .before .before .before .args in Asked (g .request .now) (length (g .output .now))
-unfolding readRows
-asks c = let d = c .before in
-    let g = d .before .before .before .before .before .before .before .args in
-    read-asks (g .control) (memory (g .library .now) (g .log .now) (g .sessions .now)) (g .session) (g .request .now) (g .output .now) _ (d .decide-read .ensures) (c .if1 .left)
+slice-aggregate-copy-all : tie.Need-slice-aggregate-copy-all
+slice-aggregate-copy-all c = search needs
 
-at-requires : tie.Need-at-requires
-at-requires c κs = let w = who (c .before) in (w .place, w .studio)
+session-at-requires : tie.Need-session-at-requires
+session-at-requires c κs = known (c .before .before) .0 .place
 
-few : (c : tie.After-at) → (c .at .result .studio ≤ 4) × (c .at .result .state < 65536)
-few c = let g = c .before .before .before .before .before .before .before .before .before .before .args in due-known (g .control) (memory (g .library .now) (g .log .now) (g .sessions .now)) (g .session) _ (c .at .ensures .0) (who (c .before .before))
+copy-all-requires : tie.Need-copy-all-requires
+copy-all-requires c κs = search needs
 
-store-requires : tie.Need-store-requires
-store-requires c κs = let a = c .before .before .before in
-    let l = a .at .ensures .1 in
-    (who (a .before .before) .place, (asks (a .before .before) .size, omega arith))
+slice-aggregate-block : tie.Need-slice-aggregate-block
+slice-aggregate-block c = search needs
+
+abbrev decided : tie.After-copy-all → tie.Else1
+decided c = c .before .before .before .before
+
+block-requires : tie.Need-block-requires
+block-requires c κs = let d = c .before .before .before .before in
+    let k = known (decided d) in
+    ((k .0 .library, k .0 .place), ((k .0 .studio, k .0 .state), ((k .1 .size, (k .1 .fields, k .1 .fits)), ap length (d .copy-all .ensures) ∙ d .before .session-at .ensures .1)))
+
+enum-known-answer : tie.Need-enum-known-answer
+enum-known-answer c = search needs
 
 same-length-2 : tie.Need-same-length-2
 same-length-2 c = search needs
 
-returns-2 : tie.Need-returns-2
-unfolding readRows
-returns-2 c = let y = c .before .before in
-    let t = y .before .before in
-    let a = t .before .before in
-    let d = a .before .before .before in
-    let g = d .before .before .before .before .before .before .before .args in
-    read-waits (g .control) (memory (g .library .now) (g .log .now) (g .sessions .now)) (g .session) (g .request .now) (g .output .now) _ (d .decide-read .ensures) (a .before .before .if1 .left) _ (a .at .ensures .0)
-    (t .if2 .taken) _ (y .store .ensures)
-
-answer-requires : tie.Need-answer-requires
-answer-requires c κs = let a = c .before .before .before in
-    let x = asks (a .before .before) in
-    let l = few a .0 in
-    ((who (a .before .before) .library, (omega arith, x .size)), (x .fields, x .fits))
-
-number-after-requires : tie.Need-number-after-requires
-number-after-requires c κs = let a = c .before .before .before .before .before .before in (a .at .ensures .1, few a .1)
-
-put-number-requires : tie.Need-put-number-requires
-put-number-requires c κs = let n = c .before in (who (n .before .before .before .before .before .before .before .before .before) .place, n .number-after .ensures .1)
-
 same-length-3 : tie.Need-same-length-3
 same-length-3 c = search needs
+
+abbrev copied : tie.After-block → tie.After-copy-all
+copied c = c .before .before .before .before .before
+
+returns-2 : tie.Need-returns-2
+returns-2 c = let b = c .before .before .before .before .before in
+    let d = copied b in
+    let e = decided d in
+    read-answers _ _ _ _ _ _ (e .before .decide-read .ensures) (e .if1 .left) _ _ _ (d .copy-all .ensures ∙ d .before .session-at .ensures .0) _ (not-waits (b .block .result) (c .match .keys2)) (b .block .ensures .0 _)
+
+abbrev stepped : tie.After-answer → tie.After-block
+stepped c = c .before .before .before .before .before .before
+
+store-requires : tie.Need-store-requires
+store-requires c κs = let a = c .before .before in
+    let b = stepped a in
+    let k = known (decided (copied b)) in
+    ((b .block .kept .1 .1 .0 ∙ k .0 .place .0, k .0 .place .1), (k .1 .size, b .block .ensures .1 _ (ap readAnswer (a .answer .given .1))))
 
 same-length-4 : tie.Need-same-length-4
 same-length-4 c = search needs
 
+same-length-5 : tie.Need-same-length-5
+same-length-5 c = search needs
+
 returns-3 : tie.Need-returns-3
-unfolding readRows
 returns-3 c = let y = c .before .before in
-    let n = y .before .before in
-    let w = n .before .before .before in
-    let t = w .before .before in
-    let a = t .before .before in
-    let d = a .before .before .before in
-    let g = d .before .before .before .before .before .before .before .args in
-    read-answers (g .control) (memory (g .library .now) (g .log .now) (g .sessions .now)) (g .session) (g .request .now) (g .output .now) _ (d .decide-read .ensures) (a .before .before .if1 .left) _ (a .at .ensures .0)
-    (t .if2 .left) _ _ (w .answer .ensures) _ (n .number-after .ensures .0) _ (y .put-number .ensures)
+    let a = y .before .before .before in
+    let b = stepped a in
+    let d = copied b in
+    let e = decided d in
+    read-waits _ _ _ _ _ _ (e .before .decide-read .ensures) (e .if1 .left) _ _ _ (d .copy-all .ensures ∙ d .before .session-at .ensures .0) _ _ (ap readAnswer (a .answer .given .1)) (b .block .ensures .0 _) _ (y .store .ensures)
 
 pub read-spec : {M : Type 1} → statement M
 read-spec =
@@ -94,13 +93,16 @@ read-spec =
     decide-read-requires
     same-length
     returns
-    at-requires
-    store-requires
+    slice-aggregate-copy-all
+    session-at-requires
+    copy-all-requires
+    slice-aggregate-block
+    block-requires
+    enum-known-answer
     same-length-2
-    returns-2
-    answer-requires
-    number-after-requires
-    put-number-requires
     same-length-3
+    returns-2
+    store-requires
     same-length-4
+    same-length-5
     returns-3)

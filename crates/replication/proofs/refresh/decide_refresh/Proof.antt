@@ -1,18 +1,17 @@
 use mathlib.Core.Path.{_≡_, sym, _∙_}
-use mathlib.Core.List.{_++_}
 use Prim.Native.Nat.{ℕ, _≤_}
-use Rattle.replication.specs.Rows.{stopped, memoryRows, refreshRows}
+use Rattle.replication.specs.Rows.{stopped, unappliedRows, refreshRows, refreshStop}
 use Rattle.replication.specs.Memory.{memory, nth}
 use Rattle.replication.proofs.RowLaws.{studio-numbered}
-use Rattle.replication.proofs.DecideLaws.{by-first, by-rest, first-formed, first-who}
+use Rattle.replication.proofs.DecideLaws.{by-first, by-rest, first-formed, first-who, known-studio}
 use Rattle.replication.proofs.SendLaws.{studio-counts}
-use Rattle.replication.proofs.RefreshLaws.{RefreshRest, none-left, some-left}
+use Rattle.replication.proofs.RefreshLaws.{none-left, some-left}
 use borrow.Author.Needs.{needs}
 use Rattle.replication.proofs.refresh.decide_refresh.Statement.{statement}
 use Rattle.replication.proofs.refresh.decide_refresh.Tie as tie
 
 returns : tie.Need-returns
-unfolding refreshRows
+unfolding refreshStop refreshRows
 returns c = by-first _ _ _ _ (studio-numbered _ _) _ (c .before .stopped-by-studio .ensures) (c .if1 .taken)
 
 stopped-by-studio-requires : tie.Need-stopped-by-studio-requires
@@ -20,12 +19,12 @@ stopped-by-studio-requires c κs = search needs
 
 -- neither memory nor who calls stops the refresh
 known : (c : tie.Else1) → let g = c .before .before .before .before .before .args in (1 ≤ g .studio) × (g .studio ≤ 4)
-known c = studio-counts _ _ _ (first-formed _ _ _ _ (c .before .stopped-by-studio .ensures) (c .if1 .left)) (first-who _ _ _ _ (c .before .stopped-by-studio .ensures) (c .if1 .left)) .0
+known c = studio-counts _ _ _ (first-formed _ _ _ _ (c .before .stopped-by-studio .ensures) (c .if1 .left)) (known-studio _ _ (first-who _ _ _ _ (c .before .stopped-by-studio .ensures) (c .if1 .left))) .0
 
 rest : (c : tie.Else1) → let g = c .before .before .before .before .before .args in (n : ℕ)
-    → n ≡ stopped (RefreshRest (nth (g .control .sent) (g .studio)) (nth (g .control .applied) (g .studio)))
-    → n ≡ stopped (memoryRows (g .control) (memory (g .library .now) (g .log .now) (g .sessions .now)) ++ refreshRows (g .control .studios) (g .studio) (nth (g .control .sent) (g .studio)) (nth (g .control .applied) (g .studio)))
-unfolding refreshRows
+    → n ≡ stopped (unappliedRows (nth (g .control .sent) (g .studio)) (nth (g .control .applied) (g .studio)))
+    → n ≡ refreshStop (g .control) (memory (g .library .now) (g .log .now) (g .sessions .now)) (g .studio)
+unfolding refreshStop refreshRows
 rest c n e = by-rest _ _ _ _ (studio-numbered _ _) _ (c .before .stopped-by-studio .ensures) (c .if1 .left) n e
 
 sent-to-requires : tie.Need-sent-to-requires

@@ -1,7 +1,6 @@
 use mathlib.Core.Path.{ap}
 use Prim.Native.Nat.{ℕ, _+_}
 use native.Mathlib.Omega.{arith}
-use Rattle.replication.specs.Rows.{refreshRows}
 use Rattle.replication.specs.Memory.{memory}
 use Rattle.replication.proofs.LayoutLaws.{length-lent}
 use Rattle.replication.proofs.RefreshLaws.{Refreshable, refresh-refused, refresh-known, refresh-accepted, library-after}
@@ -16,11 +15,9 @@ same-length : tie.Need-same-length
 same-length c = search needs
 
 returns : tie.Need-returns
-unfolding refreshRows
 returns c = refresh-refused _ _ _ _ (c .before .decide-refresh .ensures) (c .if1 .taken)
 
 known : (c : tie.Else1) → let g = c .before .before .before .before .before .before .args in Refreshable (g .control) (memory (g .library .now) (g .log .now) (g .sessions .now)) (g .studio)
-unfolding refreshRows
 known c = refresh-known _ _ _ _ (c .before .decide-refresh .ensures) (c .if1 .left)
 
 applied-by-requires : tie.Need-applied-by-requires
@@ -60,7 +57,6 @@ same-length-2 : tie.Need-same-length-2
 same-length-2 c = search needs
 
 returns-2 : tie.Need-returns-2
-unfolding refreshRows
 returns-2 c = let t = c .before .before .before in
     let w = t .before .before in
     let a = w .before in

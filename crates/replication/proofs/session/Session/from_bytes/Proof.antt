@@ -16,15 +16,15 @@ shared-slice-read-kind c = search needs
 
 returns : tie.Need-returns
 unfolding sessionValue waitingValue sequenceOf
-returns c = simp (c .before .before .before .u16-at .ensures .0, c .before .before .byte-at .ensures .0, eq-eqb _ _ (c .if1 .taken))
+returns c = let u = c .before .before .before .u16-at .ensures in (simp (u .0, c .before .before .byte-at .ensures .0, eq-eqb _ _ (c .if1 .taken)), u .1)
 
 returns-2 : tie.Need-returns-2
 unfolding sessionValue waitingValue sequenceOf
-returns-2 c = simp (c .before .before .before .before .u16-at .ensures .0, c .before .before .before .byte-at .ensures .0, eq-eqb _ _ (c .if2 .taken), ne-eqb _ _ (c .before .if1 .left))
+returns-2 c = let u = c .before .before .before .before .u16-at .ensures in (simp (u .0, c .before .before .before .byte-at .ensures .0, eq-eqb _ _ (c .if2 .taken), ne-eqb _ _ (c .before .if1 .left)), u .1)
 
 returns-3 : tie.Need-returns-3
 unfolding sessionValue waitingValue sequenceOf
-returns-3 c = simp (c .before .before .before .before .u16-at .ensures .0, c .before .before .before .byte-at .ensures .0, ne-eqb _ _ (c .if2 .left), ne-eqb _ _ (c .before .if1 .left))
+returns-3 c = let u = c .before .before .before .before .u16-at .ensures in (simp (u .0, c .before .before .before .byte-at .ensures .0, ne-eqb _ _ (c .if2 .left), ne-eqb _ _ (c .before .if1 .left)), u .1)
 
 pub from-bytes-spec : {M : Type 1} → statement M
 from-bytes-spec =

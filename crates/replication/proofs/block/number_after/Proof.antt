@@ -1,7 +1,7 @@
 use mathlib.Core.Path.{refl}
 use Rattle.replication.specs.Calls.{numberAfter}
-use Rattle.replication.proofs.read.number_after.Statement.{statement}
-use Rattle.replication.proofs.read.number_after.Tie as tie
+use Rattle.replication.proofs.block.number_after.Statement.{statement}
+use Rattle.replication.proofs.block.number_after.Tie as tie
 
 returns : tie.Need-returns
 unfolding numberAfter

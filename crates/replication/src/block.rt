@@ -1,0 +1,80 @@
+// The Block step of read and collect: answered where the copy of the session's studio has reached the session's number.
+use crate::answer::ReadAnswer;
+use crate::control::Control;
+use crate::output;
+use crate::session;
+use crate::session::Session;
+ghost use mathlib.Core.Path.{_≡_};
+ghost use mathlib.Core.Bool.{true};
+ghost use mathlib.Core.List.{List};
+ghost use Prim.Native.Nat.{ℕ, _+_, _*_, _-_, _<_, _≤_};
+ghost use lib.ListN.{length};
+ghost use Rattle.replication.specs.Answer.{readAnswer, waits};
+ghost use Rattle.replication.specs.Memory.{memory, librarySize, sessionsSize, sessionSize, sessionCount, studioCount, nth, studioOf};
+ghost use Rattle.replication.specs.Request.{requestOf, requestFields, needed};
+ghost use Rattle.replication.specs.Calls.{after, waitsIn, numberAfter, block};
+ghost use Rattle.replication.specs.Values.{dueOf};
+
+// A session's number, its studio, and the state that the studio's copy has reached.
+pub struct Due {
+    pub number: u32,
+    pub studio: u32,
+    pub state: u32,
+}
+
+impl Due {
+    pub fn at(control: Control, sessions: &[u8], session: u32) -> Due
+        requires { ⌜ (length (now sessions) ≡ sessionsSize) × ((1 ≤ session) × (session ≤ sessionCount)) ⌝ }
+        requires { ⌜ (1 ≤ studioOf control session) × (studioOf control session ≤ studioCount) ⌝ }
+        ensures { λ r. ⌜ (r ≡ dueOf control (now (sessions .entry)) session) × (r .number < 65536) ⌝ }
+    {
+        let own = Session::from_bytes(session::session_at(sessions, session));
+        let studio = control.studio_of(session);
+        let state = control.applied_by(studio);
+        Due {
+            number: own.number,
+            studio,
+            state,
+        }
+    }
+}
+
+// A session's number after an answer that showed a state.
+fn number_after(number: u32, state: u32) -> u32
+    requires { ⌜ (number < 65536) × (state < 65536) ⌝ }
+    ensures { λ r. ⌜ (r ≡ numberAfter number state) × (r < 65536) ⌝ }
+{
+    number
+}
+
+// The read in `asked`. Where it is answered the session is left with the bytes `left`; where it waits nothing changes.
+pub fn block(
+    control: Control,
+    library: &[u8],
+    sessions: &mut [u8],
+    session: u32,
+    asked: &[u8],
+    left: &[u8],
+    output: &mut [u8],
+) -> ReadAnswer
+    requires { ⌜ (length (now library) ≡ librarySize) × ((length (now sessions) ≡ sessionsSize) × ((1 ≤ session) × (session ≤ sessionCount))) ⌝ }
+    requires { ⌜ ((1 ≤ studioOf control session) × (studioOf control session ≤ studioCount)) × (nth (control .applied) (studioOf control session) < 65536) ⌝ }
+    requires { ⌜ (length (now asked) ≡ sessionSize) × ((requestFields (now asked) ≡ true) × (needed (requestOf (now asked)) ≤ length (now output))) ⌝ }
+    requires { ⌜ length (now left) ≡ sessionSize ⌝ }
+    ensures { λ r. ⌜ ((log : List ℕ) → after (readAnswer r) control (memory (now (library .entry)) log (now (sessions .exit))) (now (output .exit))
+        ≡ block control (memory (now (library .entry)) log (now (sessions .entry))) session (requestOf (now (asked .entry))) (now (left .entry))
+        (waitsIn control (memory (now (library .entry)) log (now (sessions .entry))) session (now (output .entry))) (now (output .entry))) ⌝ }
+    ensures { λ r. ⌜ ((n : ℕ) → readAnswer r ≡ waits n → n < 65536) ⌝ }
+{
+    let due = Due::at(control, sessions, session);
+    if due.state < due.number {
+        return ReadAnswer::Waits(due.number);
+    }
+    let found = output::answer(library, due.studio, asked, output);
+    let next = number_after(due.number, due.state);
+    session::store(sessions, session, left, next);
+    ReadAnswer::Answered {
+        state: due.state,
+        found,
+    }
+}
