@@ -1,6 +1,7 @@
--- Document 01's carts, operations and titles, in its order; then what contracts need besides.
+-- Document 01's carts, operations, transactions and titles; then what contracts need besides.
 pub mod Bytes
 pub mod Cart
 pub mod Operation
+pub mod Transaction
 pub mod Title
 pub mod Fields

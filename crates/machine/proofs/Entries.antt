@@ -8,6 +8,7 @@ use mathlib.Core.List.{List, [], _∷_, _++_}
 use lib.ListN.{length, take}
 use Rattle.carts.specs.Bytes.{over}
 use Rattle.carts.specs.Operation.{operationsOf, meetsAll, actAll}
+use Rattle.carts.specs.Transaction.{Transaction, L, recordsUsed}
 use Rattle.carts.proofs.PartLaws.{part-over}
 use Rattle.replication.specs.Request.{Request, nothing, requestOf, isWaiting, needed, shownFrom}
 use Rattle.replication.specs.Call as Call
@@ -15,7 +16,7 @@ use Rattle.replication.specs.Calls.{numberAfter}
 use Rattle.replication.proofs.RowLaws.{unless-case}
 use Rattle.replication.proofs.ShownLaws.{Askable, length-shown, request-askable}
 use Rattle.replication.proofs.Accepted.{KnownSession, commit-passed, read-passed, collect-passed}
-use Rattle.machine.specs.Machine.{Machine, session, Transaction, Step, refusal, sessionOf, L, recordsUsed, refusedCommit, commit, send, refresh, answerFrom, wait, read, collect, call}
+use Rattle.machine.specs.Machine.{Machine, session, Step, refusal, sessionOf, refusedCommit, commit, send, refresh, answerFrom, wait, read, collect, call}
 use Rattle.machine.specs.Library.{Reply, request}
 use Rattle.machine.specs.OneCopy.{commitEntry, readEntry, entryOf, hasWaited, waitedAfter, entries}
 use Rattle.machine.proofs.Events.{events}

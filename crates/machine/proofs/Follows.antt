@@ -7,9 +7,10 @@ use mathlib.Core.Bool.{true}
 use mathlib.Core.List.{List, [], _∷_, _++_}
 use lib.ListN.{length, getD, set}
 use Rattle.carts.specs.Operation.{actAll}
+use Rattle.carts.specs.Transaction.{Transaction, L}
 use Rattle.replication.specs.Memory.{sessionCount, nth}
 use Rattle.replication.specs.Request.{requestOf, isWaiting}
-use Rattle.machine.specs.Machine.{Machine, Session, Transaction, sessionOf, withSession, L}
+use Rattle.machine.specs.Machine.{Machine, Session, sessionOf, withSession}
 use Rattle.machine.proofs.Sort.{length-snoc}
 use Rattle.machine.proofs.Updates.{put, put-case, both-case, set-either, each-set}
 use Rattle.replication.proofs.Accepted.{KnownSession}

@@ -4,6 +4,7 @@ use native.Mathlib.Omega.{arith}
 use mathlib.Core.List.{List}
 use lib.ListN.{length}
 use Rattle.carts.specs.Operation.{operationsOf}
+use Rattle.carts.specs.Transaction.{L, recordsUsed}
 use Rattle.carts.proofs.OperationLaws.{operations-of}
 use Rattle.replication.specs.Memory.{nth}
 use Rattle.replication.specs.Request.{Request, requestOf}
@@ -12,7 +13,7 @@ use Rattle.replication.specs.Calls.{numberAfter}
 use Rattle.replication.proofs.RowLaws.{unless-case}
 use Rattle.replication.proofs.ShownLaws.{Askable, request-askable}
 use Rattle.replication.proofs.Accepted.{commit-passed, send-passed, refresh-passed, read-passed}
-use Rattle.machine.specs.Machine.{Machine, Step, sessionOf, L, recordsUsed, refusedCommit, commit, send, refresh, answerFrom, block, wait, read, collect, call}
+use Rattle.machine.specs.Machine.{Machine, Step, sessionOf, refusedCommit, commit, send, refresh, answerFrom, block, wait, read, collect, call}
 use Rattle.machine.proofs.Sort.{length-snoc}
 use Rattle.machine.proofs.Cases.{block-case}
 use Rattle.machine.proofs.Sound.{Sound, applied-commits, with-session, with-transaction, with-sent, with-applied}

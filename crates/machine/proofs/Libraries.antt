@@ -9,9 +9,9 @@ use lib.Seq.{take-append-le, take-suc, getD-append-seam}
 use Rattle.carts.specs.Bytes.{zeros}
 use Rattle.carts.specs.Cart.{copySize}
 use Rattle.carts.specs.Operation.{actAll}
+use Rattle.carts.specs.Transaction.{Transaction, replay, L}
 use Rattle.carts.proofs.ZeroLaws.{length-zeros}
 use Rattle.carts.proofs.OperationLaws.{Operations, length-actAll}
-use Rattle.machine.specs.Machine.{Transaction, replay, L}
 use Rattle.machine.proofs.Sort.{All, length-snoc}
 
 length-replay : (copy : List ℕ) (log : List Transaction) (n : ℕ) → All Operations log → length copy ≡ copySize → length (replay copy (take n log)) ≡ copySize

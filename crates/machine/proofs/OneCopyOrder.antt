@@ -4,9 +4,10 @@ use mathlib.Core.Path.{_≡_}
 use mathlib.Core.Bool.{false≢true}
 use mathlib.Core.List.{List}
 use lib.ListN.{length}
+use Rattle.carts.specs.Transaction.{L, replay}
 use Rattle.replication.specs.Request.{isWaiting}
 use Rattle.replication.specs.Call.{Call}
-use Rattle.machine.specs.Machine.{L, replay, fresh}
+use Rattle.machine.specs.Machine.{fresh}
 use Rattle.machine.specs.Library.{emptyLibrary}
 use Rattle.machine.specs.OneCopy.{Entry, OneCopy, entries}
 use Rattle.machine.proofs.Events.{events}

@@ -4,12 +4,13 @@ use native.Mathlib.Omega.{arith}
 use mathlib.Core.Path.{_≡_, _∙_}
 use mathlib.Core.List.{List, [], _∷_, _++_, map}
 use lib.ListN.{length, getD, set, length-set, length-map, List·getD-map}
+use Rattle.carts.specs.Transaction.{Transaction}
 use Rattle.replication.specs.Memory.{sessionCount, studioCount}
 use Rattle.replication.specs.Request.{nothing}
 use Rattle.carts.proofs.ZeroLaws.{zeros-at}
 use Rattle.carts.proofs.OperationLaws.{Operations}
 use Rattle.replication.proofs.ShownLaws.{Askable}
-use Rattle.machine.specs.Machine.{Machine, Session, session, Transaction, withSession, fresh}
+use Rattle.machine.specs.Machine.{Machine, Session, session, withSession, fresh}
 use Rattle.machine.proofs.Sort.{All, all-snoc, length-snoc}
 use Rattle.machine.proofs.Updates.{set-either}
 

@@ -6,6 +6,7 @@ use lib.ListN.{take, drop, replicate}
 use Rattle.carts.specs.Bytes.{zeros, u16, u32, u16Bytes, u16s, within, all, every, allZero, pairwise, parts}
 use Rattle.carts.specs.Cart.{cartAt, printable, titleForm, hasTitle, noTitle, hasAudio, noAudio, held}
 use Rattle.carts.specs.Operation.{operationFields, operationForm, operationsOf, made, retitled, recut, withdrawn, meetsCart, effect, actedOn, meets, act, meetsAll, actAll}
+use Rattle.carts.specs.Transaction.{replay, L, recordsUsed}
 use Rattle.carts.specs.Title.{shownByNumbers, foundByNumbers, sameLetter, titled, titledFrom, titledIn, foundByTitle, theOne, shownByTitle}
 use Rattle.carts.proofs.Samples.{u32Bytes, operation, newCart, withdrawCart, topHourA, longTitle}
 use Rattle.replication.proofs.Samples.{filled, pairs, askNumbers, askTitle}
@@ -16,7 +17,7 @@ use Rattle.replication.specs.Rows.{stopped, unless, sessionRow, studioRow, size
 use Rattle.replication.specs.Call.{Call, commit, send, refresh, read, collect}
 use Rattle.replication.specs.Calls.{numberAfter}
 use Rattle.machine.specs.Machine as Machine
-use Rattle.machine.specs.Machine.{Step, L, run}
+use Rattle.machine.specs.Machine.{Step, run}
 
 -- "S = 2; sessions 1 and 2 at studio 1, session 3 at studio 2"
 unfoldable pub start : Machine.Machine
@@ -113,7 +114,7 @@ pub record Table : Type 0 where
   pub case12 : calls oneTitle 0 4 ≡ (done 1, []) ∷ (done 1, []) ∷ (done 1, []) ∷ (answered 1 2, holding (zeros 80)) ∷ []
 
 pub table : Table
-unfolding zeros u16 u32 u16Bytes u16s within all every allZero pairwise parts cartAt printable titleForm hasTitle noTitle hasAudio noAudio held operationFields operationForm operationsOf made retitled recut withdrawn meetsCart effect actedOn meets act meetsAll actAll shownByNumbers foundByNumbers sameLetter titled titledFrom titledIn foundByTitle theOne shownByTitle u32Bytes operation newCart withdrawCart topHourA longTitle noRoom numbersIn requestOf numbersForm requestFields requestForm isWaiting needed foundIn shownFrom stopped unless sessionRow studioRow sizeForm commitRows sendRows refreshRows readRows collectRows numberAfter Machine.replay L Machine.recordsUsed Machine.fresh Machine.refusedCommit Machine.commit Machine.send Machine.refresh Machine.answerFrom Machine.block Machine.wait Machine.read Machine.collect Machine.call run start A filled pairs askNumbers askTitle buffer holding morning long longTitles oneTitle seen calls last
+unfolding zeros u16 u32 u16Bytes u16s within all every allZero pairwise parts cartAt printable titleForm hasTitle noTitle hasAudio noAudio held operationFields operationForm operationsOf made retitled recut withdrawn meetsCart effect actedOn meets act meetsAll actAll shownByNumbers foundByNumbers sameLetter titled titledFrom titledIn foundByTitle theOne shownByTitle u32Bytes operation newCart withdrawCart topHourA longTitle noRoom numbersIn requestOf numbersForm requestFields requestForm isWaiting needed foundIn shownFrom stopped unless sessionRow studioRow sizeForm commitRows sendRows refreshRows readRows collectRows numberAfter replay L recordsUsed Machine.fresh Machine.refusedCommit Machine.commit Machine.send Machine.refresh Machine.answerFrom Machine.block Machine.wait Machine.read Machine.collect Machine.call run start A filled pairs askNumbers askTitle buffer holding morning long longTitles oneTitle seen calls last
 table = record {
   case1 = refl;
   case2 = refl;

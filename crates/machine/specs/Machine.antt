@@ -2,21 +2,17 @@
 use mathlib.Core.Bool.{cond}
 use mathlib.Core.List.{List, [], _∷_, _++_, map}
 use Prim.Native.Nat.{ℕ, _+_, _-_}
-use lib.ListN.{length, take, getD, set}
+use lib.ListN.{length, getD, set}
 use lib.Dec.{leb}
 use Rattle.carts.specs.Bytes.{zeros, over}
-use Rattle.carts.specs.Cart.{copySize}
-use Rattle.carts.specs.Operation.{operationsOf, actAll}
+use Rattle.carts.specs.Operation.{operationsOf}
+use Rattle.carts.specs.Transaction.{Transaction, L, recordsUsed}
 use Rattle.replication.specs.Answer.{Answer, refused, done, waits, answered}
 use Rattle.replication.specs.Memory.{studioCount, nth}
 use Rattle.replication.specs.Request.{Request, nothing, requestOf, needed, foundIn, shownFrom}
 use Rattle.replication.specs.Rows.{stopped, unless, commitRows, sendRows, refreshRows, readRows, collectRows}
 use Rattle.replication.specs.Call as Call
 use Rattle.replication.specs.Calls.{numberAfter}
-
--- a transaction: its operations, 80 bytes each, as handed in
-abbrev pub Transaction : Type 0
-Transaction = List (List ℕ)
 
 -- "per session its number and its waiting read", and its studio (0 = unused)
 pub record Session : Type 0 where
@@ -34,20 +30,6 @@ pub record Machine : Type 0 where
   pub sent : List ℕ
   pub applied : List ℕ
   pub sessions : List Session
-
--- the copy after a list of transactions
-unfoldable pub replay : List ℕ → List Transaction → List ℕ
-replay copy [] = copy
-replay copy (t ∷ ts) = replay (actAll copy t) ts
-
--- "L(n) is the library that the first n transactions make from 128 empty carts, operation by operation"
-unfoldable pub L : List Transaction → ℕ → List ℕ
-L log n = replay (zeros copySize) (take n log)
-
--- the records that a log takes: one for each operation
-unfoldable pub recordsUsed : List Transaction → ℕ
-recordsUsed [] = 0
-recordsUsed (t ∷ ts) = length t + recordsUsed ts
 
 -- session s, counted from 1
 abbrev pub sessionOf : Machine → ℕ → Session

@@ -5,11 +5,12 @@ use Prim.Native.Nat.{ℕ}
 use lib.ListN.{take, drop}
 use Rattle.carts.specs.Bytes.{zeros, u32}
 use Rattle.carts.specs.Cart.{cartAt}
+use Rattle.carts.specs.Transaction.{L}
 use Rattle.replication.specs.Answer.{refused, done, waits, answered}
 use Rattle.replication.specs.Log.{firstRecord}
 use Rattle.replication.specs.Call.{Call, read}
 use Rattle.replication.specs.Calls.{After}
-use Rattle.machine.specs.Machine.{Machine, L, call, run}
+use Rattle.machine.specs.Machine.{Machine, call, run}
 use Rattle.machine.specs.OneCopy.{history}
 use Rattle.machine.proofs.Events.{events}
 use Rattle.replication.proofs.Samples.{askNumbers}

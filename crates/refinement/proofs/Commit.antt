@@ -13,6 +13,7 @@ use lib.ListN.{length, drop, getD, set, length-set}
 use lib.Seq.{drop-drop}
 use Rattle.carts.specs.Bytes.{part, all, every, allZero}
 use Rattle.carts.specs.Operation.{operationFields, operationForm, operationsOf, actAll}
+use Rattle.carts.specs.Transaction.{Transaction, L, recordsUsed}
 use Rattle.carts.proofs.TestLaws.{all-at, every-at, at-every}
 use Rattle.carts.proofs.PartLaws.{length-part}
 use Rattle.carts.proofs.EachLaws.{length-parts, parts-at}
@@ -34,7 +35,7 @@ use Rattle.replication.proofs.Formed.{Formed, applied-known, counts-more, studi
 use Rattle.replication.proofs.RowLaws.{memory-passes, unless-case, unless-both}
 use Rattle.replication.proofs.Accepted.{KnownSession, commit-passed}
 use Rattle.machine.specs.Machine as Plain
-use Rattle.machine.specs.Machine.{Transaction, Session, session, L, recordsUsed}
+use Rattle.machine.specs.Machine.{Session, session}
 use Rattle.machine.proofs.Libraries.{L-before, L-after}
 use Rattle.refinement.specs.Represents.{OfLayout, transactionsFrom, Represents, Simulates}
 use Rattle.refinement.proofs.Append.{Givens}

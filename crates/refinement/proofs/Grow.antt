@@ -6,10 +6,10 @@ use mathlib.Core.List.{List, [], _∷_, _++_, map}
 use Prim.Native.Nat.{ℕ, zero, suc, _+_, _≤_, _<_}
 use native.Mathlib.Omega.{arith}
 use lib.ListN.{length}
+use Rattle.carts.specs.Transaction.{Transaction}
 use Rattle.replication.specs.Memory.{recordAt}
 use Rattle.replication.specs.Log.{nextOperation, nextTransaction, recordsOf, transactionAt, walk, upFrom, chainForm}
 use Rattle.replication.proofs.Chains.{chain-end, end-chain, front-upFrom, Linked, linked-chain, linked-kept, Chained, chained, of-chained, chained-links, placed}
-use Rattle.machine.specs.Machine.{Transaction}
 use Rattle.refinement.specs.Represents.{handedIn, transactionsFrom}
 use Rattle.refinement.proofs.Append.{Givens, Written, holds, holds-last, written-linked, written-handed}
 

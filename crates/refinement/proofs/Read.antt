@@ -7,6 +7,7 @@ use lib.Dec.{leb}
 use lib.ListN.{length, set, length-set}
 use lib.Seq.{set-getD}
 use Rattle.carts.specs.Bytes.{zeros, over}
+use Rattle.carts.specs.Transaction.{Transaction, L}
 use Rattle.carts.proofs.TestLaws.{by-cond, cond-both}
 use Rattle.replication.specs.Answer.{answered}
 use Rattle.replication.specs.Memory.{Memory, copyAt, sessionAt, withSession, sequenceOf, withSequence, nth, studioOf}
@@ -19,7 +20,7 @@ use Rattle.replication.proofs.Formed.{Formed, few, studio-known}
 use Rattle.replication.proofs.RowLaws.{memory-passes, unless-case, unless-both}
 use Rattle.replication.proofs.Accepted.{KnownSession, read-passed, collect-passed}
 use Rattle.machine.specs.Machine as Plain
-use Rattle.machine.specs.Machine.{Transaction, Session, session, L, Step}
+use Rattle.machine.specs.Machine.{Session, session, Step}
 use Rattle.refinement.specs.Represents.{OfLayout, Represents, Simulates}
 use Rattle.refinement.proofs.Represented.{machineOf}
 use Rattle.refinement.proofs.Sessions.{SessionBytes, request-bytes, empty-bytes, empty-request, own-bytes, own-sequence, length-sessions, sessions-form, shown, sessions-shown, session-of}

@@ -9,6 +9,7 @@ use native.Mathlib.Decide.{ℕ-discrete}
 use lib.ListN.{length, getD, length-set}
 use lib.Seq.{getD-set-same, getD-set-other}
 use Rattle.carts.specs.Operation.{actAll}
+use Rattle.carts.specs.Transaction.{Transaction, L}
 use Rattle.carts.proofs.OperationLaws.{Operations}
 use Rattle.carts.proofs.KeepLaws.{Copy, actAll-copy}
 use Rattle.replication.specs.Memory.{Memory, copyAt, withCopy, nth, studioOf}
@@ -24,7 +25,7 @@ use Rattle.replication.proofs.Formed.{Formed, Counts, counts-of, of-counts, few
 use Rattle.replication.proofs.RowLaws.{memory-passes, unless-case, unless-both}
 use Rattle.replication.proofs.Accepted.{RefreshAccepted, refresh-passed}
 use Rattle.machine.specs.Machine as Plain
-use Rattle.machine.specs.Machine.{Transaction, Session, L}
+use Rattle.machine.specs.Machine.{Session}
 use Rattle.machine.proofs.Libraries.{L-next}
 use Rattle.refinement.specs.Represents.{OfLayout, handedIn, transactionsFrom, Represents, Simulates}
 use Rattle.refinement.proofs.Transactions.{length-transactions, transactions-at, handed-actAll}

@@ -2,10 +2,11 @@
 use mathlib.Core.Path.{_≡_, ap, _∙_, subst}
 use mathlib.Core.List.{List}
 use lib.ListN.{length}
+use Rattle.carts.specs.Transaction.{Transaction}
 use Rattle.replication.specs.Memory.{Memory}
 use Rattle.replication.specs.Log.{firstRecord}
 use Rattle.replication.specs.declared.control.Control.{Control}
-use Rattle.machine.specs.Machine.{Transaction, Session, Machine}
+use Rattle.machine.specs.Machine.{Session, Machine}
 use Rattle.refinement.specs.Represents.{Represents}
 use Rattle.refinement.proofs.Transactions.{length-transactions}
 

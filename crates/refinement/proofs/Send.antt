@@ -7,6 +7,7 @@ use native.Mathlib.Omega.{arith}
 use native.Mathlib.Decide.{ℕ-discrete}
 use lib.ListN.{getD, set, length-set}
 use lib.Seq.{getD-set-same, getD-set-other}
+use Rattle.carts.specs.Transaction.{Transaction}
 use Rattle.replication.specs.Memory.{Memory, nth, studioOf}
 use Rattle.replication.specs.Log.{firstRecord}
 use Rattle.replication.specs.Layout.{sessionForm, countsForm}
@@ -18,7 +19,7 @@ use Rattle.replication.proofs.Formed.{Formed, counts-of, of-counts, few}
 use Rattle.replication.proofs.RowLaws.{memory-passes, unless-case, unless-both}
 use Rattle.replication.proofs.Accepted.{SendAccepted, send-passed}
 use Rattle.machine.specs.Machine as Plain
-use Rattle.machine.specs.Machine.{Transaction, Session}
+use Rattle.machine.specs.Machine.{Session}
 use Rattle.refinement.specs.Represents.{OfLayout, Represents, Simulates}
 use Rattle.refinement.proofs.Represented.{machineOf, log-length}
 use Rattle.refinement.proofs.Arrays.{Arrays, arrays, formed, of-layout}

@@ -1,13 +1,14 @@
 -- Every call keeps the layout and does what the plain machine's call does, and so does every list of calls.
 use mathlib.Core.Path.{_≡_, refl, ap}
 use mathlib.Core.List.{List, [], _∷_}
+use Rattle.carts.specs.Transaction.{Transaction}
 use Rattle.replication.specs.Memory.{Memory}
 use Rattle.replication.specs.Call.{Call, commit, send, refresh, read, collect}
 use Rattle.replication.specs.Calls as Bytes
 use Rattle.replication.specs.Calls.{After}
 use Rattle.replication.specs.declared.control.Control.{Control}
 use Rattle.machine.specs.Machine as Plain
-use Rattle.machine.specs.Machine.{Transaction, Session, Machine}
+use Rattle.machine.specs.Machine.{Session, Machine}
 use Rattle.machine.specs.OneCopy.{Event, event, history}
 use Rattle.machine.proofs.Events.{events}
 use Rattle.refinement.specs.Represents.{OfLayout, Represents, Simulates}

@@ -6,6 +6,7 @@ use mathlib.Core.List.{List, _∷_}
 use Prim.Native.Nat.{ℕ, _≤_}
 use lib.ListN.{length}
 use Rattle.carts.specs.Bytes.{zeros, within, every}
+use Rattle.carts.specs.Transaction.{L}
 use Rattle.replication.specs.Answer.{done}
 use Rattle.replication.specs.Memory.{Memory, lengthsForm, copyAt, nth}
 use Rattle.replication.specs.Call.{Call}
@@ -13,7 +14,7 @@ use Rattle.replication.specs.Calls as Bytes
 use Rattle.replication.specs.Calls.{After, setup}
 use Rattle.replication.specs.declared.control.Control.{Control}
 use Rattle.machine.specs.Machine as Plain
-use Rattle.machine.specs.Machine.{Machine, L, fresh}
+use Rattle.machine.specs.Machine.{Machine, fresh}
 use Rattle.machine.specs.OneCopy.{history, Demand3}
 use Rattle.machine.proofs.Events.{events}
 use Rattle.machine.proofs.OneCopyOrder.{one-copy}

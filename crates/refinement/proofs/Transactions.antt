@@ -10,6 +10,7 @@ use lib.ListN.{length, getD, length-map}
 use lib.Seq.{take-nil}
 use Rattle.carts.specs.Bytes.{zeros, over, every}
 use Rattle.carts.specs.Operation.{act, actAll}
+use Rattle.carts.specs.Transaction.{replay, L, recordsUsed}
 use Rattle.carts.proofs.TestLaws.{and-left, and-right}
 use Rattle.carts.proofs.PartLaws.{take-over, drop-over-after}
 use Rattle.carts.proofs.ZeroLaws.{length-zeros}
@@ -17,7 +18,6 @@ use Rattle.carts.proofs.OperationLaws.{act-links}
 use Rattle.replication.specs.Memory.{recordAt}
 use Rattle.replication.specs.Log.{nextTransaction, transactionAt, walk, recordsOf, chainForm}
 use Rattle.replication.proofs.Chains.{length-upFrom, chain-end, chained}
-use Rattle.machine.specs.Machine.{replay, L, recordsUsed}
 use Rattle.refinement.specs.Represents.{handedIn, transactionsFrom}
 
 pub length-transactions : (n : ℕ) (log : List ℕ) (r : ℕ) → length (transactionsFrom n log r) ≡ n

@@ -5,13 +5,14 @@ use mathlib.Core.List.{List, [], _∷_, map}
 use Prim.Native.Nat.{ℕ, zero, suc, _≤_}
 use lib.ListN.{length}
 use Rattle.carts.specs.Bytes.{zeros, over}
+use Rattle.carts.specs.Transaction.{Transaction, L}
 use Rattle.replication.specs.Memory.{Memory, sessionCount, studioCount, lengthsForm, copyAt, sessionAt, sequenceOf, nth, studioOf}
 use Rattle.replication.specs.Log.{nextTransaction, transactionAt, firstRecord}
 use Rattle.replication.specs.Request.{requestOf}
 use Rattle.replication.specs.Layout.{ofLayout}
 use Rattle.replication.specs.Calls.{After}
 use Rattle.replication.specs.declared.control.Control.{Control}
-use Rattle.machine.specs.Machine.{Transaction, session, Machine, L, sessionOf, Step}
+use Rattle.machine.specs.Machine.{session, Machine, sessionOf, Step}
 
 -- rows 1 and 2 do not stop a call: the memories have their lengths and are, with control, of the layout. Control's arrays have the lengths
 -- that their types in the code give them.

@@ -1,0 +1,25 @@
+-- Document 01, "The plain machine": transactions, and the library that a list of them makes.
+use mathlib.Core.List.{List, [], _∷_}
+use Prim.Native.Nat.{ℕ, _+_}
+use lib.ListN.{length, take}
+use Rattle.carts.specs.Bytes.{zeros}
+use Rattle.carts.specs.Cart.{copySize}
+use Rattle.carts.specs.Operation.{actAll}
+
+-- a transaction: its operations, 80 bytes each, as handed in
+abbrev pub Transaction : Type 0
+Transaction = List (List ℕ)
+
+-- the copy after a list of transactions
+unfoldable pub replay : List ℕ → List Transaction → List ℕ
+replay copy [] = copy
+replay copy (t ∷ ts) = replay (actAll copy t) ts
+
+-- "L(n) is the library that the first n transactions make from 128 empty carts, operation by operation"
+unfoldable pub L : List Transaction → ℕ → List ℕ
+L log n = replay (zeros copySize) (take n log)
+
+-- the records that a log takes: one for each operation
+unfoldable pub recordsUsed : List Transaction → ℕ
+recordsUsed [] = 0
+recordsUsed (t ∷ ts) = length t + recordsUsed ts
