@@ -7,6 +7,7 @@ use lib.Dec.{leb}
 use borrow.Author.Tests.{leb-true, leb-false, le-leb, lt-leb}
 use Rattle.replication.specs.Memory.{nth}
 use Rattle.replication.specs.Request.{Request}
+use Rattle.replication.specs.Calls.{numberAfter}
 use Rattle.machine.specs.Machine.{Machine, Step, sessionOf, answerFrom, block}
 
 -- what session s's studio has applied
@@ -14,21 +15,22 @@ abbrev pub stateFor : Machine → ℕ → ℕ
 stateFor m s = nth (m .applied) (sessionOf m s .studio)
 
 -- "if applied of the session's studio is at least the session's number, answered; else .."
-block-now : (m : Machine) (s : ℕ) (q : Request) (behind : Step) (out : List ℕ)
-    → sessionOf m s .number ≤ stateFor m s → block m s q behind out ≡ answerFrom (stateFor m s) q m s out
-unfolding block
-block-now m s q behind out u = rw le-leb
+module _ (m : Machine) (s : ℕ) (q : Request) (behind : Step) (out : List ℕ) where
+  abbrev answerNow : Step
+  answerNow = answerFrom (stateFor m s) (numberAfter (sessionOf m s .number) (stateFor m s)) q m s out
 
-block-later : (m : Machine) (s : ℕ) (q : Request) (behind : Step) (out : List ℕ)
-    → stateFor m s < sessionOf m s .number → block m s q behind out ≡ behind
-unfolding block
-block-later m s q behind out u = rw lt-leb
+  block-now : sessionOf m s .number ≤ stateFor m s → block m s q behind out ≡ answerNow
+  unfolding block
+  block-now u = rw le-leb
 
-pub block-case : (P : Step → Type 0) (m : Machine) (s : ℕ) (q : Request) (behind : Step) (out : List ℕ)
-    → (sessionOf m s .number ≤ stateFor m s → P (answerFrom (stateFor m s) q m s out))
-    → (stateFor m s < sessionOf m s .number → P behind) → P (block m s q behind out)
-block-case P m s q behind out now later = go (leb (sessionOf m s .number) (stateFor m s)) refl
-  where
-    go : (b : Bool) → leb (sessionOf m s .number) (stateFor m s) ≡ b → P (block m s q behind out)
-    go true e = let u = leb-true _ _ e in rw (block-now m s q behind out u) (now u)
-    go false e = let u = leb-false _ _ e in rw (block-later m s q behind out u) (later u)
+  block-later : stateFor m s < sessionOf m s .number → block m s q behind out ≡ behind
+  unfolding block
+  block-later u = rw lt-leb
+
+  pub block-case : (P : Step → Type 0) → (sessionOf m s .number ≤ stateFor m s → P answerNow) → (stateFor m s < sessionOf m s .number → P behind)
+      → P (block m s q behind out)
+  block-case P now later = go (leb (sessionOf m s .number) (stateFor m s)) refl
+    where
+      go : (b : Bool) → leb (sessionOf m s .number) (stateFor m s) ≡ b → P (block m s q behind out)
+      go true e = let u = leb-true _ _ e in rw (block-now u) (now u)
+      go false e = let u = leb-false _ _ e in rw (block-later u) (later u)

@@ -9,8 +9,8 @@ use lib.ListN.{length, getD, set}
 use Rattle.carts.specs.Operation.{actAll}
 use Rattle.carts.specs.Transaction.{Transaction, L}
 use Rattle.replication.specs.Memory.{sessionCount, nth}
-use Rattle.replication.specs.Request.{requestOf, isWaiting}
-use Rattle.machine.specs.Machine.{Machine, Session, sessionOf, withSession}
+use Rattle.replication.specs.Request.{Request, isWaiting}
+use Rattle.machine.specs.Machine.{Machine, Session, commits, libraryOf, sessionOf, withLog, withApplied, withSession}
 use Rattle.machine.proofs.Sort.{length-snoc}
 use Rattle.machine.proofs.Updates.{put, put-case, both-case, set-either, each-set}
 use Rattle.replication.proofs.Accepted.{KnownSession}
@@ -26,24 +26,22 @@ level-rises applied p n x u = set-either (λ y. level applied x ≤ max (x .numb
     (omega arith)
 
 -- the session waits for what its latest read that waited asked for
-abbrev pub WaitsFor : List ℕ → Session → Type 0
-WaitsFor bytes x = isWaiting (x .waiting) ≡ true → requestOf bytes ≡ x .waiting
+abbrev pub WaitsFor : Request → Session → Type 0
+WaitsFor q x = isWaiting (x .waiting) ≡ true → q ≡ x .waiting
 
 -- A machine whose history so far has the libraries `copies`, has shown session s the state `floor s`, and in which session s waits for
--- what `waited s` asks for.
-pub record Follows (m : Machine) (copies : ℕ → List ℕ) (floor : ℕ → ℕ) (waited : ℕ → List ℕ) : Type 0 where
-  pub libraries : (k : ℕ) → k ≤ length (m .log) → copies k ≡ L (m .log) k
+-- `waited s`.
+pub record Follows (m : Machine) (copies : ℕ → List ℕ) (floor : ℕ → ℕ) (waited : ℕ → Request) : Type 0 where
+  pub libraries : (k : ℕ) → k ≤ commits m → copies k ≡ libraryOf m k
   pub floors : (s : ℕ) → 1 ≤ s → floor s ≤ level (m .applied) (sessionOf m s)
   pub waits-for : (s : ℕ) → 1 ≤ s → WaitsFor (waited s) (sessionOf m s)
 
-module _ (m : Machine) (copies : ℕ → List ℕ) (floor : ℕ → ℕ) (waited : ℕ → List ℕ) (f : Follows m copies floor waited) where
+module _ (m : Machine) (copies : ℕ → List ℕ) (floor : ℕ → ℕ) (waited : ℕ → Request) (f : Follows m copies floor waited) where
   -- a transaction appended: one library more
-  pub appended : (t : Transaction) → let n = length (m .log) in
-      Follows (record { studios = m .studios; log = m .log ++ (t ∷ []); sent = m .sent; applied = m .applied; sessions = m .sessions })
-      (put copies (n + 1) (actAll (copies n) t)) floor waited
+  pub appended : (t : Transaction) → let n = commits m in Follows (withLog m (m .log ++ (t ∷ []))) (put copies (n + 1) (actAll (copies n) t)) floor waited
   appended t = record {
     libraries = λ k u.
-        let n : ℕ = length (m .log) in
+        let n : ℕ = commits m in
         let v : k ≤ n + 1 = rw length-snoc at u in
         put-case (λ x. x ≡ L (m .log ++ (t ∷ [])) k) copies (n + 1) (actAll (copies n) t) k
         (λ e. rw (e, f .libraries n (omega arith)) (sym (L-after (m .log) t)))
@@ -53,15 +51,14 @@ module _ (m : Machine) (copies : ℕ → List ℕ) (floor : ℕ → ℕ) (waited
   }
 
   -- a studio's applied raised
-  pub refreshed : (p n : ℕ) → getD (m .applied) p 0 ≤ n
-      → Follows (record { studios = m .studios; log = m .log; sent = m .sent; applied = set (m .applied) p n; sessions = m .sessions }) copies floor waited
-  refreshed p n u = record {
+  pub refreshed : (i n : ℕ) → nth (m .applied) i ≤ n → Follows (withApplied m i n) copies floor waited
+  refreshed i n u = record {
     libraries = f .libraries;
-    floors = λ s w. le-trans (f .floors s w) (level-rises (m .applied) p n (sessionOf m s) u);
+    floors = λ s w. le-trans (f .floors s w) (level-rises (m .applied) (i - 1) n (sessionOf m s) u);
     waits-for = f .waits-for;
   }
 
-  -- session s becomes x: shown the state v, or waiting for what `bytes` asks for, or neither
+  -- session s becomes x: shown the state v, or waiting for q, or neither
   module _ (s : ℕ) (x : Session) (who : KnownSession s (sessionOf m s .studio)) (sixteen : length (m .sessions) ≡ sessionCount) where
     floors-kept : floor s ≤ level (m .applied) x → (j : ℕ) → 1 ≤ j → floor j ≤ level (m .applied) (sessionOf (withSession m s x) j)
     floors-kept u = each-set (λ j y. floor j ≤ level (m .applied) y) (m .sessions) s x _ (who .low) u (f .floors)
@@ -76,11 +73,11 @@ module _ (m : Machine) (copies : ℕ → List ℕ) (floor : ℕ → ℕ) (waited
       waits-for = waits-kept w;
     }
 
-    pub stored-for : (bytes : List ℕ) → floor s ≤ level (m .applied) x → WaitsFor bytes x → Follows (withSession m s x) copies floor (put waited s bytes)
-    stored-for bytes u w = record {
+    pub stored-for : (q : Request) → floor s ≤ level (m .applied) x → WaitsFor q x → Follows (withSession m s x) copies floor (put waited s q)
+    stored-for q u w = record {
       libraries = f .libraries;
       floors = floors-kept u;
-      waits-for = λ j l. both-case WaitsFor waited bytes (m .sessions) x _ s j (who .low) (omega arith) l (λ e. w) (λ e. f .waits-for j l);
+      waits-for = λ j l. both-case WaitsFor waited q (m .sessions) x _ s j (who .low) (omega arith) l (λ e. w) (λ e. f .waits-for j l);
     }
 
     pub left-so : floor s ≤ level (m .applied) x → WaitsFor (waited s) x → Follows (withSession m s x) copies floor waited

@@ -4,7 +4,7 @@ use native.Mathlib.Omega.{arith}
 use mathlib.Core.List.{List}
 use lib.ListN.{length}
 use Rattle.carts.specs.Operation.{operationsOf}
-use Rattle.carts.specs.Transaction.{L, recordsUsed}
+use Rattle.carts.specs.Transaction.{recordsUsed}
 use Rattle.carts.proofs.OperationLaws.{operations-of}
 use Rattle.replication.specs.Memory.{nth}
 use Rattle.replication.specs.Request.{Request, requestOf}
@@ -13,9 +13,9 @@ use Rattle.replication.specs.Calls.{numberAfter}
 use Rattle.replication.proofs.RowLaws.{unless-case}
 use Rattle.replication.proofs.ShownLaws.{Askable, request-askable}
 use Rattle.replication.proofs.Accepted.{commit-passed, send-passed, refresh-passed, read-passed}
-use Rattle.machine.specs.Machine.{Machine, Step, sessionOf, refusedCommit, commit, send, refresh, answerFrom, block, wait, read, collect, call}
+use Rattle.machine.specs.Machine.{Machine, Step, commits, libraryOf, sessionOf, refusedCommit, commit, send, refresh, answerFrom, block, wait, read, collect, call}
 use Rattle.machine.proofs.Sort.{length-snoc}
-use Rattle.machine.proofs.Cases.{block-case}
+use Rattle.machine.proofs.Cases.{stateFor, block-case}
 use Rattle.machine.proofs.Sound.{Sound, applied-commits, with-session, with-transaction, with-sent, with-applied}
 
 -- an answered read leaves no number above both the old one and the state that it showed
@@ -30,7 +30,7 @@ module _ (m : Machine) (f : Sound m) where
   keeps-commit : (s : ℕ) (bytes : List ℕ) → Keeps (commit m s bytes)
   unfolding commit refusedCommit
   keeps-commit s bytes = unless-case Keeps _ _ _ (λ k e. f) (λ e.
-      let a = commit-passed s (sessionOf m s .studio) (sessionOf m s .waiting) (recordsUsed (m .log)) (L (m .log) (length (m .log))) bytes e in
+      let a = commit-passed s (sessionOf m s .studio) (sessionOf m s .waiting) (recordsUsed (m .log)) (libraryOf m (commits m)) bytes e in
       with-session _ (with-transaction m f (operationsOf bytes) (operations-of bytes (a .form))) s _
       (rw (length-snoc (m .log) (operationsOf bytes)) (omega (arith, f .number-le (s - 1))))
       (f .askable (s - 1)))
@@ -38,26 +38,27 @@ module _ (m : Machine) (f : Sound m) where
   keeps-send : (i : ℕ) → Keeps (send m i)
   unfolding send
   keeps-send i = unless-case Keeps _ _ _ (λ k e. f) (λ e.
-      let a = send-passed (m .studios) i (nth (m .sent) i) (nth (m .applied) i) (length (m .log)) e in
-      with-sent m f (i - 1) _ (omega (arith, f .applied-le (i - 1))) (omega (arith, f .sent-le (i - 1), a .unsent)))
+      let a = send-passed (m .studios) i (nth (m .sent) i) (nth (m .applied) i) (commits m) e in
+      with-sent m f i _ (omega (arith, f .applied-le (i - 1))) (omega (arith, f .sent-le (i - 1), a .unsent)))
 
   keeps-refresh : (i : ℕ) → Keeps (refresh m i)
   unfolding refresh
   keeps-refresh i = unless-case Keeps _ _ _ (λ k e. f) (λ e.
       let a = refresh-passed (m .studios) i (nth (m .sent) i) (nth (m .applied) i) e in
-      with-applied m f (i - 1) _ (omega (arith, f .applied-le (i - 1), a .behind)))
+      with-applied m f i _ (omega (arith, f .applied-le (i - 1), a .behind)))
 
-  -- a read answered with a state not above commits, one that waits, and the choice between them
-  keeps-answer : (state : ℕ) (q : Request) (s : ℕ) (out : List ℕ) → state ≤ length (m .log) → Keeps (answerFrom state q m s out)
+  -- an answered read that leaves no number above commits, one that waits, and the choice between them
+  keeps-answer : (state n : ℕ) (q : Request) (s : ℕ) (out : List ℕ) → n ≤ commits m → Keeps (answerFrom state n q m s out)
   unfolding answerFrom
-  keeps-answer state q s out u = with-session m f s _ (omega (arith, number-after (sessionOf m s .number) state, f .number-le (s - 1))) tt
+  keeps-answer state n q s out u = with-session m f s _ u tt
 
   keeps-wait : (q : Request) (s : ℕ) (out : List ℕ) → Askable q → Keeps (wait m s q out)
   unfolding wait
   keeps-wait q s out a = with-session m f s _ (f .number-le (s - 1)) a
 
   keeps-block : (s : ℕ) (q : Request) (behind : Step) (out : List ℕ) → Keeps behind → Keeps (block m s q behind out)
-  keeps-block s q behind out h = block-case Keeps m s q behind out (λ u. keeps-answer _ q s out (applied-commits m f _)) (λ u. h)
+  keeps-block s q behind out h = block-case m s q behind out Keeps (λ u. keeps-answer _ _ q s out
+      (omega (arith, number-after (sessionOf m s .number) (stateFor m s), f .number-le (s - 1), applied-commits m f (sessionOf m s .studio - 1)))) (λ u. h)
 
   keeps-read : (s : ℕ) (request out : List ℕ) → Keeps (read m s request out)
   unfolding read

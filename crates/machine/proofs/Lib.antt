@@ -7,7 +7,6 @@ pub mod Cases
 pub mod Sound
 pub mod Kept
 pub mod Libraries
-pub mod Events
 pub mod Follows
 pub mod Entries
 pub mod OneCopyOrder

@@ -11,7 +11,7 @@ use Rattle.machine.specs.Library.{Input, Reply, library, Served, served,
 use Rattle.machine.specs.OneCopy.{Entry, OneCopy, ofSession}
 use Rattle.machine.proofs.Sort.{All, of, all-map, sort, sort-perm, all-sort, sorted-sort, of-sort}
 use Rattle.machine.proofs.Chain.{Chain, chain}
-use Rattle.machine.proofs.History.{History, state, raises, rank, isOf, at, Good, good, Below, above, consecutive, reached, sessions-rise, raises-rise}
+use Rattle.machine.proofs.History.{History, state, raises, rank, isOf, after, Good, good, Below, above, consecutive, reached, sessions-rise, raises-rise}
 
 abbrev inputs : List Entry → List Input
 inputs l = map (λ (e : Entry). e .input) l
@@ -20,28 +20,28 @@ abbrev replies : List Entry → List Reply
 replies l = map (λ (e : Entry). e .reply) l
 
 -- an order whose entries form a chain is played
-played : (M : ℕ → List ℕ) (n : ℕ) (o : List Entry) → Chain state raises n o → All (Good M) o → play (at M n) (inputs o) ≡ replies o
+played : (M : ℕ → List ℕ) (n : ℕ) (o : List Entry) → Chain state raises n o → All (Good M) o → play (after M n) (inputs o) ≡ replies o
 unfolding play
 played M n [] c g = refl
 played M n (e ∷ o) c g = go (raises e) c (g .0) (λ m d. played M m o d (g .1))
   where
-    after : (m : ℕ) → serve (at M n) (e .input) ≡ served (e .reply) (at M m) → play (at M m) (inputs o) ≡ replies o
-        → play (at M n) (inputs (e ∷ o)) ≡ replies (e ∷ o)
-    after m q t = ap (λ (r : Served). r .reply ∷ play (r .next) (inputs o)) q ∙ ap (λ (l : List Reply). e .reply ∷ l) t
+    next : (m : ℕ) → serve (after M n) (e .input) ≡ served (e .reply) (after M m) → play (after M m) (inputs o) ≡ replies o
+        → play (after M n) (inputs (e ∷ o)) ≡ replies (e ∷ o)
+    next m q t = ap (λ (r : Served). r .reply ∷ play (r .next) (inputs o)) q ∙ ap (λ (l : List Reply). e .reply ∷ l) t
 
     go : (b : Bool) → cond b ((state e ≡ n + 1) × Chain state raises (n + 1) o) ((state e ≡ n) × Chain state raises n o)
-        → cond b ((m : ℕ) → state e ≡ m + 1 → serve (at M m) (e .input) ≡ served (e .reply) (at M (m + 1)))
-        (serve (at M (state e)) (e .input) ≡ served (e .reply) (at M (state e)))
-        → ((m : ℕ) → Chain state raises m o → play (at M m) (inputs o) ≡ replies o) → play (at M n) (inputs (e ∷ o)) ≡ replies (e ∷ o)
-    go true d k ih = after (n + 1) (k n (d .0)) (ih (n + 1) (d .1))
-    go false d k ih = after n (subst (λ (m : ℕ). serve (at M m) (e .input) ≡ served (e .reply) (at M m)) (d .0) k) (ih n (d .1))
+        → cond b ((m : ℕ) → state e ≡ m + 1 → serve (after M m) (e .input) ≡ served (e .reply) (after M (m + 1)))
+        (serve (after M (state e)) (e .input) ≡ served (e .reply) (after M (state e)))
+        → ((m : ℕ) → Chain state raises m o → play (after M m) (inputs o) ≡ replies o) → play (after M n) (inputs (e ∷ o)) ≡ replies (e ∷ o)
+    go true d k ih = next (n + 1) (k n (d .0)) (ih (n + 1) (d .1))
+    go false d k ih = next n (subst (λ (m : ℕ). serve (after M m) (e .input) ≡ served (e .reply) (after M m)) (d .0) k) (ih n (d .1))
 
 of-session : (s : ℕ) (l : List Entry) → ofSession s l ≡ of (isOf s) l
 unfolding ofSession
 of-session s [] = refl
 of-session s (e ∷ l) = ap (λ (r : List Entry). cond (eqb s (e .session)) (e ∷ r) r) (of-session s l)
 
-pub ordered : {n : ℕ} {L : ℕ → List ℕ} {E : List Entry} → History n L (λ s. n) E → OneCopy (at L n) E (sort rank E)
+pub ordered : {n : ℕ} {L : ℕ → List ℕ} {E : List Entry} → History n L (λ s. n) E → OneCopy (after L n) E (sort rank E)
 ordered {n} {L} {E} h =
     let (M, same, g) = good h in
     let b : Below (λ s. n) n = λ s. omega arith in

@@ -4,8 +4,8 @@ use native.Mathlib.Omega.{arith}
 use native.Mathlib.Nat.{le-trans}
 use mathlib.Core.List.{List, [], _∷_, _++_}
 use Rattle.replication.specs.Answer.{Answer, refused, done, waits, answered}
-use Rattle.replication.specs.Call.{Call, commit, send, refresh, read, collect}
-use Rattle.machine.specs.OneCopy.{Event, Entry, commitEntry, readEntry, entryOf, waitedAfter, entries}
+use Rattle.replication.specs.Request.{Request, requestOf}
+use Rattle.machine.specs.OneCopy.{Event, Entry, commitEntry, readEntry, Kind, writes, reads, collects, neither, kindOf, entryOf, waitedAfter, entries}
 
 -- each entry's place is at least i, and higher than the place of the one before it
 abbrev pub RiseFrom : ℕ → List Entry → Type 0
@@ -28,24 +28,24 @@ module _ (i : ℕ) (E : List Entry) (after : RiseFrom (i + 1) E) where
   commit-rises s bytes (waits n) = no-entry
   commit-rises s bytes (answered state found) = no-entry
 
-  read-rises : (s : ℕ) (bytes : List ℕ) (a : Answer) (out : List ℕ) → RiseFrom i (readEntry i s bytes a out ++ E)
+  read-rises : (s : ℕ) (q : Request) (a : Answer) (out : List ℕ) → RiseFrom i (readEntry i s q a out ++ E)
   unfolding readEntry
-  read-rises s bytes (answered state found) out = (omega arith, after)
-  read-rises s bytes (refused n) out = no-entry
-  read-rises s bytes (waits n) out = no-entry
-  read-rises s bytes (done n) out = no-entry
+  read-rises s q (answered state found) out = (omega arith, after)
+  read-rises s q (refused n) out = no-entry
+  read-rises s q (waits n) out = no-entry
+  read-rises s q (done n) out = no-entry
 
-  entry-rises : (waited : ℕ → List ℕ) (x : Call) (a : Answer) (out : List ℕ) → RiseFrom i (entryOf i waited x a out ++ E)
+  entry-rises : (waited : ℕ → Request) (x : Kind) (a : Answer) (out : List ℕ) → RiseFrom i (entryOf i waited x a out ++ E)
   unfolding entryOf
-  entry-rises waited (commit s bytes) a out = commit-rises s bytes a
-  entry-rises waited (send j) a out = no-entry
-  entry-rises waited (refresh j) a out = no-entry
-  entry-rises waited (read s bytes lent) a out = read-rises s bytes a out
-  entry-rises waited (collect s lent) a out = read-rises s (waited s) a out
+  entry-rises waited (writes s bytes) a out = commit-rises s bytes a
+  entry-rises waited (reads s bytes) a out = read-rises s (requestOf bytes) a out
+  entry-rises waited (collects s) a out = read-rises s (waited s) a out
+  entry-rises waited neither a out = no-entry
 
-pub places-rise : (i : ℕ) (waited : ℕ → List ℕ) (es : List Event) → RiseFrom i (entries i waited es)
+pub places-rise : (i : ℕ) (waited : ℕ → Request) (es : List Event) → RiseFrom i (entries i waited es)
 unfolding entries
 places-rise i waited [] = tt
 places-rise i waited (e ∷ es) =
-    let next : ℕ → List ℕ = waitedAfter waited (e .call) (e .answer) in
-    entry-rises i (entries (i + 1) next es) (places-rise (i + 1) next es) waited (e .call) (e .answer) (e .output)
+    let kind : Kind = kindOf (e .call) in
+    let next : ℕ → Request = waitedAfter waited kind (e .answer) in
+    entry-rises i (entries (i + 1) next es) (places-rise (i + 1) next es) waited kind (e .answer) (e .output)

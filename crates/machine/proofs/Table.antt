@@ -1,6 +1,6 @@
 -- TABLE. Document 01, "Table to be proved": its twelve cases on the plain machine, outputs included, as one theorem by computation.
 use mathlib.Core.Path.{_≡_, refl}
-use mathlib.Core.List.{List, [], _∷_, _++_}
+use mathlib.Core.List.{List, [], _∷_, _++_, map}
 use Prim.Native.Nat.{ℕ}
 use lib.ListN.{take, drop, replicate}
 use Rattle.carts.specs.Bytes.{zeros, u16, u32, u16Bytes, u16s, within, all, every, allZero, pairwise, parts}
@@ -13,15 +13,20 @@ use Rattle.replication.proofs.Samples.{filled, pairs, askNumbers, askTitle}
 use Rattle.replication.specs.Answer.{Answer, refused, done, waits, answered}
 use Rattle.replication.specs.Log.{noRoom}
 use Rattle.replication.specs.Request.{numbersIn, requestOf, numbersForm, requestFields, requestForm, isWaiting, needed, foundIn, shownFrom}
-use Rattle.replication.specs.Rows.{stopped, unless, sessionRow, studioRow, sizeForm, commitRows, sendRows, refreshRows, readRows, collectRows}
-use Rattle.replication.specs.Call.{Call, commit, send, refresh, read, collect}
+use Rattle.replication.specs.Rows.{stopped, unless, setupRows, sessionRow, studioRow, sizeForm, commitRows, sendRows, refreshRows, readRows, collectRows}
+use Rattle.replication.specs.Call.{Call, commit, send, refresh, read, collect, run, final}
 use Rattle.replication.specs.Calls.{numberAfter}
 use Rattle.machine.specs.Machine as Machine
-use Rattle.machine.specs.Machine.{Step, run}
+use Rattle.machine.specs.Machine.{libraryOf, afterCalls}
+use Rattle.machine.specs.OneCopy.{Event, plainHistory}
 
 -- "S = 2; sessions 1 and 2 at studio 1, session 3 at studio 2"
-unfoldable pub start : Machine.Machine
-start = Machine.fresh 2 (1 ∷ 1 ∷ 2 ∷ zeros 13)
+unfoldable pub start : Machine.Step
+start = Machine.setup 2 (1 ∷ 1 ∷ 2 ∷ zeros 13)
+
+pub started : start .answer ≡ done 0
+unfolding start Machine.setup setupRows stopped unless all within every zeros
+started = refl
 
 -- "A is new cart 7, "Top hour A", audio 501, 8,000 ms"
 unfoldable pub A : List ℕ
@@ -68,22 +73,16 @@ oneTitle =
     ∷ read 1 (askTitle topHourA) buffer
     ∷ []
 
--- the answer and the output of each call
+-- the answer and the output of each call of a history
 abbrev pub Seen : Type 0
 Seen = Answer × List ℕ
 
-unfoldable pub seen : List Step → List Seen
-seen [] = []
-seen (s ∷ ss) = (s .answer, s .output) ∷ seen ss
+abbrev pub seen : List Event → List Seen
+seen es = map (λ (e : Event). (e .answer, e .output)) es
 
 -- the answers and outputs of n calls from call i on, counted from 0, of a list from the start
 unfoldable pub calls : List Call → ℕ → ℕ → List Seen
-calls H i n = take n (drop i (seen (run start H)))
-
--- the machine after a list of calls
-unfoldable pub last : Machine.Machine → List Step → Machine.Machine
-last m [] = m
-last m (s ∷ ss) = last (s .next) ss
+calls H i n = take n (drop i (seen (plainHistory start H)))
 
 pub record Table : Type 0 where
   -- "Fresh, session 1 reads [7]: state 0, found 0, zeros."
@@ -107,14 +106,14 @@ pub record Table : Type 0 where
   pub case9 : calls morning 9 1 ≡ (done 2, []) ∷ []
   -- "+ session 1 commits [new 8, new 8]: 8, and cart 8 is empty in L(2)."
   pub case10 : calls morning 10 1 ≡ (refused 8, []) ∷ []
-  pub case10-empty : cartAt (L (last start (run start morning) .log) 2) 8 ≡ zeros 80
+  pub case10-empty : cartAt (libraryOf (afterCalls start morning .next) 2) 8 ≡ zeros 80
   -- "Title length 65: 6; titles of 64 bytes that differ in the last byte (the digits 1 and 2): a title read finds 1 for each."
   pub case11 : calls longTitles 0 6 ≡ (refused 6, []) ∷ (done 1, []) ∷ (done 1, []) ∷ (done 1, []) ∷ (answered 1 1, holding (long 1 49)) ∷ (answered 1 1, holding (long 2 50)) ∷ []
   -- "Two carts with one title: found 2, zeros."
   pub case12 : calls oneTitle 0 4 ≡ (done 1, []) ∷ (done 1, []) ∷ (done 1, []) ∷ (answered 1 2, holding (zeros 80)) ∷ []
 
 pub table : Table
-unfolding zeros u16 u32 u16Bytes u16s within all every allZero pairwise parts cartAt printable titleForm hasTitle noTitle hasAudio noAudio held operationFields operationForm operationsOf made retitled recut withdrawn meetsCart effect actedOn meets act meetsAll actAll shownByNumbers foundByNumbers sameLetter titled titledFrom titledIn foundByTitle theOne shownByTitle u32Bytes operation newCart withdrawCart topHourA longTitle noRoom numbersIn requestOf numbersForm requestFields requestForm isWaiting needed foundIn shownFrom stopped unless sessionRow studioRow sizeForm commitRows sendRows refreshRows readRows collectRows numberAfter replay L recordsUsed Machine.fresh Machine.refusedCommit Machine.commit Machine.send Machine.refresh Machine.answerFrom Machine.block Machine.wait Machine.read Machine.collect Machine.call run start A filled pairs askNumbers askTitle buffer holding morning long longTitles oneTitle seen calls last
+unfolding zeros u16 u32 u16Bytes u16s within all every allZero pairwise parts cartAt printable titleForm hasTitle noTitle hasAudio noAudio held operationFields operationForm operationsOf made retitled recut withdrawn meetsCart effect actedOn meets act meetsAll actAll shownByNumbers foundByNumbers sameLetter titled titledFrom titledIn foundByTitle theOne shownByTitle u32Bytes operation newCart withdrawCart topHourA longTitle noRoom numbersIn requestOf numbersForm requestFields requestForm isWaiting needed foundIn shownFrom stopped unless setupRows sessionRow studioRow sizeForm commitRows sendRows refreshRows readRows collectRows numberAfter replay L recordsUsed Machine.fresh Machine.setup Machine.refusedCommit Machine.commit Machine.send Machine.refresh Machine.answerFrom Machine.block Machine.wait Machine.read Machine.collect Machine.call run final plainHistory start A filled pairs askNumbers askTitle buffer holding morning long longTitles oneTitle calls
 table = record {
   case1 = refl;
   case2 = refl;

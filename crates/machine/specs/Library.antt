@@ -4,19 +4,24 @@ use mathlib.Core.List.{List, [], _∷_}
 use Prim.Native.Nat.{ℕ, _+_}
 use Rattle.carts.specs.Bytes.{zeros}
 use Rattle.carts.specs.Cart.{copySize}
-use Rattle.carts.specs.Operation.{operationsOf, meetsAll, actAll}
-use Rattle.replication.specs.Request.{requestOf, foundIn, shownFrom}
+use Rattle.carts.specs.Operation.{meetsAll, actAll}
+use Rattle.carts.specs.Transaction.{Transaction}
+use Rattle.replication.specs.Request.{Request, foundIn, shownFrom}
 
--- "each with its operations or its request": their bytes, as handed in
+-- "each with its operations or its request"
 pub data Input : Type 0 where
-  operations : List ℕ → Input
-  request : List ℕ → Input
+  operations : Transaction → Input
+  request : Request → Input
 
--- "for a commit the number; for a read the state, found and the first .. bytes of output"; "refusal 8"
+-- what a library says that stays as it is: "refusal 8"; for a read "found and the first .. bytes of output"
+pub data Said : Type 0 where
+  refused8 : Said
+  shown : ℕ → List ℕ → Said
+
+-- "for a commit the number; for a read the state, found and ..": the count that the commit made, or the count of the library that said so
 pub data Reply : Type 0 where
   number : ℕ → Reply
-  refused : ℕ → Reply
-  shown : ℕ → ℕ → List ℕ → Reply
+  at : ℕ → Said → Reply
 
 -- "The single library holds a count .. and 128 carts"
 pub record Library : Type 0 where
@@ -41,12 +46,10 @@ served r l = record { reply = r; next = l }
 -- rises by one, and the answer is the count. Otherwise nothing changes and the answer is refusal 8."
 -- "A read: the answer is the count as its state, with found and carts by the rule above .. Nothing changes."
 unfoldable pub serve : Library → Input → Served
-serve l (operations bytes) =
-    let ops = operationsOf bytes in
+serve l (operations ops) =
     let good = served (number (l .count + 1)) (library (l .count + 1) (actAll (l .carts) ops)) in
-    cond (meetsAll (l .carts) ops) good (served (refused 8) l)
-serve l (request bytes) =
-    served (shown (l .count) (foundIn (l .carts) (requestOf bytes)) (shownFrom (l .carts) (requestOf bytes))) l
+    cond (meetsAll (l .carts) ops) good (served (at (l .count) refused8) l)
+serve l (request q) = served (at (l .count) (shown (foundIn (l .carts) q) (shownFrom (l .carts) q))) l
 
 -- "fed the entries in their order": the replies
 unfoldable pub play : Library → List Input → List Reply

@@ -8,9 +8,9 @@ use Rattle.carts.specs.Bytes.{zeros, over}
 use Rattle.carts.specs.Operation.{operationsOf}
 use Rattle.carts.specs.Transaction.{Transaction, L, recordsUsed}
 use Rattle.replication.specs.Answer.{Answer, refused, done, waits, answered}
-use Rattle.replication.specs.Memory.{studioCount, nth}
+use Rattle.replication.specs.Memory.{studioCount, sessionCount, nth}
 use Rattle.replication.specs.Request.{Request, nothing, requestOf, needed, foundIn, shownFrom}
-use Rattle.replication.specs.Rows.{stopped, unless, commitRows, sendRows, refreshRows, readRows, collectRows}
+use Rattle.replication.specs.Rows.{stopped, unless, setupRows, commitRows, sendRows, refreshRows, readRows, collectRows}
 use Rattle.replication.specs.Call as Call
 use Rattle.replication.specs.Calls.{numberAfter}
 
@@ -31,12 +31,31 @@ pub record Machine : Type 0 where
   pub applied : List ℕ
   pub sessions : List Session
 
--- session s, counted from 1
+abbrev pub machine : ℕ → List Transaction → List ℕ → List ℕ → List Session → Machine
+machine studios log sent applied sessions = record { studios = studios; log = log; sent = sent; applied = applied; sessions = sessions }
+
+-- commits; "L(n)" of its transactions; session s, counted from 1
+abbrev pub commits : Machine → ℕ
+commits m = length (m .log)
+
+abbrev pub libraryOf : Machine → ℕ → List ℕ
+libraryOf m n = L (m .log) n
+
 abbrev pub sessionOf : Machine → ℕ → Session
 sessionOf m s = getD (m .sessions) (s - 1) (session 0 0 nothing)
 
+-- the machine with another log, another sent or applied of studio i, another session s
+abbrev pub withLog : Machine → List Transaction → Machine
+withLog m log = machine (m .studios) log (m .sent) (m .applied) (m .sessions)
+
+abbrev pub withSent : Machine → ℕ → ℕ → Machine
+withSent m i n = machine (m .studios) (m .log) (set (m .sent) (i - 1) n) (m .applied) (m .sessions)
+
+abbrev pub withApplied : Machine → ℕ → ℕ → Machine
+withApplied m i n = machine (m .studios) (m .log) (m .sent) (set (m .applied) (i - 1) n) (m .sessions)
+
 abbrev pub withSession : Machine → ℕ → Session → Machine
-withSession m s x = record { studios = m .studios; log = m .log; sent = m .sent; applied = m .applied; sessions = set (m .sessions) (s - 1) x }
+withSession m s x = machine (m .studios) (m .log) (m .sent) (m .applied) (set (m .sessions) (s - 1) x)
 
 -- what a call answers and leaves, and output after it ([] where none is lent)
 pub record Step : Type 0 where
@@ -50,10 +69,16 @@ step a m out = record { answer = a; next = m; output = out }
 abbrev pub refusal : Machine → List ℕ → ℕ → Step
 refusal m out n = step (refused n) m out
 
--- "Setup (S and 16 studio bytes)": "A fresh system is what an accepted setup leaves"
+-- no transaction, counts zero
 unfoldable pub fresh : ℕ → List ℕ → Machine
-fresh studios bytes =
-    record { studios = studios; log = []; sent = zeros studioCount; applied = zeros studioCount; sessions = map (λ i. session i 0 nothing) bytes }
+fresh studios bytes = machine studios [] (zeros studioCount) (zeros studioCount) (map (λ i. session i 0 nothing) bytes)
+
+-- "Setup (S and 16 studio bytes): .. counts zero. When refused it hands back an all-zero control": no studio, and every session unused.
+-- Row 1 is about memory, which the machine has not.
+unfoldable pub setup : ℕ → List ℕ → Step
+setup studios bytes =
+    let good = step (done 0) (fresh studios bytes) [] in
+    unless (stopped (setupRows studios bytes)) (refusal (fresh 0 (zeros sessionCount)) []) good
 
 -- what a commit that a row stops leaves, by the row's number
 unfoldable pub refusedCommit : Machine → ℕ → ℕ → Step
@@ -64,34 +89,32 @@ refusedCommit m s n = refusal m [] n
 unfoldable pub commit : Machine → ℕ → List ℕ → Step
 commit m s bytes =
     let x = sessionOf m s in
-    let n = length (m .log) + 1 in
-    let grown : Machine = record { studios = m .studios; log = m .log ++ (operationsOf bytes ∷ []); sent = m .sent; applied = m .applied; sessions = m .sessions } in
+    let n = commits m + 1 in
+    let grown = withLog m (m .log ++ (operationsOf bytes ∷ [])) in
     let good = step (done n) (withSession grown s (session (x .studio) n (x .waiting))) [] in
-    unless (stopped (commitRows s (x .studio) (x .waiting) (recordsUsed (m .log)) (L (m .log) (length (m .log))) bytes)) (refusedCommit m s) good
+    unless (stopped (commitRows s (x .studio) (x .waiting) (recordsUsed (m .log)) (libraryOf m (commits m)) bytes)) (refusedCommit m s) good
 
 -- "Send (studio): sent rises by one. Returns it."
 unfoldable pub send : Machine → ℕ → Step
 send m i =
     let n = nth (m .sent) i + 1 in
-    let raised : Machine = record { studios = m .studios; log = m .log; sent = set (m .sent) (i - 1) n; applied = m .applied; sessions = m .sessions } in
-    let good = step (done n) raised [] in
-    unless (stopped (sendRows (m .studios) i (nth (m .sent) i) (nth (m .applied) i) (length (m .log)))) (refusal m []) good
+    let good = step (done n) (withSent m i n) [] in
+    unless (stopped (sendRows (m .studios) i (nth (m .sent) i) (nth (m .applied) i) (commits m))) (refusal m []) good
 
 -- "Refresh (studio): .. applied rises by one. Returns it."
 unfoldable pub refresh : Machine → ℕ → Step
 refresh m i =
     let n = nth (m .applied) i + 1 in
-    let raised : Machine = record { studios = m .studios; log = m .log; sent = m .sent; applied = set (m .applied) (i - 1) n; sessions = m .sessions } in
-    let good = step (done n) raised [] in
+    let good = step (done n) (withApplied m i n) [] in
     unless (stopped (refreshRows (m .studios) i (nth (m .sent) i) (nth (m .applied) i))) (refusal m []) good
 
--- "An answered read returns the state (applied) and found, and writes from output's start", from L(state)
-unfoldable pub answerFrom : ℕ → Request → Machine → ℕ → List ℕ → Step
-answerFrom state q m s out =
+-- "An answered read returns the state (applied) and found, and writes from output's start", from L(state); session s is left with number n
+unfoldable pub answerFrom : ℕ → ℕ → Request → Machine → ℕ → List ℕ → Step
+answerFrom state n q m s out =
     let x = sessionOf m s in
-    let copy = L (m .log) state in
+    let copy = libraryOf m state in
     step (answered state (foundIn copy q))
-    (withSession m s (session (x .studio) (numberAfter (x .number) state) nothing))
+    (withSession m s (session (x .studio) n nothing))
     (over out 0 (needed q) (shownFrom copy q))
 
 -- "if applied of the session's studio is at least the session's number, answered; else ..": `behind`
@@ -99,7 +122,7 @@ unfoldable pub block : Machine → ℕ → Request → Step → List ℕ → Ste
 block m s q behind out =
     let x = sessionOf m s in
     let state = nth (m .applied) (x .studio) in
-    let now = answerFrom state q m s out in
+    let now = answerFrom state (numberAfter (x .number) state) q m s out in
     cond (leb (x .number) state) now behind
 
 -- ".. the request is stored and the answer is waits, with the session's number"
@@ -128,6 +151,9 @@ call m (Call.refresh i) = refresh m i
 call m (Call.read s request out) = read m s request out
 call m (Call.collect s out) = collect m s out
 
-unfoldable pub run : Machine → List Call.Call → List Step
-run m [] = []
-run m (x ∷ xs) = let r = call m x in r ∷ run (r .next) xs
+-- a list of calls, and what it leaves, as on bytes
+abbrev pub run : Step → List Call.Call → List (Call.Turn Step)
+run r H = Call.run (λ p x. call (p .next) x) r H
+
+abbrev pub afterCalls : Step → List Call.Call → Step
+afterCalls r H = Call.final r (run r H)

@@ -5,13 +5,14 @@ use mathlib.Core.List.{List, [], _∷_, _++_, map, List·Permᴰ}
 use Prim.Native.Nat.{ℕ, _+_}
 use lib.ListN.{take}
 use lib.Dec.{eqb}
+use Rattle.carts.specs.Operation.{operationsOf}
 use Rattle.replication.specs.Answer.{Answer, refused, done, waits, answered}
 use Rattle.replication.specs.Memory.{Memory}
-use Rattle.replication.specs.Request.{requestOf, needed}
+use Rattle.replication.specs.Request.{Request, requestOf, needed}
 use Rattle.replication.specs.Call.{Call, commit, send, refresh, read, collect}
 use Rattle.replication.specs.Calls as Bytes
-use Rattle.replication.specs.declared.control.Control.{Control}
-use Rattle.machine.specs.Library.{Input, operations, request, Reply, number, shown, Library, emptyLibrary, play}
+use Rattle.machine.specs.Machine as Plain
+use Rattle.machine.specs.Library.{Input, operations, request, Reply, number, at, shown, Library, emptyLibrary, play}
 
 -- a call of H, the answer that it gave, and its output "as they stood when its call ended"
 pub record Event : Type 0 where
@@ -22,11 +23,12 @@ pub record Event : Type 0 where
 abbrev pub event : Call → Answer → List ℕ → Event
 event x a out = record { call = x; answer = a; output = out }
 
--- "The first call of H is given that memory and control, every later one what the call before it left and handed back, after a refusal
--- or a wait too."
-unfoldable pub history : Control → Memory → List Call → List Event
-history c m [] = []
-history c m (x ∷ H) = let r = Bytes.call c m x in event x (r .answer) (r .output) ∷ history (r .control) (r .memory) H
+-- the events of a list H whose first call is given what r left; the same on the plain machine
+unfoldable pub history : Bytes.After → List Call → List Event
+history r H = map (λ t. event (t .call) (t .left .answer) (t .left .output)) (Bytes.run r H)
+
+unfoldable pub plainHistory : Plain.Step → List Call → List Event
+plainHistory r H = map (λ t. event (t .call) (t .left .answer) (t .left .output)) (Plain.run r H)
 
 -- an entry: its place in H, its session, what the single library is fed, and what H answered
 pub record Entry : Type 0 where
@@ -35,30 +37,45 @@ pub record Entry : Type 0 where
   pub input : Input
   pub reply : Reply
 
+abbrev pub entry : ℕ → ℕ → Input → Reply → Entry
+entry i s x r = record { place = i; session = s; input = x; reply = r }
+
 -- "Its entries are accepted commits (those that return a commit's number)"
 unfoldable pub commitEntry : ℕ → ℕ → List ℕ → Answer → List Entry
-commitEntry i s bytes (done n) = record { place = i; session = s; input = operations bytes; reply = number n } ∷ []
+commitEntry i s bytes (done n) = entry i s (operations (operationsOf bytes)) (number n) ∷ []
 commitEntry i s bytes (refused n) = []
 commitEntry i s bytes (waits n) = []
 commitEntry i s bytes (answered state found) = []
 
 -- "and answered reads (those that return a state and found)"; "the state, found and the first 80 × numbers asked bytes of output (80 for
 -- a title)". "Waits and refusals have no entry."
-unfoldable pub readEntry : ℕ → ℕ → List ℕ → Answer → List ℕ → List Entry
-readEntry i s bytes (answered state found) out =
-    record { place = i; session = s; input = request bytes; reply = shown state found (take (needed (requestOf bytes)) out) } ∷ []
-readEntry i s bytes (refused n) out = []
-readEntry i s bytes (waits n) out = []
-readEntry i s bytes (done n) out = []
+unfoldable pub readEntry : ℕ → ℕ → Request → Answer → List ℕ → List Entry
+readEntry i s q (answered state found) out = entry i s (request q) (at state (shown found (take (needed q) out))) ∷ []
+readEntry i s q (refused n) out = []
+readEntry i s q (waits n) out = []
+readEntry i s q (done n) out = []
+
+-- what a call is to the order: a commit or a read, with its session and its bytes; a collect, with its session; or a call that has no entry
+pub data Kind : Type 0 where
+  writes : ℕ → List ℕ → Kind
+  reads : ℕ → List ℕ → Kind
+  collects : ℕ → Kind
+  neither : Kind
+
+unfoldable pub kindOf : Call → Kind
+kindOf (commit s bytes) = writes s bytes
+kindOf (send i) = neither
+kindOf (refresh i) = neither
+kindOf (read s bytes lent) = reads s bytes
+kindOf (collect s lent) = collects s
 
 -- "An entry's session is the one its call names. A read answered by collect belongs to the collect: it stands where the collect stood in H,
 -- and its request is that of the session's latest read call before it that waited": `waited`
-unfoldable pub entryOf : ℕ → (ℕ → List ℕ) → Call → Answer → List ℕ → List Entry
-entryOf i waited (commit s bytes) a out = commitEntry i s bytes a
-entryOf i waited (send j) a out = []
-entryOf i waited (refresh j) a out = []
-entryOf i waited (read s bytes lent) a out = readEntry i s bytes a out
-entryOf i waited (collect s lent) a out = readEntry i s (waited s) a out
+unfoldable pub entryOf : ℕ → (ℕ → Request) → Kind → Answer → List ℕ → List Entry
+entryOf i waited (writes s bytes) a out = commitEntry i s bytes a
+entryOf i waited (reads s bytes) a out = readEntry i s (requestOf bytes) a out
+entryOf i waited (collects s) a out = readEntry i s (waited s) a out
+entryOf i waited neither a out = []
 
 unfoldable pub hasWaited : Answer → Bool
 hasWaited (waits n) = true
@@ -67,17 +84,18 @@ hasWaited (done n) = false
 hasWaited (answered state found) = false
 
 -- for each session the request of its latest read call that waited
-unfoldable pub waitedAfter : (ℕ → List ℕ) → Call → Answer → ℕ → List ℕ
-waitedAfter waited (commit s bytes) a j = waited j
-waitedAfter waited (send i) a j = waited j
-waitedAfter waited (refresh i) a j = waited j
-waitedAfter waited (read s bytes lent) a j = cond (hasWaited a && eqb j s) bytes (waited j)
-waitedAfter waited (collect s lent) a j = waited j
+unfoldable pub waitedAfter : (ℕ → Request) → Kind → Answer → ℕ → Request
+waitedAfter waited (writes s bytes) a j = waited j
+waitedAfter waited (reads s bytes) a j = cond (hasWaited a && eqb j s) (requestOf bytes) (waited j)
+waitedAfter waited (collects s) a j = waited j
+waitedAfter waited neither a j = waited j
 
 -- the entries of H from place i on
-unfoldable pub entries : ℕ → (ℕ → List ℕ) → List Event → List Entry
+unfoldable pub entries : ℕ → (ℕ → Request) → List Event → List Entry
 entries i waited [] = []
-entries i waited (e ∷ es) = entryOf i waited (e .call) (e .answer) (e .output) ++ entries (i + 1) (waitedAfter waited (e .call) (e .answer)) es
+entries i waited (e ∷ es) =
+    let kind = kindOf (e .call) in
+    entryOf i waited kind (e .answer) (e .output) ++ entries (i + 1) (waitedAfter waited kind (e .answer)) es
 
 -- the entries of session s, in their order
 unfoldable pub ofSession : ℕ → List Entry → List Entry
@@ -96,6 +114,5 @@ pub record OneCopy (start : Library) (E order : List Entry) : Type 0 where
 abbrev pub Demand3 : Type 0
 Demand3 =
     (before : Memory) (studios : ℕ) (bytes : List ℕ) → Bytes.setup before studios bytes .answer ≡ done 0 →
-    (H : List Call) (none : List ℕ) →
-    let fresh = Bytes.setup before studios bytes in
-    (order : List Entry) × OneCopy emptyLibrary (entries 0 (λ s. none) (history (fresh .control) (fresh .memory) H)) order
+    (H : List Call) (none : Request) →
+    (order : List Entry) × OneCopy emptyLibrary (entries 0 (λ s. none) (history (Bytes.setup before studios bytes) H)) order

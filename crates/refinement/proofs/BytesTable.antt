@@ -1,5 +1,5 @@
 -- TABLE on bytes. Document 01's table of twelve holds of the calls on bytes, from the plain machine's table, with no byte computed.
-use mathlib.Core.Path.{_≡_, refl, sym, ap, _∙_}
+use mathlib.Core.Path.{_≡_, sym, ap, _∙_}
 use mathlib.Core.List.{List, [], _∷_}
 use Prim.Native.Nat.{ℕ}
 use lib.ListN.{take, drop}
@@ -9,21 +9,18 @@ use Rattle.carts.specs.Transaction.{L}
 use Rattle.replication.specs.Answer.{refused, done, waits, answered}
 use Rattle.replication.specs.Log.{firstRecord}
 use Rattle.replication.specs.Call.{Call, read}
-use Rattle.replication.specs.Calls.{After}
-use Rattle.machine.specs.Machine.{Machine, call, run}
-use Rattle.machine.specs.OneCopy.{history}
-use Rattle.machine.proofs.Events.{events}
-use Rattle.replication.proofs.Samples.{askNumbers}
+use Rattle.replication.specs.Calls.{After, afterCalls}
+use Rattle.machine.specs.Machine as Machine
+use Rattle.machine.specs.OneCopy.{Event, history}
 use Rattle.machine.proofs.Table as Plain
 use Rattle.replication.proofs.Samples.{askNumbers}
-use Rattle.machine.proofs.Table.{start, A, buffer, holding, morning, long, longTitles, oneTitle, Seen, seen, last, table}
-use Rattle.refinement.specs.Represents.{transactionsFrom, Represents}
-use Rattle.refinement.specs.Lists.{afterCalls, machineAfter, seenIn}
-use Rattle.refinement.proofs.Simulation.{same-history, represents-after}
+use Rattle.machine.proofs.Table.{start, A, buffer, holding, morning, long, longTitles, oneTitle, Seen, seen, table}
+use Rattle.refinement.specs.Represents.{transactionsFrom, Simulates}
+use Rattle.refinement.proofs.Simulation.{same-history, simulates-after}
 
 -- the answers and outputs of n calls from call i on, counted from 0, of a list of calls on the bytes that r left
 unfoldable pub calls : After → List Call → ℕ → ℕ → List Seen
-calls r H i n = take n (drop i (seenIn (history (r .control) (r .memory) H)))
+calls r H i n = take n (drop i (seen (history r H)))
 
 pub record BytesTable (r : After) : Type 0 where
   -- "Fresh, session 1 reads [7]: state 0, found 0, zeros."
@@ -56,19 +53,8 @@ pub record BytesTable (r : After) : Type 0 where
   -- "Two carts with one title: found 2, zeros."
   pub case12 : calls r oneTitle 0 4 ≡ (done 1, []) ∷ (done 1, []) ∷ (done 1, []) ∷ (answered 1 2, holding (zeros 80)) ∷ []
 
--- the plain machine's history and its run show the same, and come to the same machine
-seen-events : (M : Machine) (H : List Call) → seenIn (events M H) ≡ seen (run M H)
-unfolding seenIn events seen run
-seen-events M [] = refl
-seen-events M (x ∷ H) = let r = call M x in ap (λ (l : List Seen). (r .answer, r .output) ∷ l) (seen-events (r .next) H)
-
-last-run : (M : Machine) (H : List Call) → machineAfter M H ≡ last M (run M H)
-unfolding machineAfter run last
-last-run M [] = refl
-last-run M (x ∷ H) = last-run (call M x .next) H
-
 -- where the bytes stand for the table's start
-pub bytes-table : (r : After) → Represents (r .control) (r .memory) start → BytesTable r
+pub bytes-table : (r : After) → Simulates r start → BytesTable r
 unfolding calls Plain.calls
 bytes-table r h = record {
   case1 = same _ 0 1 ∙ table .case1;
@@ -88,8 +74,8 @@ bytes-table r h = record {
 }
   where
     same : (H : List Call) (i n : ℕ) → calls r H i n ≡ Plain.calls H i n
-    same H i n = ap (λ (l : List Seen). take n (drop i l)) (ap seenIn (same-history H (r .control) (r .memory) start h) ∙ seen-events start H)
+    same H i n = ap (λ (l : List Event). take n (drop i (seen l))) (same-history H r start h)
 
     log : transactionsFrom (afterCalls r morning .control .commits) (afterCalls r morning .memory .log) (firstRecord (afterCalls r morning .control))
-        ≡ last start (run start morning) .log
-    log = sym (represents-after morning r start h .log) ∙ ap (λ (M : Machine). M .log) (last-run start morning)
+        ≡ Machine.afterCalls start morning .next .log
+    log = sym (simulates-after morning r start h .next .log)

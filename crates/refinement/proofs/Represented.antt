@@ -6,12 +6,12 @@ use Rattle.carts.specs.Transaction.{Transaction}
 use Rattle.replication.specs.Memory.{Memory}
 use Rattle.replication.specs.Log.{firstRecord}
 use Rattle.replication.specs.declared.control.Control.{Control}
-use Rattle.machine.specs.Machine.{Session, Machine}
+use Rattle.machine.specs.Machine.{Session, Machine, machine, commits}
 use Rattle.refinement.specs.Represents.{Represents}
 use Rattle.refinement.proofs.Transactions.{length-transactions}
 
 abbrev pub machineOf : Control → List Transaction → List Session → Machine
-machineOf c log sessions = record { studios = c .studios; log = log; sent = c .sent; applied = c .applied; sessions = sessions }
+machineOf c log sessions = machine (c .studios) log (c .sent) (c .applied) sessions
 
 -- it is enough to show a fact of that machine
 pub by-machine : (c : Control) (m : Memory) (P : Machine → Type 0)
@@ -22,5 +22,5 @@ by-machine c m P f M h = subst P same (f (M .log) (M .sessions) (rw same h))
     same : machineOf c (M .log) (M .sessions) ≡ M
     same = rw (← h .studios, ← h .sent, ← h .applied)
 
-pub log-length : (c : Control) (m : Memory) (M : Machine) → Represents c m M → length (M .log) ≡ c .commits
+pub log-length : (c : Control) (m : Memory) (M : Machine) → Represents c m M → commits M ≡ c .commits
 log-length c m M h = ap length (h .log) ∙ length-transactions (c .commits) (m .log) (firstRecord c)

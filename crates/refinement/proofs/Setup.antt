@@ -1,14 +1,14 @@
--- An accepted setup leaves bytes that stand for the plain machine's fresh state. That fresh memory is zeros is used here only.
+-- Setup: it does what the plain machine's setup does. That fresh memory is zeros is used here only.
 use mathlib.Core.Path.{_≡_, refl, sym, ap, _∙_}
-use mathlib.Core.Bool.{Bool, true, cond}
+use mathlib.Core.Bool.{Bool, true, false, cond, not}
 use mathlib.Core.List.{List, _∷_}
 use Prim.Native.Nat.{ℕ, zero, _*_, _-_, _≤_}
 use native.Mathlib.Omega.{arith}
-use borrow.Author.Tests.{le-leb, eq-eqb}
+use borrow.Author.Tests.{le-leb}
 use lib.Dec.{leb, eqb}
 use lib.ListN.{length, length-map, List·getD-map}
-use Rattle.carts.specs.Bytes.{zeros, u16, within, all, every}
-use Rattle.carts.proofs.TestLaws.{by-cond, all-cons, all-nil, within-low, within-high}
+use Rattle.carts.specs.Bytes.{zeros, u16, within, every}
+use Rattle.carts.proofs.TestLaws.{by-cond, all-cons, all-nil}
 use Rattle.carts.proofs.ZeroLaws.{length-zeros, zero-zeros, part-zeros, zeros-at, zero-drop}
 use Rattle.carts.proofs.KeepLaws.{copy-empty}
 use Rattle.replication.specs.Answer.{done}
@@ -16,15 +16,17 @@ use Rattle.replication.specs.Memory.{Memory, lengthsForm, copyAt, sessionAt, se
 use Rattle.replication.specs.Log.{firstRecord, freshLog}
 use Rattle.replication.specs.Request.{nothing, requestOf}
 use Rattle.replication.specs.Layout.{replicaForm, sessionForm, countsForm}
-use Rattle.replication.specs.Rows.{stopped, unless, lengthsRow, setupRows}
-use Rattle.replication.specs.Calls.{After, controlOf, freshMemory, setup}
+use Rattle.replication.specs.Rows.{stopped, lengthsRow, setupRows}
+use Rattle.replication.specs.Calls as Bytes
+use Rattle.replication.specs.Calls.{After, controlOf, freshMemory}
 use Rattle.replication.specs.declared.control.Control.{Control}
 use Rattle.replication.proofs.Formed.{Formed}
-use Rattle.replication.proofs.RowLaws.{unless-case}
+use Rattle.replication.proofs.RowLaws.{row-passes, unless-case, unless-both}
 use Rattle.replication.proofs.Accepted.{setup-passed}
 use Rattle.replication.proofs.Chains.{end-chain}
-use Rattle.machine.specs.Machine.{session, fresh}
-use Rattle.refinement.specs.Represents.{transactionsFrom, Represents}
+use Rattle.machine.specs.Machine as Plain
+use Rattle.machine.specs.Machine.{Step, session, fresh}
+use Rattle.refinement.specs.Represents.{transactionsFrom, Represents, Simulates}
 use Rattle.refinement.proofs.Transactions.{L-nil}
 use Rattle.refinement.proofs.Sessions.{empty-bytes, empty-request}
 use Rattle.refinement.proofs.Arrays.{Arrays, of-layout}
@@ -105,29 +107,32 @@ module _ (studios : ℕ) (bytes : List ℕ) (few : within 1 4 studios ≡ true) 
     replicas = λ i a b. zeros-copyAt i b ∙ sym (L-nil _);
   }
 
--- what an accepted setup has been given and leaves
-pub record Fresh (studios : ℕ) (bytes : List ℕ) (r : After) : Type 0 where
-  pub low : 1 ≤ studios
-  pub high : studios ≤ 4
-  pub places : length bytes ≡ 16
-  pub represents : Represents (r .control) (r .memory) (fresh studios bytes)
+-- setup on bytes and on the plain machine, where the memories have their lengths: one answer, and accepted, one state
+abbrev Agrees : After → Step → Type 0
+Agrees r p = (r .answer ≡ p .answer) × (r .answer ≡ done 0 → Simulates r p)
 
-pub setup-fresh : (before : Memory) (studios : ℕ) (bytes : List ℕ) → setup before studios bytes .answer ≡ done 0
-    → Fresh studios bytes (setup before studios bytes)
-unfolding setup
-setup-fresh before studios bytes =
-    unless-case (λ (r : After). r .answer ≡ done 0 → Fresh studios bytes r) (stopped (lengthsRow before ∷ setupRows studios bytes)) _ _
-    (λ k _ e. let z : _≡_ {A = ℕ} 0 1 = cc in let no : ⊥ = omega arith in absurd no)
-    (λ e _. let p = setup-passed before studios bytes e in
-    record {
-      low = within-low 1 4 studios (p .few);
-      high = within-high 1 4 studios (p .few);
-      places = p .count;
-      represents = fresh-represents studios bytes (p .few) (p .count) (p .places);
-    })
+module _ (before : Memory) (studios : ℕ) (bytes : List ℕ) where
+  setup-agrees : lengthsForm before ≡ true → Agrees (Bytes.setup before studios bytes) (Plain.setup studios bytes)
+  unfolding Bytes.setup Plain.setup lengthsRow
+  setup-agrees lengths =
+      let right : not (lengthsForm before) ≡ false = rw lengths in
+      let same = row-passes 1 (not (lengthsForm before)) (setupRows studios bytes) right in
+      rw same
+      (unless-both Agrees (stopped (setupRows studios bytes)) _ _ _ _
+      (λ k. (refl, λ e. let z : _≡_ {A = ℕ} 0 1 = cc in absurd (omega arith)))
+      (λ e. let p = setup-passed before studios bytes (same ∙ e) in
+      (refl, λ _. record { answer = refl; output = refl; next = fresh-represents studios bytes (p .few) (p .count) (p .places) })))
 
--- setup accepts what rows 1 and 15 let pass
-pub setup-accepted : (before : Memory) (studios : ℕ) (bytes : List ℕ) → lengthsForm before ≡ true → within 1 4 studios ≡ true → length bytes ≡ 16
-    → every (λ b. leb b studios) bytes ≡ true → setup before studios bytes .answer ≡ done 0
-unfolding setup setupRows lengthsRow stopped unless all
-setup-accepted before studios bytes lengths few n places = rw (lengths, few, eq-eqb (length bytes) 16 n, places)
+  pub setup-answer : lengthsForm before ≡ true → Bytes.setup before studios bytes .answer ≡ Plain.setup studios bytes .answer
+  setup-answer lengths = setup-agrees lengths .0
+
+  -- row 1 lets an accepted setup pass
+  accepted-lengths : Bytes.setup before studios bytes .answer ≡ done 0 → lengthsForm before ≡ true
+  unfolding Bytes.setup
+  accepted-lengths =
+      unless-case (λ (r : After). r .answer ≡ done 0 → lengthsForm before ≡ true) (stopped (lengthsRow before ∷ setupRows studios bytes)) _ _
+      (λ k _ e. let z : _≡_ {A = ℕ} 0 1 = cc in absurd (omega arith))
+      (λ e _. setup-passed before studios bytes e .lengths)
+
+  pub setup-simulates : Bytes.setup before studios bytes .answer ≡ done 0 → Simulates (Bytes.setup before studios bytes) (Plain.setup studios bytes)
+  setup-simulates accepted = setup-agrees (accepted-lengths accepted) .1 accepted

@@ -1,18 +1,16 @@
 -- Every call keeps the layout and does what the plain machine's call does, and so does every list of calls.
-use mathlib.Core.Path.{_≡_, refl, ap}
+use mathlib.Core.Path.{_≡_, refl}
 use mathlib.Core.List.{List, [], _∷_}
 use Rattle.carts.specs.Transaction.{Transaction}
 use Rattle.replication.specs.Memory.{Memory}
-use Rattle.replication.specs.Call.{Call, commit, send, refresh, read, collect}
+use Rattle.replication.specs.Call.{Call, commit, send, refresh, read, collect, run, final}
 use Rattle.replication.specs.Calls as Bytes
 use Rattle.replication.specs.Calls.{After}
 use Rattle.replication.specs.declared.control.Control.{Control}
 use Rattle.machine.specs.Machine as Plain
-use Rattle.machine.specs.Machine.{Session, Machine}
-use Rattle.machine.specs.OneCopy.{Event, event, history}
-use Rattle.machine.proofs.Events.{events}
+use Rattle.machine.specs.Machine.{Session, Machine, Step}
+use Rattle.machine.specs.OneCopy.{history, plainHistory}
 use Rattle.refinement.specs.Represents.{OfLayout, Represents, Simulates}
-use Rattle.refinement.specs.Lists.{afterCalls, machineAfter}
 use Rattle.refinement.proofs.Represented.{machineOf, by-machine}
 use Rattle.refinement.proofs.Send.{send-keeps, send-simulates}
 use Rattle.refinement.proofs.Refresh.{refresh-keeps, refresh-simulates}
@@ -41,20 +39,19 @@ simulates c m M h x = by-machine c m (λ M. Simulates (Bytes.call c m x) (Plain.
     case (collect s out) = collect-simulates c m s out
 
 -- a list of calls: what it leaves, and its answers and outputs
-pub layout-after : (H : List Call) (r : After) → OfLayout (r .control) (r .memory) → OfLayout (afterCalls r H .control) (afterCalls r H .memory)
-unfolding afterCalls
+pub layout-after : (H : List Call) (r : After) → OfLayout (r .control) (r .memory) → OfLayout (Bytes.afterCalls r H .control) (Bytes.afterCalls r H .memory)
+unfolding run final
 layout-after [] r h = h
-layout-after (x ∷ H) r h = layout-after H (Bytes.call (r .control) (r .memory) x) (keeps-layout (r .control) (r .memory) h x)
+layout-after (x ∷ H) r h = layout-after H (Bytes.callAfter r x) (keeps-layout (r .control) (r .memory) h x)
 
-pub represents-after : (H : List Call) (r : After) (M : Machine) → Represents (r .control) (r .memory) M
-    → Represents (afterCalls r H .control) (afterCalls r H .memory) (machineAfter M H)
-unfolding afterCalls machineAfter
-represents-after [] r M h = h
-represents-after (x ∷ H) r M h = represents-after H _ _ (simulates (r .control) (r .memory) M h x .next)
+pub simulates-after : (H : List Call) (r : After) (p : Step) → Simulates r p → Simulates (Bytes.afterCalls r H) (Plain.afterCalls p H)
+unfolding run final
+simulates-after [] r p h = h
+simulates-after (x ∷ H) r p h = simulates-after H _ _ (simulates (r .control) (r .memory) (p .next) (h .next) x)
 
-pub same-history : (H : List Call) (c : Control) (m : Memory) (M : Machine) → Represents c m M → history c m H ≡ events M H
-unfolding history events
-same-history [] c m M h = refl
-same-history (x ∷ H) c m M h =
-    let s = simulates c m M h x in
-    rw (s .answer, s .output) (ap (λ (l : List Event). event x (Plain.call M x .answer) (Plain.call M x .output) ∷ l) (same-history H _ _ _ (s .next)))
+pub same-history : (H : List Call) (r : After) (p : Step) → Simulates r p → history r H ≡ plainHistory p H
+unfolding history plainHistory run
+same-history [] r p h = refl
+same-history (x ∷ H) r p h =
+    let s = simulates (r .control) (r .memory) (p .next) (h .next) x in
+    cc (s .answer, s .output, same-history H (Bytes.callAfter r x) (Plain.call (p .next) x) s)

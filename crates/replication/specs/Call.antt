@@ -1,5 +1,5 @@
--- The five calls of demand 3's lists, as data: what a caller passes.
-use mathlib.Core.List.{List}
+-- The five calls of demand 3's lists, as data: what a caller passes. Lists of them.
+use mathlib.Core.List.{List, [], _∷_}
 use Prim.Native.Nat.{ℕ}
 
 pub data Call : Type 0 where
@@ -13,3 +13,20 @@ pub data Call : Type 0 where
   read : ℕ → List ℕ → List ℕ → Call
   -- session, output
   collect : ℕ → List ℕ → Call
+
+-- a call of a list, what it was given and what it left
+pub record Turn (A : Type 0) : Type 0 where
+  pub given : A
+  pub call : Call
+  pub left : A
+
+-- "The first call of H is given that memory and control, every later one what the call before it left and handed back, after a refusal or a
+-- wait too": a list of calls, for any `does` that says what one call leaves. On bytes, and on the plain machine.
+unfoldable pub run : {A : Type 0} → (A → Call → A) → A → List Call → List (Turn A)
+run does r [] = []
+run does r (x ∷ H) = let left = does r x in record { given = r; call = x; left = left } ∷ run does left H
+
+-- what the last call left, or where there is no call, what the first would have been given
+unfoldable pub final : {A : Type 0} → A → List (Turn A) → A
+final r [] = r
+final r (t ∷ ts) = final (t .left) ts

@@ -147,7 +147,13 @@ call c m (Call.refresh i) = refresh c m i
 call c m (Call.read s request out) = read c m s request out
 call c m (Call.collect s out) = collect c m s out
 
--- a list of calls, each "given the memory and control that the call before left"
-unfoldable pub run : Control → Memory → List Call.Call → List After
-run c m [] = []
-run c m (x ∷ xs) = let r = call c m x in r ∷ run (r .control) (r .memory) xs
+-- a call, given what the call before it left and handed back
+abbrev pub callAfter : After → Call.Call → After
+callAfter r x = call (r .control) (r .memory) x
+
+-- a list of calls, and what it leaves
+abbrev pub run : After → List Call.Call → List (Call.Turn After)
+run r H = Call.run callAfter r H
+
+abbrev pub afterCalls : After → List Call.Call → After
+afterCalls r H = Call.final r (run r H)
