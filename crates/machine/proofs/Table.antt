@@ -1,4 +1,4 @@
--- TABLE. Document 01, "Table to be proved": its twelve cases on the plain machine, outputs included, as one theorem by computation.
+-- TABLE. Document 01, "Table to be proved": its twelve cases, outputs included, and as one theorem by computation on the plain machine.
 use mathlib.Core.Path.{_≡_, refl}
 use mathlib.Core.List.{List, [], _∷_, _++_, map}
 use Prim.Native.Nat.{ℕ}
@@ -6,7 +6,7 @@ use lib.ListN.{take, drop, replicate}
 use Rattle.carts.specs.Bytes.{zeros, u16, u32, u16Bytes, u16s, within, all, every, allZero, pairwise, parts}
 use Rattle.carts.specs.Cart.{cartAt, printable, titleForm, hasTitle, noTitle, hasAudio, noAudio, held}
 use Rattle.carts.specs.Operation.{operationFields, operationForm, operationsOf, made, retitled, recut, withdrawn, meetsCart, effect, actedOn, meets, act, meetsAll, actAll}
-use Rattle.carts.specs.Transaction.{replay, L, recordsUsed}
+use Rattle.carts.specs.Transaction.{Transaction, replay, L, recordsUsed}
 use Rattle.carts.specs.Title.{shownByNumbers, foundByNumbers, sameLetter, titled, titledFrom, titledIn, foundByTitle, theOne, shownByTitle}
 use Rattle.carts.proofs.Samples.{u32Bytes, operation, newCart, withdrawCart, topHourA, longTitle}
 use Rattle.replication.proofs.Samples.{filled, pairs, askNumbers, askTitle}
@@ -17,7 +17,7 @@ use Rattle.replication.specs.Rows.{stopped, unless, setupRows, sessionRow, stud
 use Rattle.replication.specs.Call.{Call, commit, send, refresh, read, collect, run, final}
 use Rattle.replication.specs.Calls.{numberAfter}
 use Rattle.machine.specs.Machine as Machine
-use Rattle.machine.specs.Machine.{libraryOf, afterCalls}
+use Rattle.machine.specs.Machine.{afterCalls}
 use Rattle.machine.specs.OneCopy.{Event, plainHistory}
 
 -- "S = 2; sessions 1 and 2 at studio 1, session 3 at studio 2"
@@ -81,38 +81,39 @@ abbrev pub seen : List Event → List Seen
 seen es = map (λ (e : Event). (e .answer, e .output)) es
 
 -- the answers and outputs of n calls from call i on, counted from 0, of a list from the start
-unfoldable pub calls : List Call → ℕ → ℕ → List Seen
-calls H i n = take n (drop i (seen (plainHistory start H)))
+unfoldable pub calls : (List Call → List Event) → List Call → ℕ → ℕ → List Seen
+calls history H i n = take n (drop i (seen (history H)))
 
-pub record Table : Type 0 where
+-- of any system, by the history of each list of calls from the start, and its log after cases 2 to 10
+pub record Table (history : List Call → List Event) (log : List Transaction) : Type 0 where
   -- "Fresh, session 1 reads [7]: state 0, found 0, zeros."
-  pub case1 : calls (read 1 (askNumbers (7 ∷ [])) buffer ∷ []) 0 1 ≡ (answered 0 0, holding (zeros 80)) ∷ []
+  pub case1 : calls history (read 1 (askNumbers (7 ∷ [])) buffer ∷ []) 0 1 ≡ (answered 0 0, holding (zeros 80)) ∷ []
   -- "Fresh, session 1 commits A: 1."
-  pub case2 : calls morning 0 1 ≡ (done 1, []) ∷ []
+  pub case2 : calls history morning 0 1 ≡ (done 1, []) ∷ []
   -- "+ session 1 reads [7]: waits, 1."
-  pub case3 : calls morning 1 1 ≡ (waits 1, buffer) ∷ []
+  pub case3 : calls history morning 1 1 ≡ (waits 1, buffer) ∷ []
   -- "+ session 2 reads [7]: state 0, found 0."
-  pub case4 : calls morning 2 1 ≡ (answered 0 0, holding (zeros 80)) ∷ []
+  pub case4 : calls history morning 2 1 ≡ (answered 0 0, holding (zeros 80)) ∷ []
   -- "+ session 1 commits A: 4."
-  pub case5 : calls morning 3 1 ≡ (refused 4, []) ∷ []
+  pub case5 : calls history morning 3 1 ≡ (refused 4, []) ∷ []
   -- "+ refresh 1: 11."
-  pub case6 : calls morning 4 1 ≡ (refused 11, []) ∷ []
+  pub case6 : calls history morning 4 1 ≡ (refused 11, []) ∷ []
   -- "+ send 1, refresh 1, collect session 1: state 1, found 1, audio 501."
-  pub case7 : calls morning 5 3 ≡ (done 1, []) ∷ (done 1, []) ∷ (answered 1 1, holding A) ∷ []
+  pub case7 : calls history morning 5 3 ≡ (done 1, []) ∷ (done 1, []) ∷ (answered 1 1, holding A) ∷ []
   pub case7-audio : u32 A 4 ≡ 501
   -- "+ session 1 commits A: 8."
-  pub case8 : calls morning 8 1 ≡ (refused 8, []) ∷ []
+  pub case8 : calls history morning 8 1 ≡ (refused 8, []) ∷ []
   -- "+ session 1 commits [withdraw 7, A]: 2."
-  pub case9 : calls morning 9 1 ≡ (done 2, []) ∷ []
+  pub case9 : calls history morning 9 1 ≡ (done 2, []) ∷ []
   -- "+ session 1 commits [new 8, new 8]: 8, and cart 8 is empty in L(2)."
-  pub case10 : calls morning 10 1 ≡ (refused 8, []) ∷ []
-  pub case10-empty : cartAt (libraryOf (afterCalls start morning .next) 2) 8 ≡ zeros 80
+  pub case10 : calls history morning 10 1 ≡ (refused 8, []) ∷ []
+  pub case10-empty : cartAt (L log 2) 8 ≡ zeros 80
   -- "Title length 65: 6; titles of 64 bytes that differ in the last byte (the digits 1 and 2): a title read finds 1 for each."
-  pub case11 : calls longTitles 0 6 ≡ (refused 6, []) ∷ (done 1, []) ∷ (done 1, []) ∷ (done 1, []) ∷ (answered 1 1, holding (long 1 49)) ∷ (answered 1 1, holding (long 2 50)) ∷ []
+  pub case11 : calls history longTitles 0 6 ≡ (refused 6, []) ∷ (done 1, []) ∷ (done 1, []) ∷ (done 1, []) ∷ (answered 1 1, holding (long 1 49)) ∷ (answered 1 1, holding (long 2 50)) ∷ []
   -- "Two carts with one title: found 2, zeros."
-  pub case12 : calls oneTitle 0 4 ≡ (done 1, []) ∷ (done 1, []) ∷ (done 1, []) ∷ (answered 1 2, holding (zeros 80)) ∷ []
+  pub case12 : calls history oneTitle 0 4 ≡ (done 1, []) ∷ (done 1, []) ∷ (done 1, []) ∷ (answered 1 2, holding (zeros 80)) ∷ []
 
-pub table : Table
+pub table : Table (plainHistory start) (afterCalls start morning .next .log)
 unfolding zeros u16 u32 u16Bytes u16s within all every allZero pairwise parts cartAt printable titleForm hasTitle noTitle hasAudio noAudio held operationFields operationForm operationsOf made retitled recut withdrawn meetsCart effect actedOn meets act meetsAll actAll shownByNumbers foundByNumbers sameLetter titled titledFrom titledIn foundByTitle theOne shownByTitle u32Bytes operation newCart withdrawCart topHourA longTitle noRoom numbersIn requestOf numbersForm requestFields requestForm isWaiting needed foundIn shownFrom stopped unless setupRows sessionRow studioRow sizeForm commitRows sendRows refreshRows readRows collectRows numberAfter replay L recordsUsed Machine.fresh Machine.setup Machine.refusedCommit Machine.commit Machine.send Machine.refresh Machine.answerFrom Machine.block Machine.wait Machine.read Machine.collect Machine.call run final plainHistory start A filled pairs askNumbers askTitle buffer holding morning long longTitles oneTitle calls
 table = record {
   case1 = refl;

@@ -16,5 +16,4 @@ pub mod Commit
 pub mod Setup
 -- all calls, and lists of them
 pub mod Simulation
-pub mod BytesTable
 pub mod Theorems

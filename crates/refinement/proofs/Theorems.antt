@@ -1,12 +1,13 @@
 -- THEOREMS about the calls on bytes, in the words of document 01. H is any list of the five calls. A fresh system is what an accepted setup leaves, for
 -- any S, any studio bytes and any memory before it. What "stand for" means is the record Represents; "of the layout" is the record OfLayout.
-use mathlib.Core.Path.{_≡_, sym, _∙_}
+use mathlib.Core.Path.{_≡_, sym, _∙_, fun-ext, subst₂}
 use mathlib.Core.Bool.{true}
 use mathlib.Core.List.{List, _∷_}
 use Prim.Native.Nat.{ℕ, _≤_}
 use Rattle.carts.specs.Bytes.{zeros}
 use Rattle.replication.specs.Answer.{done}
 use Rattle.replication.specs.Memory.{Memory, lengthsForm, copyAt, nth}
+use Rattle.replication.specs.Log.{firstRecord}
 use Rattle.replication.specs.Call.{Call}
 use Rattle.replication.specs.Calls as Bytes
 use Rattle.replication.specs.Calls.{After, setup, afterCalls}
@@ -15,12 +16,11 @@ use Rattle.machine.specs.Machine as Plain
 use Rattle.machine.specs.Machine.{Machine, libraryOf}
 use Rattle.machine.specs.OneCopy.{history, plainHistory, Demand3}
 use Rattle.machine.proofs.OneCopyOrder.{one-copy}
-use Rattle.machine.proofs.Table.{start, started}
-use Rattle.refinement.specs.Represents.{OfLayout, Represents, Simulates}
+use Rattle.machine.proofs.Table.{start, started, morning, Table, table}
+use Rattle.refinement.specs.Represents.{OfLayout, transactionsFrom, Represents, Simulates}
 use Rattle.refinement.proofs.Represented.{log-length}
 use Rattle.refinement.proofs.Setup as Setup
 use Rattle.refinement.proofs.Simulation as Simulation
-use Rattle.refinement.proofs.BytesTable.{BytesTable, bytes-table}
 
 -- LAYOUT. Every call, accepted, waiting or refused, keeps the layout, from any control and memory of it, also where a copy is no L(n); so does every list.
 pub keeps-layout : (c : Control) (m : Memory) → OfLayout c m → (x : Call) → OfLayout (Bytes.call c m x .control) (Bytes.call c m x .memory)
@@ -71,9 +71,14 @@ demand3 before studios bytes accepted H none =
     rw (answers before studios bytes accepted H)
     (one-copy studios bytes (sym (setup-simulates before studios bytes accepted .answer) ∙ accepted) H none)
 
--- TABLE. The twelve cases hold of the calls on bytes, with their outputs, whatever three memories of the right lengths setup is lent.
-pub twelve : (before : Memory) → lengthsForm before ≡ true → BytesTable (setup before 2 (1 ∷ 1 ∷ 2 ∷ zeros 13))
+-- TABLE. The twelve cases hold of the calls on bytes, with their outputs, whatever three memories of the right lengths setup is lent: from the plain
+-- machine's table, with no byte computed.
+pub twelve : (before : Memory) → lengthsForm before ≡ true →
+    let r = setup before 2 (1 ∷ 1 ∷ 2 ∷ zeros 13) in
+    let c = afterCalls r morning .control in
+    Table (history r) (transactionsFrom (c .commits) (afterCalls r morning .memory .log) (firstRecord c))
 unfolding start
 twelve before lengths =
     let bytes : List ℕ = 1 ∷ 1 ∷ 2 ∷ zeros 13 in
-    bytes-table (setup before 2 bytes) (setup-simulates before 2 bytes (setup-answer before 2 bytes lengths ∙ started))
+    let accepted = setup-answer before 2 bytes lengths ∙ started in
+    subst₂ Table (fun-ext (λ H. sym (answers before 2 bytes accepted H))) (simulates-after before 2 bytes accepted morning .next .log) table
