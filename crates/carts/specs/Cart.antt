@@ -19,6 +19,26 @@ copySize = 10240
 abbrev pub titleSize : ℕ
 titleSize = 64
 
+-- "bytes 2–3 its number; 4–7 audio number; 8–11 length in milliseconds; 12–15 zero", links in a record; "16–79 the title"
+abbrev pub numberAt : ℕ
+numberAt = 2
+
+abbrev pub audioAt : ℕ
+audioAt = 4
+
+abbrev pub lengthAt : ℕ
+lengthAt = 8
+
+abbrev pub linksAt : ℕ
+linksAt = 12
+
+abbrev pub titleAt : ℕ
+titleAt = 16
+
+-- the number of a cart, or of the cart that an operation names
+abbrev pub cartNumber : List ℕ → ℕ
+cartNumber s = u16 s numberAt
+
 -- "cart c begins at byte 80(c − 1) of its copy"
 unfoldable pub cartAt : List ℕ → ℕ → List ℕ
 cartAt copy c = part copy (cartSize * (c - 1)) cartSize
@@ -33,17 +53,17 @@ titleForm n t = all (within 1 titleSize n ∷ every printable (take n t) ∷ all
 
 -- byte 1 and bytes 16–79: a title, or "title length and title zero"
 unfoldable pub hasTitle : List ℕ → Bool
-hasTitle s = titleForm (byte s 1) (part s 16 titleSize)
+hasTitle s = titleForm (byte s 1) (part s titleAt titleSize)
 
 unfoldable pub noTitle : List ℕ → Bool
-noTitle s = all (eqb (byte s 1) 0 ∷ allZero (part s 16 titleSize) ∷ [])
+noTitle s = all (eqb (byte s 1) 0 ∷ allZero (part s titleAt titleSize) ∷ [])
 
 -- bytes 4–11: "audio number, at least 1; length in milliseconds, at least 1", or "audio and length zero"
 unfoldable pub hasAudio : List ℕ → Bool
-hasAudio s = all (leb 1 (u32 s 4) ∷ leb 1 (u32 s 8) ∷ [])
+hasAudio s = all (leb 1 (u32 s audioAt) ∷ leb 1 (u32 s lengthAt) ∷ [])
 
 unfoldable pub noAudio : List ℕ → Bool
-noAudio s = allZero (part s 4 8)
+noAudio s = allZero (part s audioAt (linksAt - audioAt))
 
 -- "Held: byte 0 is 1"; a cart with another byte 0 is in the other state
 unfoldable pub held : List ℕ → Bool
@@ -51,7 +71,7 @@ held cart = eqb (byte cart 0) 1
 
 -- "Held: byte 0 is 1; byte 1 title length; bytes 2–3 its number; 4–7 audio number; 8–11 length; 12–15 zero; 16–79 the title"
 unfoldable pub heldForm : ℕ → List ℕ → Bool
-heldForm c s = all (held s ∷ eqb (u16 s 2) c ∷ hasTitle s ∷ hasAudio s ∷ allZero (part s 12 4) ∷ [])
+heldForm c s = all (held s ∷ eqb (cartNumber s) c ∷ hasTitle s ∷ hasAudio s ∷ allZero (part s linksAt (titleAt - linksAt)) ∷ [])
 
 -- "Empty: 80 zero bytes", or held with number c
 unfoldable pub cartForm : ℕ → List ℕ → Bool

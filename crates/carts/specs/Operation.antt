@@ -4,8 +4,8 @@ use mathlib.Core.List.{List, [], _∷_}
 use Prim.Native.Nat.{ℕ, _*_, _-_, _/_}
 use lib.ListN.{length, set}
 use lib.Dec.{eqb}
-use Rattle.carts.specs.Bytes.{zeros, part, over, byte, u16, within, all, allZero, parts}
-use Rattle.carts.specs.Cart.{cartSize, cartCount, titleSize, cartAt, held, hasTitle, noTitle, hasAudio, noAudio}
+use Rattle.carts.specs.Bytes.{zeros, part, over, byte, within, all, allZero, parts}
+use Rattle.carts.specs.Cart.{cartSize, cartCount, titleSize, audioAt, linksAt, titleAt, cartNumber, cartAt, held, hasTitle, noTitle, hasAudio, noAudio}
 
 -- "Byte 0: 1 new, 2 retitle, 3 re-cut, 4 withdraw"
 abbrev pub isNew : ℕ → Bool
@@ -26,14 +26,14 @@ unfoldable pub operationFields : List ℕ → Bool
 operationFields op =
     let kind = byte op 0 in
     all (within 1 4 kind
-    ∷ within 1 cartCount (u16 op 2)
+    ∷ within 1 cartCount (cartNumber op)
     ∷ cond (isNew kind || isRetitle kind) (hasTitle op) (noTitle op)
     ∷ cond (isNew kind || isRecut kind) (hasAudio op) (noAudio op)
     ∷ [])
 
 -- "As handed in, 12–15 are zero."
 unfoldable pub operationForm : List ℕ → Bool
-operationForm op = all (operationFields op ∷ allZero (part op 12 4) ∷ [])
+operationForm op = all (operationFields op ∷ allZero (part op linksAt (titleAt - linksAt)) ∷ [])
 
 -- the operations in the bytes of a commit
 unfoldable pub operationsOf : List ℕ → List (List ℕ)
@@ -41,15 +41,15 @@ operationsOf bytes = parts cartSize (length bytes / cartSize) bytes
 
 -- "New on an empty cart makes it held, bytes 1–11 and 16–79 taken from the operation"
 unfoldable pub made : List ℕ → List ℕ → List ℕ
-made op cart = over (over (set cart 0 1) 1 11 (part op 1 11)) 16 titleSize (part op 16 titleSize)
+made op cart = over (over (set cart 0 1) 1 (linksAt - 1) (part op 1 (linksAt - 1))) titleAt titleSize (part op titleAt titleSize)
 
 -- "retitle replaces byte 1 and bytes 16–79"
 unfoldable pub retitled : List ℕ → List ℕ → List ℕ
-retitled op cart = over (set cart 1 (byte op 1)) 16 titleSize (part op 16 titleSize)
+retitled op cart = over (set cart 1 (byte op 1)) titleAt titleSize (part op titleAt titleSize)
 
 -- "re-cut replaces bytes 4–11"
 unfoldable pub recut : List ℕ → List ℕ → List ℕ
-recut op cart = over cart 4 8 (part op 4 8)
+recut op cart = over cart audioAt (linksAt - audioAt) (part op audioAt (linksAt - audioAt))
 
 -- "withdraw makes it empty"
 unfoldable pub withdrawn : List ℕ
@@ -73,11 +73,11 @@ actedOn op cart = let changed = effect op cart in cond (meetsCart op cart) chang
 
 -- the operation meets its cart, whose number is in bytes 2–3, in the right state
 unfoldable pub meets : List ℕ → List ℕ → Bool
-meets copy op = meetsCart op (cartAt copy (u16 op 2))
+meets copy op = meetsCart op (cartAt copy (cartNumber op))
 
 -- the copy after the operation
 unfoldable pub act : List ℕ → List ℕ → List ℕ
-act copy op = let c = u16 op 2 in over copy (cartSize * (c - 1)) cartSize (actedOn op (cartAt copy c))
+act copy op = let c = cartNumber op in over copy (cartSize * (c - 1)) cartSize (actedOn op (cartAt copy c))
 
 -- "each operation must meet its cart in the right state .. after the ones before it"
 unfoldable pub meetsAll : List ℕ → List (List ℕ) → Bool

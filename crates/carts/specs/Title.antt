@@ -5,7 +5,7 @@ use Prim.Native.Nat.{ℕ, zero, suc, _+_}
 use lib.ListN.{length, take, drop}
 use lib.Dec.{eqb}
 use Rattle.carts.specs.Bytes.{zeros, part, byte, pairwise}
-use Rattle.carts.specs.Cart.{cartSize, cartCount, cartAt, held}
+use Rattle.carts.specs.Cart.{cartSize, cartCount, titleAt, cartAt, held}
 use Rattle.carts.specs.declared.titles.Found.{Found}
 use Rattle.carts.specs.declared.titles.Found.the-variants.{One, None, Several}
 
@@ -26,7 +26,7 @@ sameLetter a b = eqb a b
 -- "have exactly that title": the cart is held, the lengths are equal, then letter by letter
 unfoldable pub titled : List ℕ → List ℕ → Bool
 titled title cart =
-    let letters = pairwise sameLetter (part cart 16 (length title)) title in
+    let letters = pairwise sameLetter (part cart titleAt (length title)) title in
     held cart && (eqb (byte cart 1) (length title) && letters)
 
 -- the numbers of those of n carts, the first of them cart c, that have the title

@@ -27,6 +27,19 @@ impl Cart {
 
     pub const TITLE_SIZE: usize = 64;
 
+    pub const TITLE_LONGEST: u8 = 64;
+
+    // Where a cart's fields begin, and an operation's; a record has its links where a cart has four zeros.
+    pub const NUMBER_AT: usize = 2;
+
+    pub const AUDIO_AT: usize = 4;
+
+    pub const LENGTH_AT: usize = 8;
+
+    pub const LINKS_AT: usize = 12;
+
+    pub const TITLE_AT: usize = 16;
+
     // The fields in a cart's bytes.
     pub fn from_bytes(s: &[u8]) -> Cart
         requires { ⌜ length (now s) ≡ cartSize ⌝ }
@@ -35,9 +48,9 @@ impl Cart {
         Cart {
             held: is_held(s),
             title_length: bytes::byte_at(s, 1),
-            number: bytes::u16_at(s, 2),
-            audio: bytes::u32_at(s, 4),
-            milliseconds: bytes::u32_at(s, 8),
+            number: bytes::u16_at(s, Cart::NUMBER_AT),
+            audio: bytes::u32_at(s, Cart::AUDIO_AT),
+            milliseconds: bytes::u32_at(s, Cart::LENGTH_AT),
         }
     }
 }
@@ -88,7 +101,8 @@ pub fn is_title_as_asked(s: &[u8], asked: bool) -> bool
     ensures { λ r. ⌜ r ≡ cond asked (hasTitle (now (s .entry))) (noTitle (now (s .entry))) ⌝ }
 {
     let n = s[1];
-    is_as_asked(asked, (1 <= n) & (n <= 64), n == 0) & is_title(&s[16..80], n)
+    is_as_asked(asked, (1 <= n) & (n <= Cart::TITLE_LONGEST), n == 0)
+        & is_title(&s[Cart::TITLE_AT..Cart::SIZE], n)
 }
 
 // Audio number and length are at least 1 where they are asked for, else zero.
@@ -96,8 +110,8 @@ pub fn is_audio_as_asked(s: &[u8], asked: bool) -> bool
     requires { ⌜ length (now s) ≡ cartSize ⌝ }
     ensures { λ r. ⌜ r ≡ cond asked (hasAudio (now (s .entry))) (noAudio (now (s .entry))) ⌝ }
 {
-    let audio = bytes::u32_at(s, 4);
-    let milliseconds = bytes::u32_at(s, 8);
+    let audio = bytes::u32_at(s, Cart::AUDIO_AT);
+    let milliseconds = bytes::u32_at(s, Cart::LENGTH_AT);
     is_as_asked(
         asked,
         (1 <= audio) & (1 <= milliseconds),
@@ -111,10 +125,10 @@ fn is_held_cart(s: &[u8], c: u32) -> bool
     ensures { λ r. ⌜ r ≡ heldForm c (now (s .entry)) ⌝ }
 {
     is_held(s)
-        & (bytes::u16_at(s, 2) == c)
+        & (bytes::u16_at(s, Cart::NUMBER_AT) == c)
         & is_title_as_asked(s, true)
         & is_audio_as_asked(s, true)
-        & bytes::all_zero(&s[12..16])
+        & bytes::all_zero(&s[Cart::LINKS_AT..Cart::TITLE_AT])
 }
 
 // An empty cart, or a held one of number c.

@@ -7,8 +7,8 @@ ghost use mathlib.Core.Bool.{true, false, cond, not};
 ghost use Prim.Native.Nat.{_≤_, _/_};
 ghost use lib.ListN.{length};
 ghost use lib.Dec.{eqb};
-ghost use Rattle.carts.specs.Bytes.{byte, u16, every, parts};
-ghost use Rattle.carts.specs.Cart.{cartSize, cartCount, copySize, cartAt, held};
+ghost use Rattle.carts.specs.Bytes.{byte, every, parts};
+ghost use Rattle.carts.specs.Cart.{cartSize, cartCount, copySize, cartNumber, cartAt, held};
 ghost use Rattle.carts.specs.Operation.{isNew, isWithdraw, operationFields, operationForm, operationsOf, made, retitled, recut, withdrawn, actedOn, meets, act, meetsAll, actAll};
 
 // The operation has the fields of its kind, as it is stored: bytes 12 to 15 are free.
@@ -19,7 +19,7 @@ pub fn has_fields(op: &[u8]) -> bool
     let kind = bytes::byte_at(op, 0);
     let new = kind == 1;
     bytes::is_within(1, 4, kind)
-        & bytes::is_within(1, Cart::COUNT, bytes::u16_at(op, 2))
+        & bytes::is_within(1, Cart::COUNT, bytes::u16_at(op, Cart::NUMBER_AT))
         & cart::is_title_as_asked(op, new | (kind == 2))
         & cart::is_audio_as_asked(op, new | (kind == 3))
 }
@@ -29,7 +29,7 @@ pub fn is_operation(op: &[u8]) -> bool
     requires { ⌜ length (now op) ≡ cartSize ⌝ }
     ensures { λ r. ⌜ r ≡ operationForm (now (op .entry)) ⌝ }
 {
-    has_fields(op) & bytes::all_zero(&op[12..16])
+    has_fields(op) & bytes::all_zero(&op[Cart::LINKS_AT..Cart::TITLE_AT])
 }
 
 // Each operation is of its form, as it is handed in.
@@ -57,10 +57,10 @@ fn is_right_state(kind: u8, held: bool) -> bool
 // The operation meets its cart in the right state.
 pub fn meets(copy: &[u8], op: &[u8]) -> bool
     requires { ⌜ (length (now copy) ≡ copySize) × (length (now op) ≡ cartSize) ⌝ }
-    requires { ⌜ (1 ≤ u16 (now op) 2) × (u16 (now op) 2 ≤ cartCount) ⌝ }
+    requires { ⌜ (1 ≤ cartNumber (now op)) × (cartNumber (now op) ≤ cartCount) ⌝ }
     ensures { λ r. ⌜ r ≡ meets (now (copy .entry)) (now (op .entry)) ⌝ }
 {
-    let held = cart::is_held(cart::cart_at(copy, bytes::u16_at(op, 2)));
+    let held = cart::is_held(cart::cart_at(copy, bytes::u16_at(op, Cart::NUMBER_AT)));
     is_right_state(op[0], held)
 }
 
@@ -70,8 +70,11 @@ fn make(cart: &mut [u8], op: &[u8])
     ensures { λ _. ⌜ now (cart .exit) ≡ made (now (op .entry)) (now (cart .entry)) ⌝ }
 {
     cart[0] = 1;
-    bytes::copy_all(&mut cart[1..12], &op[1..12]);
-    bytes::copy_all(&mut cart[16..80], &op[16..80]);
+    bytes::copy_all(&mut cart[1..Cart::LINKS_AT], &op[1..Cart::LINKS_AT]);
+    bytes::copy_all(
+        &mut cart[Cart::TITLE_AT..Cart::SIZE],
+        &op[Cart::TITLE_AT..Cart::SIZE],
+    );
 }
 
 // Retitle: the cart has the operation's title.
@@ -80,7 +83,10 @@ fn retitle(cart: &mut [u8], op: &[u8])
     ensures { λ _. ⌜ now (cart .exit) ≡ retitled (now (op .entry)) (now (cart .entry)) ⌝ }
 {
     cart[1] = op[1];
-    bytes::copy_all(&mut cart[16..80], &op[16..80]);
+    bytes::copy_all(
+        &mut cart[Cart::TITLE_AT..Cart::SIZE],
+        &op[Cart::TITLE_AT..Cart::SIZE],
+    );
 }
 
 // Re-cut: the cart has the operation's audio and length.
@@ -88,7 +94,10 @@ fn re_cut(cart: &mut [u8], op: &[u8])
     requires { ⌜ (length (now cart) ≡ cartSize) × (length (now op) ≡ cartSize) ⌝ }
     ensures { λ _. ⌜ now (cart .exit) ≡ recut (now (op .entry)) (now (cart .entry)) ⌝ }
 {
-    bytes::copy_all(&mut cart[4..12], &op[4..12]);
+    bytes::copy_all(
+        &mut cart[Cart::AUDIO_AT..Cart::LINKS_AT],
+        &op[Cart::AUDIO_AT..Cart::LINKS_AT],
+    );
 }
 
 // Withdraw: the cart is empty.
@@ -124,10 +133,10 @@ fn act_on(cart: &mut [u8], op: &[u8])
 // The operation acts on a copy: its cart is lent on as a part.
 pub fn apply(copy: &mut [u8], op: &[u8])
     requires { ⌜ (length (now copy) ≡ copySize) × (length (now op) ≡ cartSize) ⌝ }
-    requires { ⌜ (1 ≤ u16 (now op) 2) × (u16 (now op) 2 ≤ cartCount) ⌝ }
+    requires { ⌜ (1 ≤ cartNumber (now op)) × (cartNumber (now op) ≤ cartCount) ⌝ }
     ensures { λ _. ⌜ now (copy .exit) ≡ act (now (copy .entry)) (now (op .entry)) ⌝ }
 {
-    let c = bytes::u16_at(op, 2);
+    let c = bytes::u16_at(op, Cart::NUMBER_AT);
     let start = Cart::SIZE * (c as usize - 1);
     let end = start + Cart::SIZE;
     act_on(&mut copy[start..end], op);
@@ -162,10 +171,10 @@ pub fn apply_all(copy: &mut [u8], ops: &[u8])
 // Cart c is held after the operation; `held` says whether it was before.
 fn is_held_then(held: bool, op: &[u8], c: u32) -> bool
     requires { ⌜ length (now op) ≡ cartSize ⌝ }
-    ensures { λ r. ⌜ r ≡ cond (eqb (u16 (now (op .entry)) 2) c) (cond (isNew (byte (now (op .entry)) 0)) true (cond (isWithdraw (byte (now (op .entry)) 0)) false held)) held ⌝ }
+    ensures { λ r. ⌜ r ≡ cond (eqb (cartNumber (now (op .entry))) c) (cond (isNew (byte (now (op .entry)) 0)) true (cond (isWithdraw (byte (now (op .entry)) 0)) false held)) held ⌝ }
 {
     let kind = op[0];
-    if bytes::u16_at(op, 2) != c {
+    if bytes::u16_at(op, Cart::NUMBER_AT) != c {
         return held;
     }
     if kind == 1 {
@@ -204,7 +213,7 @@ pub fn meets_all(copy: &[u8], ops: &[u8]) -> bool
     while i < count {
         let start = Cart::SIZE * i;
         let op = &ops[start..start + Cart::SIZE];
-        let held = is_held_after(copy, ops, i, bytes::u16_at(op, 2));
+        let held = is_held_after(copy, ops, i, bytes::u16_at(op, Cart::NUMBER_AT));
         ok &= is_right_state(op[0], held);
         i += 1;
     }

@@ -49,7 +49,7 @@ pub fn is_titled(cart: &[u8], title: &[u8]) -> bool
     if bytes::byte_at(cart, 1) as usize != title.len() {
         return false;
     }
-    are_same_letters(&cart[16..16 + title.len()], title)
+    are_same_letters(&cart[Cart::TITLE_AT..Cart::TITLE_AT + title.len()], title)
 }
 
 // The carts of a copy that have the title.
