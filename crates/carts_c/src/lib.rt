@@ -1,4 +1,4 @@
-// Scans of carts, exported for the benchmark in rust/bench-carts.
+// Scans of carts, exported for the benchmark in rust/bench.
 ghost use mathlib.Core.Path.{_≡_};
 ghost use mathlib.Core.Bool.{_&&_};
 ghost use lib.ListN.{length};

@@ -1,12 +1,13 @@
 //! Before anything is timed: engine, simulator and floor must agree on what is timed, and on damaged memory.
 
-use crate::call::{Call, simulate};
-use crate::wall::{Memory, Wall};
-use crate::{engine, floor};
+use crate::call::{Call, play, simulate};
+use crate::floor;
+use crate::memory::Memory;
+use crate::wall::Wall;
 use simulator::{Control, DONE, REFUSED};
 
 fn of_layout(memory: &mut Memory, control: &Control) -> bool {
-    let by_engine = engine::play(&Call::Layout, memory, control, &mut []).kind == DONE;
+    let by_engine = play(&Call::Layout, memory, control, &mut []).kind == DONE;
     let by_simulator = simulate(&Call::Layout, memory, control, &mut []).kind == DONE;
     let by_floor = floor::is_layout(&memory.library, &memory.log, &memory.sessions, control);
     assert_eq!(by_engine, by_simulator, "engine and simulator differ on the layout");
@@ -18,7 +19,7 @@ fn of_layout(memory: &mut Memory, control: &Control) -> bool {
 pub fn on_call(name: &str, call: &Call, wall: &Wall) {
     let (mut one, mut other) = (wall.clone(), wall.clone());
     let (mut shown, mut expected) = ([9; 2560], [9; 2560]);
-    let by_engine = engine::play(call, &mut one.memory, &wall.control, &mut shown);
+    let by_engine = play(call, &mut one.memory, &wall.control, &mut shown);
     let by_simulator = simulate(call, &mut other.memory, &wall.control, &mut expected);
     assert_eq!(by_engine, by_simulator, "{name}: answers differ");
     assert_ne!(by_engine.kind, REFUSED, "{name}: refused by {}", by_engine.value);
@@ -60,7 +61,7 @@ pub fn on_layout(wall: &Wall) -> u32 {
 
 /// Engine and floor alone: the simulator is slow.
 fn of_layout_by_two(memory: &mut Memory, control: &Control) {
-    let by_engine = engine::play(&Call::Layout, memory, control, &mut []).kind == DONE;
+    let by_engine = play(&Call::Layout, memory, control, &mut []).kind == DONE;
     let by_floor = floor::is_layout(&memory.library, &memory.log, &memory.sessions, control);
     assert_eq!(by_engine, by_floor, "engine and floor differ on the layout");
 }
@@ -72,8 +73,7 @@ fn byte(memory: &mut Memory, at: usize) -> &mut u8 {
 
 fn damaged_controls(control: &Control) -> Vec<Control> {
     let mut all = Vec::new();
-    for value in [0, 1, 2, 3, 4, 5, 31, 32, 33, 59, 60, 61, 503, 504, 505, 511, 512, 513, u32::MAX]
-    {
+    for value in [0, 1, 2, 3, 4, 5, 31, 32, 33, 59, 60, 61, 503, 504, 505, 511, 512, 513, u32::MAX] {
         let with = |change: &dyn Fn(&mut Control)| {
             let mut damaged = *control;
             change(&mut damaged);

@@ -1,5 +1,7 @@
 //! The bars: ratios that the engine must not pass, and whether it does.
 
+use crate::states::Kind;
+
 pub struct Bar {
     what: &'static str,
     most: f64,
@@ -9,7 +11,7 @@ pub struct Bar {
 }
 
 impl Bar {
-    pub fn new(what: &'static str, most: f64) -> Bar {
+    fn new(what: &'static str, most: f64) -> Bar {
         Bar { what, most, worst: 0.0, at: String::new() }
     }
 
@@ -20,9 +22,38 @@ impl Bar {
         }
     }
 
-    pub fn print(&self) {
+    fn print(&self) {
         let verdict = if self.worst <= self.most { "met" } else { "MISSED" };
         let Bar { what, most, worst, at } = self;
         println!("  {verdict:<7} {worst:>5.2}  at most {most:.1}  {what} ({at})");
+    }
+}
+
+pub struct Bars {
+    pub layout: Bar,
+    pub calls: [(Kind, Bar); 3],
+    pub setup: Bar,
+}
+
+impl Bars {
+    pub fn new() -> Bars {
+        Bars {
+            layout: Bar::new("layout test / floor, full memory", 1.5),
+            calls: [
+                (Kind::Other, Bar::new("send, read, collect / layout test", 1.1)),
+                (Kind::Write, Bar::new("commit, refresh / layout test", 1.3)),
+                (Kind::Title, Bar::new("read, collect by title / layout test", 1.3)),
+            ],
+            setup: Bar::new("setup / memset of 93,440 bytes", 1.5),
+        }
+    }
+
+    pub fn print(&self) {
+        println!("\nBars");
+        self.layout.print();
+        for (_, bar) in &self.calls {
+            bar.print();
+        }
+        self.setup.print();
     }
 }

@@ -1,6 +1,6 @@
-//! A call with its arguments, and the bytes of operations and requests.
+//! A call with its arguments, played by the engine or by the simulator.
 
-use crate::wall::Memory;
+use crate::memory::Memory;
 use simulator::{Answer, Control, DONE, Outcome, UNIT};
 
 pub enum Call {
@@ -13,77 +13,38 @@ pub enum Call {
     Collect { session: u32 },
 }
 
+/// Plays a call by one of the two crates that have the six functions, or the layout test by `$layout`.
+macro_rules! play {
+    ($by:ident, $layout:expr, $call:ident, $memory:ident, $control:ident, $output:ident) => {{
+        let Memory { library, log, sessions } = $memory;
+        let control = *$control;
+        match $call {
+            Call::Layout => $layout(library, log, sessions, control),
+            Call::Setup { studios, places } => $by::setup(library, log, sessions, *studios, places),
+            Call::Commit { session, operations } => $by::commit(library, log, sessions, control, *session, operations),
+            Call::Send { studio } => $by::send(library, log, sessions, control, *studio),
+            Call::Refresh { studio } => $by::refresh(library, log, sessions, control, *studio),
+            Call::Read { session, request } => $by::read(library, log, sessions, control, *session, request, $output),
+            Call::Collect { session } => $by::collect(library, log, sessions, control, *session, $output),
+        }
+    }};
+}
+
+pub type Player = fn(&Call, &mut Memory, &Control, &mut [u8]) -> Answer;
+
+/// The call, played by the engine.
+pub fn play(call: &Call, memory: &mut Memory, control: &Control, output: &mut [u8]) -> Answer {
+    play!(linked, linked::layout, call, memory, control, output)
+}
+
 /// The call, played by the simulator.
 pub fn simulate(call: &Call, memory: &mut Memory, control: &Control, output: &mut [u8]) -> Answer {
-    let Memory { library, log, sessions } = memory;
-    let control = *control;
-    match call {
-        Call::Layout if simulator::of_layout(library, log, sessions, &control) => {
-            Answer { kind: DONE, control, ..Answer::default() }
-        }
-        Call::Layout => Outcome::Refused(2).with(control),
-        Call::Setup { studios, places } => {
-            simulator::setup(library, log, sessions, *studios, places)
-        }
-        Call::Commit { session, operations } => {
-            simulator::commit(library, log, sessions, control, *session, operations)
-        }
-        Call::Send { studio } => simulator::send(library, log, sessions, control, *studio),
-        Call::Refresh { studio } => simulator::refresh(library, log, sessions, control, *studio),
-        Call::Read { session, request } => {
-            simulator::read(library, log, sessions, control, *session, request, output)
-        }
-        Call::Collect { session } => {
-            simulator::collect(library, log, sessions, control, *session, output)
-        }
+    play!(simulator, simulated_layout, call, memory, control, output)
+}
+
+fn simulated_layout(library: &[u8], log: &[u8], sessions: &[u8], control: Control) -> Answer {
+    match simulator::of_layout(library, log, sessions, &control) {
+        true => Answer { kind: DONE, control, ..Answer::default() },
+        false => Outcome::Refused(2).with(control),
     }
-}
-
-/// A title of a length: letters that all carts share, but for the number at its end.
-pub fn title(cart: usize, length: usize) -> Vec<u8> {
-    let number = format!("{cart:03}");
-    let mut letters = b"Sponsor's jingle for the breakfast show, long version with outro ".to_vec();
-    letters.truncate(length - number.len());
-    letters.extend(number.bytes());
-    letters
-}
-
-fn unit(kind: u8, cart: usize, audio: u32, letters: &[u8]) -> [u8; UNIT] {
-    let mut unit = [0; UNIT];
-    unit[0] = kind;
-    unit[1] = letters.len() as u8;
-    unit[2..4].copy_from_slice(&(cart as u16).to_le_bytes());
-    unit[4..8].copy_from_slice(&audio.to_le_bytes());
-    unit[8..12].copy_from_slice(&(audio * 8).to_le_bytes());
-    unit[16..16 + letters.len()].copy_from_slice(letters);
-    unit
-}
-
-pub fn new(cart: usize, letters: &[u8]) -> [u8; UNIT] {
-    unit(1, cart, 500 + cart as u32, letters)
-}
-
-pub fn retitle(cart: usize, letters: &[u8]) -> [u8; UNIT] {
-    unit(2, cart, 0, letters)
-}
-
-pub fn recut(cart: usize, audio: u32) -> [u8; UNIT] {
-    unit(3, cart, audio, &[])
-}
-
-pub fn withdraw(cart: usize) -> [u8; UNIT] {
-    unit(4, cart, 0, &[])
-}
-
-pub fn by_numbers(count: usize) -> [u8; UNIT] {
-    let mut request = unit(1, 0, 0, &[]);
-    request[1] = count as u8;
-    for (i, place) in request[16..].chunks_exact_mut(2).take(count).enumerate() {
-        place[0] = (i * 37 % 128 + 1) as u8;
-    }
-    request
-}
-
-pub fn by_title(letters: &[u8]) -> [u8; UNIT] {
-    unit(2, 0, 0, letters)
 }

@@ -7,9 +7,7 @@
 //! an offset that depends on n. Cart numbers of a waiting read are tested the same way in words of 16 bits.
 
 use crate::lanes::Lanes;
-use simulator::{
-    CARTS, COPY, Control, LIBRARY, LOG, RECORDS, SESSION_MEMORY, STUDIOS, UNIT, WINDOW,
-};
+use simulator::{CARTS, COPY, Control, LIBRARY, LOG, RECORDS, SESSION_MEMORY, STUDIOS, UNIT, WINDOW};
 
 type Unit = [u8; UNIT];
 
@@ -56,8 +54,7 @@ fn u64_at(bytes: &[u8], at: usize) -> u64 {
 #[inline(always)]
 fn title(unit: &Unit, n: u8) -> Lanes {
     let head = usize::from(n);
-    let wrong =
-        |at| Lanes::load(unit, 16 + at).outside(LETTER_FROM.at(head, at), LETTER_SPAN.at(head, at));
+    let wrong = |at| Lanes::load(unit, 16 + at).outside(LETTER_FROM.at(head, at), LETTER_SPAN.at(head, at));
     (wrong(0) | wrong(16)) | (wrong(32) | wrong(48))
 }
 
@@ -65,9 +62,7 @@ fn title(unit: &Unit, n: u8) -> Lanes {
 #[inline(always)]
 fn numbers(unit: &Unit, n: u8) -> Lanes {
     let head = 2 * usize::from(n);
-    let wrong = |at| {
-        Lanes::load(unit, 16 + at).outside_u16(NUMBER_FROM.at(head, at), NUMBER_SPAN.at(head, at))
-    };
+    let wrong = |at| Lanes::load(unit, 16 + at).outside_u16(NUMBER_FROM.at(head, at), NUMBER_SPAN.at(head, at));
     (wrong(0) | wrong(16)) | (wrong(32) | wrong(48))
 }
 
@@ -103,6 +98,21 @@ fn copy(bytes: &[u8]) -> bool {
     ok & bits.is_zero()
 }
 
+/// What is wrong with an operation's title, and whether its other fields are right, bytes 12 to 15 apart.
+#[inline(always)]
+fn operation(unit: &Unit) -> (Lanes, bool) {
+    let (low, high) = (u64_at(unit, 0), u64_at(unit, 8));
+    let kind = (low as u32) & 0xff;
+    let n = unit[1];
+    let has_title = kind <= 2;
+    let has_audio = kind & 1 != 0;
+    let ok = (kind.wrapping_sub(1) < 4)
+        & (((low as u32) >> 16).wrapping_sub(1) < CARTS as u32)
+        & (((n != 0) == has_title) & (n <= 64))
+        & (((low >> 32 != 0) == has_audio) & ((high as u32 != 0) == has_audio));
+    (title(unit, n), ok)
+}
+
 /// The records in use hold operations, and their chain is one of so many commits.
 #[inline(always)]
 fn records(bytes: &[u8], commits: u32) -> bool {
@@ -115,16 +125,11 @@ fn records(bytes: &[u8], commits: u32) -> bool {
     let mut firsts = 0u32;
     for unit in bytes.as_chunks::<UNIT>().0 {
         place += 1;
-        let (low, high) = (u64_at(unit, 0), u64_at(unit, 8));
-        let kind = (low as u32) & 0xff;
-        let n = unit[1];
-        let has_title = kind <= 2;
-        let has_audio = kind & 1 != 0;
-        ok &= (kind.wrapping_sub(1) < 4) & (((low as u32) >> 16).wrapping_sub(1) < CARTS as u32);
-        ok &= ((n != 0) == has_title) & (n <= 64);
-        ok &= ((low >> 32 != 0) == has_audio) & ((high as u32 != 0) == has_audio);
-        bits = bits | title(unit, n);
+        let (letters, is_right) = operation(unit);
+        bits = bits | letters;
+        ok &= is_right;
 
+        let high = u64_at(unit, 8);
         let next_operation = (high >> 32) as u32 & 0xffff;
         let next_transaction = (high >> 48) as u32;
         ok &= if is_first { claimed == place } else { next_transaction == 0 };
@@ -156,14 +161,9 @@ fn library(bytes: &[u8], studios: u32) -> bool {
 #[inline(always)]
 fn session(unit: &Unit, studio: u32, commits: u32) -> bool {
     let (kind, n) = (unit[0], unit[1]);
-    let by_title =
-        title(unit, n).is_zero() & (n <= 64) & ((n != 0) == (kind == 2)) & (kind & 1 == 0);
+    let by_title = title(unit, n).is_zero() & (n <= 64) & ((n != 0) == (kind == 2)) & (kind & 1 == 0);
     let by_numbers = numbers(unit, n).is_zero() & (n.wrapping_sub(1) < 32) & (kind == 1);
-    let used = (by_title | by_numbers)
-        & (kind <= 2)
-        & (u16_at(unit, 2) <= commits)
-        & (u64_at(unit, 0) >> 32 == 0)
-        & (u64_at(unit, 8) == 0);
+    let used = (by_title | by_numbers) & (kind <= 2) & (u16_at(unit, 2) <= commits) & (u64_at(unit, 0) >> 32 == 0) & (u64_at(unit, 8) == 0);
     if studio == 0 { zeros(unit) } else { used }
 }
 
@@ -180,8 +180,7 @@ fn sessions(bytes: &[u8], control: &Control) -> bool {
 fn counts(control: &Control) -> bool {
     let mut ok = (1..=STUDIOS as u32).contains(&control.studios);
     for (i, (&sent, &applied)) in (0..).zip(control.sent.iter().zip(&control.applied)) {
-        let counted =
-            (applied <= sent) & (sent <= control.commits) & (sent.wrapping_sub(applied) <= WINDOW);
+        let counted = (applied <= sent) & (sent <= control.commits) & (sent.wrapping_sub(applied) <= WINDOW);
         ok &= if i < control.studios { counted } else { sent | applied == 0 };
     }
     ok
@@ -189,20 +188,9 @@ fn counts(control: &Control) -> bool {
 
 /// Lengths are right, and control and memory are of the layout.
 #[inline(never)]
-pub fn is_layout(
-    library_memory: &[u8],
-    log_memory: &[u8],
-    session_memory: &[u8],
-    control: &Control,
-) -> bool {
-    let lengths = library_memory.len() == LIBRARY
-        && log_memory.len() == LOG
-        && session_memory.len() == SESSION_MEMORY;
-    lengths
-        && (counts(control)
-            & library(library_memory, control.studios)
-            & log(log_memory, control)
-            & sessions(session_memory, control))
+pub fn is_layout(library_memory: &[u8], log_memory: &[u8], session_memory: &[u8], control: &Control) -> bool {
+    let lengths = library_memory.len() == LIBRARY && log_memory.len() == LOG && session_memory.len() == SESSION_MEMORY;
+    lengths && (counts(control) & library(library_memory, control.studios) & log(log_memory, control) & sessions(session_memory, control))
 }
 
 /// The library's part of the test alone.
@@ -221,4 +209,29 @@ pub fn is_log(log_memory: &[u8], control: &Control) -> bool {
 #[inline(never)]
 pub fn are_sessions(session_memory: &[u8], control: &Control) -> bool {
     sessions(session_memory, control)
+}
+
+/// Every byte is zero.
+#[inline(never)]
+pub fn is_zero(bytes: &[u8]) -> bool {
+    zeros(bytes)
+}
+
+/// The bytes are those of a copy.
+#[inline(never)]
+pub fn is_copy(bytes: &[u8]) -> bool {
+    bytes.len() == COPY && copy(bytes)
+}
+
+/// Each unit is an operation as handed in.
+#[inline(never)]
+pub fn are_operations(bytes: &[u8]) -> bool {
+    let mut bits = Lanes::zero();
+    let mut ok = true;
+    for unit in bytes.as_chunks::<UNIT>().0 {
+        let (letters, is_right) = operation(unit);
+        bits = bits | letters;
+        ok &= is_right & (u64_at(unit, 8) >> 32 == 0);
+    }
+    ok & bits.is_zero()
 }

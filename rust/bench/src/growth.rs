@@ -1,8 +1,9 @@
 //! How the cost of a call grows: with the transactions to walk along, and with the cart numbers asked.
 
-use crate::call::{self, Call};
+use crate::call::Call;
 use crate::clock::Race;
 use crate::measure::{self, Timing};
+use crate::units;
 use crate::wall::{self, Wall};
 use std::rc::Rc;
 
@@ -34,7 +35,7 @@ pub fn refresh(race: &mut Race, wall: &Wall) -> Vec<Point> {
 pub fn commit(race: &mut Race) -> Vec<Point> {
     let mut at = |each: usize| {
         let wall = Wall::full(504, each);
-        let operations = call::retitle(1, &call::title(1, 64)).to_vec();
+        let operations = units::retitle(1, &units::title(1, 64)).to_vec();
         let commits = wall.control.commits;
         point(race, commits, &wall, Call::Commit { session: wall::READER, operations })
     };
@@ -44,7 +45,7 @@ pub fn commit(race: &mut Race) -> Vec<Point> {
 /// Read by how many numbers are asked.
 pub fn numbers(race: &mut Race, wall: &Wall) -> Vec<Point> {
     let mut at = |count: u32| {
-        let request = call::by_numbers(count as usize);
+        let request = units::by_numbers(count as usize);
         point(race, count, wall, Call::Read { session: wall::READER, request })
     };
     [1, 2, 4, 8, 16, 32].map(&mut at).into()

@@ -1,16 +1,16 @@
 //! What is entered into the race: calls by engine and simulator, the floor and its parts, setup.
 
-use crate::call::{Call, simulate};
+use crate::call::{Call, Player, play, simulate};
 use crate::clock::{Entry, Race};
+use crate::memory::Memory;
+use crate::states::State;
 use crate::undo::Undo;
-use crate::wall::{Memory, Wall};
-use crate::{agree, engine, floor};
-use simulator::{Answer, Control};
+use crate::wall::Wall;
+use crate::{agree, floor};
+use simulator::Control;
 use std::cell::RefCell;
 use std::hint::black_box;
 use std::rc::Rc;
-
-type Player = fn(&Call, &mut Memory, &Control, &mut [u8]) -> Answer;
 
 /// A wall and a place for output, lent to those that are timed on it in turn.
 pub struct Lent {
@@ -51,13 +51,7 @@ fn undo_of(call: &Call, shared: &Shared) -> Undo {
     Undo::between(&mut before.memory, &mut after.memory)
 }
 
-fn add_call(
-    race: &mut Race,
-    player: Player,
-    call: &Rc<Call>,
-    undo: &Rc<Undo>,
-    shared: &Shared,
-) -> Entry {
+fn add_call(race: &mut Race, player: Player, call: &Rc<Call>, undo: &Rc<Undo>, shared: &Shared) -> Entry {
     let (call, undo, shared) = (Rc::clone(call), Rc::clone(undo), Rc::clone(shared));
     race.add(move || {
         let Lent { wall, output } = &mut *shared.borrow_mut();
@@ -68,8 +62,7 @@ fn add_call(
 
 fn add_undo(race: &mut Race, undo: &Rc<Undo>, shared: &Shared) -> Option<Entry> {
     let (undo, shared) = (Rc::clone(undo), Rc::clone(shared));
-    undo.is_needed()
-        .then(|| race.add(move || black_box(&undo).run(&mut shared.borrow_mut().wall.memory)))
+    undo.is_needed().then(|| race.add(move || black_box(&undo).run(&mut shared.borrow_mut().wall.memory)))
 }
 
 /// A call that must be accepted, by engine and simulator.
@@ -78,7 +71,7 @@ pub fn both(race: &mut Race, name: &str, call: &Rc<Call>, shared: &Shared) -> Bo
     let undo = Rc::new(undo_of(call, shared));
     let back = add_undo(race, &undo, shared);
     let mut timing = |player| Timing { call: add_call(race, player, call, &undo, shared), back };
-    Both { engine: timing(engine::play), simulator: timing(simulate) }
+    Both { engine: timing(play), simulator: timing(simulate) }
 }
 
 /// A call that must be accepted, by the engine alone.
@@ -86,12 +79,12 @@ pub fn engine(race: &mut Race, name: &str, call: &Rc<Call>, shared: &Shared) -> 
     agree::on_call(name, call, &shared.borrow().wall);
     let undo = Rc::new(undo_of(call, shared));
     let back = add_undo(race, &undo, shared);
-    Timing { call: add_call(race, engine::play, call, &undo, shared), back }
+    Timing { call: add_call(race, play, call, &undo, shared), back }
 }
 
 /// The engine's layout test, also of memory that is not of the layout.
 pub fn layout(race: &mut Race, shared: &Shared) -> Timing {
-    let call = add_call(race, engine::play, &Rc::new(Call::Layout), &Rc::default(), shared);
+    let call = add_call(race, play, &Rc::new(Call::Layout), &Rc::default(), shared);
     Timing { call, back: None }
 }
 
@@ -121,6 +114,21 @@ impl Layout {
     }
 }
 
+/// A state's layout test and calls in the race.
+pub struct Measured {
+    pub layout: Layout,
+    pub calls: Vec<Both>,
+}
+
+impl Measured {
+    pub fn enter(race: &mut Race, state: &State) -> Measured {
+        let shared = share(&state.wall);
+        let layout = Layout::enter(race, &shared);
+        let calls = state.calls.iter().map(|(name, _, call)| both(race, name, call, &shared)).collect();
+        Measured { layout, calls }
+    }
+}
+
 /// Setup, and clearing the same memory by memset. Nothing is put back.
 pub fn setup(race: &mut Race, wall: &Wall) -> (Both, Entry) {
     let shared = share(wall);
@@ -128,9 +136,8 @@ pub fn setup(race: &mut Race, wall: &Wall) -> (Both, Entry) {
     let call = Rc::new(Call::Setup { studios: 4, places });
     agree::on_call("setup", &call, wall);
     let nothing = Rc::default();
-    let mut timing =
-        |player| Timing { call: add_call(race, player, &call, &nothing, &shared), back: None };
-    let both = Both { engine: timing(engine::play), simulator: timing(simulate) };
+    let mut timing = |player| Timing { call: add_call(race, player, &call, &nothing, &shared), back: None };
+    let both = Both { engine: timing(play), simulator: timing(simulate) };
     let clear = race.add(move || {
         let mut lent = shared.borrow_mut();
         let Memory { library, log, sessions } = black_box(&mut *lent.wall.memory);

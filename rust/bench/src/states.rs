@@ -1,6 +1,7 @@
 //! The states that are measured, each with the calls to time on it.
 
-use crate::call::{self, Call};
+use crate::call::Call;
+use crate::units;
 use crate::wall::{self, Wall};
 use simulator::UNIT;
 use std::rc::Rc;
@@ -28,11 +29,7 @@ fn operations(operation: impl Fn(usize) -> [u8; UNIT]) -> Vec<u8> {
     (0..8).flat_map(|i| operation(i * 29 % 128 + 1)).collect()
 }
 
-fn calls(
-    letters: &[u8],
-    operations: Vec<u8>,
-    is_empty: bool,
-) -> Vec<(&'static str, Kind, Rc<Call>)> {
+fn calls(letters: &[u8], operations: Vec<u8>, is_empty: bool) -> Vec<(&'static str, Kind, Rc<Call>)> {
     let session = wall::READER;
     let one = Call::Commit { session, operations: operations[..UNIT].to_vec() };
     let eight = Call::Commit { session, operations };
@@ -40,14 +37,14 @@ fn calls(
     let mut calls = vec![
         ("commit, 1 operation", Kind::Write, one),
         ("commit, 8 operations", Kind::Write, eight),
-        ("read, 1 number", Kind::Other, read(call::by_numbers(1))),
-        ("read, 32 numbers", Kind::Other, read(call::by_numbers(32))),
-        ("read, title", Kind::Title, read(call::by_title(letters))),
+        ("read, 1 number", Kind::Other, read(units::by_numbers(1))),
+        ("read, 32 numbers", Kind::Other, read(units::by_numbers(32))),
+        ("read, title", Kind::Title, read(units::by_title(letters))),
         ("collect, 32 numbers", Kind::Other, Call::Collect { session: wall::NUMBERS_COLLECTOR }),
         ("collect, title", Kind::Title, Call::Collect { session: wall::TITLE_COLLECTOR }),
     ];
     if !is_empty {
-        let request = call::by_numbers(32);
+        let request = units::by_numbers(32);
         calls.extend([
             ("send", Kind::Other, Call::Send { studio: wall::SENT }),
             ("refresh", Kind::Write, Call::Refresh { studio: wall::REFRESHED }),
@@ -59,8 +56,8 @@ fn calls(
 }
 
 pub fn empty() -> State {
-    let letters = call::title(7, 20);
-    let make = |cart| call::new(cart, &call::title(cart, 20));
+    let letters = units::title(7, 20);
+    let make = |cart| units::new(cart, &units::title(cart, 20));
     State {
         name: "empty",
         what: "2 studios, no cart, no commit (nothing to send, refresh or wait for)",
@@ -70,8 +67,8 @@ pub fn empty() -> State {
 }
 
 pub fn typical() -> State {
-    let letters = call::title(30, 12 + 30 * 5 % 29);
-    let retitle = |cart| call::retitle(cart, &call::title(cart, 20));
+    let letters = units::title(30, 12 + 30 * 5 % 29);
+    let retitle = |cart| units::retitle(cart, &units::title(cart, 20));
     State {
         name: "typical",
         what: "2 studios, 40 carts, 60 commits of 1 or 2 operations",
@@ -82,11 +79,11 @@ pub fn typical() -> State {
 
 /// 504 records, so that commits are accepted, one to a transaction: the longest walk.
 pub fn full() -> State {
-    let retitle = |cart| call::retitle(cart, &call::title(cart, 64));
+    let retitle = |cart| units::retitle(cart, &units::title(cart, 64));
     State {
         name: "full",
         what: "4 studios, 5 x 128 held carts, titles of 64, 504 commits of 1 operation, 16 sessions",
         wall: Wall::full(504, 1),
-        calls: calls(&call::title(7, 64), operations(retitle), false),
+        calls: calls(&units::title(7, 64), operations(retitle), false),
     }
 }

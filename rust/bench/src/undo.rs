@@ -1,6 +1,6 @@
 //! Puts memory back after an accepted call: the 80-byte units that the call changed, kept from before it.
 
-use crate::wall::Memory;
+use crate::memory::Memory;
 use simulator::UNIT;
 
 #[derive(Default)]

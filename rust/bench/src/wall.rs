@@ -1,16 +1,9 @@
 //! Lent memory in the states that are measured, made by calls of the simulator.
 
 use crate::call::{self, Call};
+use crate::memory::Memory;
+use crate::units;
 use simulator::{Answer, CARTS, Control, LIBRARY, LOG, RECORDS, REFUSED, SESSION_MEMORY, UNIT};
-
-/// The three memories, each at the start of a cache line.
-#[repr(C, align(64))]
-#[derive(Clone)]
-pub struct Memory {
-    pub library: [u8; LIBRARY],
-    pub log: [u8; LOG],
-    pub sessions: [u8; SESSION_MEMORY],
-}
 
 #[derive(Clone)]
 pub struct Wall {
@@ -40,8 +33,7 @@ impl Wall {
 
     /// Plays a call that must be accepted.
     fn accept(&mut self, call: &Call) {
-        let Answer { kind, value, control, .. } =
-            call::simulate(call, &mut self.memory, &self.control, &mut [0; 2560]);
+        let Answer { kind, value, control, .. } = call::simulate(call, &mut self.memory, &self.control, &mut [0; 2560]);
         assert_ne!(kind, REFUSED, "refused: {value}");
         self.control = control;
     }
@@ -73,13 +65,13 @@ impl Wall {
 
     fn put_sessions(&mut self, last: u32, letters: &[u8]) {
         let commits = self.control.commits;
-        self.put_session(NUMBERS_COLLECTOR, 0, Some(call::by_numbers(32)));
-        self.put_session(TITLE_COLLECTOR, 0, Some(call::by_title(letters)));
+        self.put_session(NUMBERS_COLLECTOR, 0, Some(units::by_numbers(32)));
+        self.put_session(TITLE_COLLECTOR, 0, Some(units::by_title(letters)));
         self.put_session(WAITING_READER, commits, None);
-        self.put_session(WAITING_COLLECTOR, commits, Some(call::by_numbers(32)));
+        self.put_session(WAITING_COLLECTOR, commits, Some(units::by_numbers(32)));
         for session in EDITOR + 1..=last {
             let by_numbers = session % 2 == 0;
-            let waiting = if by_numbers { call::by_numbers(32) } else { call::by_title(letters) };
+            let waiting = if by_numbers { units::by_numbers(32) } else { units::by_title(letters) };
             self.put_session(session, commits, Some(waiting));
         }
         let Wall { memory, control } = &*self;
@@ -89,8 +81,8 @@ impl Wall {
     /// A fresh system of two studios and six sessions.
     pub fn empty() -> Wall {
         let mut wall = Wall::fresh(2, [1, 1, 1, 2, 2, 1, 0, 0, 0, 0, 0, 0, 0, 0, 0, 0]);
-        wall.put_session(NUMBERS_COLLECTOR, 0, Some(call::by_numbers(32)));
-        wall.put_session(TITLE_COLLECTOR, 0, Some(call::by_title(&call::title(7, 20))));
+        wall.put_session(NUMBERS_COLLECTOR, 0, Some(units::by_numbers(32)));
+        wall.put_session(TITLE_COLLECTOR, 0, Some(units::by_title(&units::title(7, 20))));
         wall
     }
 
@@ -98,16 +90,16 @@ impl Wall {
     pub fn typical() -> Wall {
         let mut wall = Wall::fresh(2, [1, 1, 1, 2, 2, 1, 0, 0, 0, 0, 0, 0, 0, 0, 0, 0]);
         let place = |i: usize| i * 29 % CARTS + 1;
-        let letters = |cart: usize| call::title(cart, 12 + cart * 5 % 29);
+        let letters = |cart: usize| units::title(cart, 12 + cart * 5 % 29);
         for i in 0..44 {
-            wall.commit(&[call::new(place(i), &letters(place(i)))]);
+            wall.commit(&[units::new(place(i), &letters(place(i)))]);
         }
         for i in 0..4 {
-            wall.commit(&[call::withdraw(place(40 + i))]);
+            wall.commit(&[units::withdraw(place(40 + i))]);
         }
         for i in 0..12 {
-            let retitled = call::retitle(place(i), &letters(place(i)));
-            wall.commit(&[call::recut(place(i), 900 + i as u32), retitled]);
+            let retitled = units::retitle(place(i), &letters(place(i)));
+            wall.commit(&[units::recut(place(i), 900 + i as u32), retitled]);
         }
         wall.catch_up();
         wall.put_sessions(EDITOR, &letters(place(7)));
@@ -122,15 +114,15 @@ impl Wall {
         let all: Vec<[u8; UNIT]> = (0..records)
             .map(|i| {
                 let cart = i % CARTS + 1;
-                let make = if i < CARTS { call::new } else { call::retitle };
-                make(cart, &call::title(cart, 64))
+                let make = if i < CARTS { units::new } else { units::retitle };
+                make(cart, &units::title(cart, 64))
             })
             .collect();
         for transaction in all.chunks(operations) {
             wall.commit(transaction);
         }
         wall.catch_up();
-        wall.put_sessions(16, &call::title(7, 64));
+        wall.put_sessions(16, &units::title(7, 64));
         wall
     }
 }

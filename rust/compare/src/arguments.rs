@@ -44,8 +44,7 @@ pub fn commit(random: &mut Random, maker: &Maker, taste: &Taste, wall: &Wall) ->
         *state = wall.held(cart);
     }
     let size = random.within(taste.sizes.0, taste.sizes.1);
-    let mut operations: Vec<u8> =
-        (0..size).flat_map(|_| maker.fitting(random, &mut held)).collect();
+    let mut operations: Vec<u8> = (0..size).flat_map(|_| maker.fitting(random, &mut held)).collect();
     if !random.percent(taste.fitting) {
         unsettle(random, maker, &mut operations);
     }
@@ -92,10 +91,7 @@ fn collect(random: &mut Random, taste: &Taste, wall: &Wall) -> Call {
     let asked = match session {
         1..=16 => {
             let start = 80 * (session as usize - 1);
-            rows::output_asked(&[
-                wall.played.sessions.byte(start),
-                wall.played.sessions.byte(start + 1),
-            ])
+            rows::output_asked(&[wall.played.sessions.byte(start), wall.played.sessions.byte(start + 1)])
         }
         _ => 80,
     };
@@ -116,8 +112,7 @@ fn session(random: &mut Random, taste: &Taste, wall: &Wall, waiting: bool) -> u3
         return *random.pick(&[0, 1, 2, 3, 15, 16, 17, 18, 257, 65_537, u32::MAX, any]);
     }
     let used = wall.used_sessions();
-    let suited: Vec<u32> =
-        used.iter().copied().filter(|session| wall.waiting(*session) == waiting).collect();
+    let suited: Vec<u32> = used.iter().copied().filter(|session| wall.waiting(*session) == waiting).collect();
     match (suited.is_empty(), used.is_empty()) {
         (false, _) => *random.pick(&suited),
         (true, false) => *random.pick(&used),
@@ -136,8 +131,7 @@ fn studio(random: &mut Random, taste: &Taste, wall: &Wall) -> u32 {
 /// A setup; S and studio bytes right or not.
 pub fn setup(random: &mut Random, fitting: usize) -> Call {
     let mut studios = random.within(1, 4) as u32;
-    let mut session_studios: Vec<u8> =
-        (0..16).map(|_| random.within(0, studios as usize) as u8).collect();
+    let mut session_studios: Vec<u8> = (0..16).map(|_| random.within(0, studios as usize) as u8).collect();
     if !random.percent(fitting) {
         match random.below(4) {
             0 => studios = *random.pick(&[0, 5, 257, 65_540, u32::MAX]),

@@ -11,13 +11,7 @@ use crate::random::Random;
 use crate::wall::Wall;
 use simulator::{Control, REFUSED};
 
-pub fn play(
-    player: &mut Player<'_>,
-    random: &mut Random,
-    maker: &Maker,
-    taste: &Taste,
-    wall: &Wall,
-) -> Result<(), Mismatch> {
+pub fn play(player: &mut Player<'_>, random: &mut Random, maker: &Maker, taste: &Taste, wall: &Wall) -> Result<(), Mismatch> {
     let even = Taste { weights: [1, 1, 1, 1, 1], sizes: (1, 8), fitting: taste.fitting.min(70) };
     let call = match random.percent(15) {
         true => arguments::setup(random, 50),
@@ -32,12 +26,7 @@ pub fn play(
 }
 
 /// One memory, or all of them, of another length.
-pub fn lengths(
-    player: &mut Player<'_>,
-    random: &mut Random,
-    wall: &Wall,
-    call: &Call,
-) -> Result<(), Mismatch> {
+pub fn lengths(player: &mut Player<'_>, random: &mut Random, wall: &Wall, call: &Call) -> Result<(), Mismatch> {
     player.play_aside(wall, call, |wall| wrong_length(random, wall)).map(|_| ())
 }
 
@@ -68,12 +57,7 @@ pub fn resize(part: &mut Part, length: usize) {
 }
 
 /// One field out of its rule.
-pub fn damaged(
-    player: &mut Player<'_>,
-    random: &mut Random,
-    wall: &Wall,
-    call: &Call,
-) -> Result<(), Mismatch> {
+pub fn damaged(player: &mut Player<'_>, random: &mut Random, wall: &Wall, call: &Call) -> Result<(), Mismatch> {
     let mut made = None;
     let answer = player.play_aside(wall, call, |wall| made = damage::damage(random, wall))?;
     if let (Some(made), REFUSED, 2) = (made, answer.kind, answer.value) {
@@ -86,12 +70,7 @@ pub fn damaged(
 }
 
 /// Damage and a wrong length at once.
-fn both(
-    player: &mut Player<'_>,
-    random: &mut Random,
-    wall: &Wall,
-    call: &Call,
-) -> Result<(), Mismatch> {
+fn both(player: &mut Player<'_>, random: &mut Random, wall: &Wall, call: &Call) -> Result<(), Mismatch> {
     let change = |wall: &mut Wall| {
         damage::damage(random, wall);
         wrong_length(random, wall);
@@ -100,12 +79,7 @@ fn both(
 }
 
 /// Control words of any size.
-fn twisted(
-    player: &mut Player<'_>,
-    random: &mut Random,
-    wall: &Wall,
-    call: &Call,
-) -> Result<(), Mismatch> {
+fn twisted(player: &mut Player<'_>, random: &mut Random, wall: &Wall, call: &Call) -> Result<(), Mismatch> {
     let change = |wall: &mut Wall| {
         for _ in 0..random.within(1, 3) {
             let value = any_word(random);

@@ -69,10 +69,7 @@ impl fmt::Display for Call {
             Call::Refresh { studio } => write!(f, "refresh studio={studio}"),
             Call::Read { session, request, output } => {
                 let (size, text) = (request.len(), hex(request));
-                write!(
-                    f,
-                    "read session={session} output={output} request of {size} bytes:\n    {text}"
-                )
+                write!(f, "read session={session} output={output} request of {size} bytes:\n    {text}")
             }
             Call::Collect { session, output } => {
                 write!(f, "collect session={session} output={output}")

@@ -1,20 +1,11 @@
-//! What was met: refusals, pairs of rows, boundaries. Counted, printed, and
-//! required.
+//! What was met: refusals, pairs of rows, boundaries, each counted.
 
 use crate::call::Call;
+use crate::keys::{DONE, Key, LENGTHS, READ, WAITED};
 use crate::lent::Lent;
-use crate::required;
 use crate::rows;
 use simulator::{ANSWERED, Answer, Control, LIBRARY, LOG, REFUSED, SESSION_MEMORY, WAITS};
 use std::collections::BTreeMap;
-
-/// Outcomes that are no refusal; a refusal is its number.
-pub const DONE: u32 = 100;
-pub const READ: u32 = 101;
-pub const WAITED: u32 = 102;
-
-/// Subject, the number met, and how the call ended.
-pub type Key = (&'static str, u32, u32);
 
 /// Facts of a call's entry that are gone once it has been played.
 pub struct Before {
@@ -25,7 +16,8 @@ pub struct Before {
 #[derive(Default)]
 pub struct Coverage {
     counts: BTreeMap<Key, u64>,
-    pairs: BTreeMap<(&'static str, u32, u32), u64>,
+    /// A call and two of its rows.
+    pairs: BTreeMap<Key, u64>,
     pub orders: u64,
     pub entries: u64,
 }
@@ -45,14 +37,7 @@ impl Coverage {
         self.entries += entries as u64;
     }
 
-    pub fn note(
-        &mut self,
-        call: &Call,
-        control: &Control,
-        holding: &[u32],
-        before: &Before,
-        answer: &Answer,
-    ) {
+    pub fn note(&mut self, call: &Call, control: &Control, holding: &[u32], before: &Before, answer: &Answer) {
         let end = outcome(answer);
         self.count((call.name(), 0, end));
         for (i, row) in holding.iter().enumerate() {
@@ -101,7 +86,7 @@ impl Coverage {
 
     fn note_lengths(&mut self, call: &Call, before: &Before, end: u32) {
         let right = [LIBRARY, LOG, SESSION_MEMORY];
-        let subjects = required::LENGTHS[call_place(call)];
+        let subjects = LENGTHS[call_place(call)];
         for (memory, subject) in subjects.into_iter().enumerate() {
             if before.lengths[memory] != right[memory] {
                 self.count((subject, before.lengths[memory] as u32, end));
@@ -185,14 +170,7 @@ impl Coverage {
         }
     }
 
-    fn note_test(
-        &mut self,
-        subject: &'static str,
-        call: &Call,
-        control: &Control,
-        before: &Before,
-        end: u32,
-    ) {
+    fn note_test(&mut self, subject: &'static str, call: &Call, control: &Control, before: &Before, end: u32) {
         let studio = rows::session_studio(call, control);
         if matches!(end, READ | WAITED) {
             let number = u32::from(before.session[2]) | u32::from(before.session[3]) << 8;
@@ -211,6 +189,16 @@ impl Coverage {
         }
     }
 
+    /// How often a call ended so at this number.
+    pub fn met(&self, key: &Key) -> u64 {
+        self.counts.get(key).copied().unwrap_or(0)
+    }
+
+    /// How often two rows of a call held at once.
+    pub fn pair_met(&self, pair: &Key) -> u64 {
+        self.pairs.get(pair).copied().unwrap_or(0)
+    }
+
     pub fn add(&mut self, other: Coverage) {
         for (key, count) in other.counts {
             *self.counts.entry(key).or_default() += count;
@@ -220,29 +208,6 @@ impl Coverage {
         }
         self.orders += other.orders;
         self.entries += other.entries;
-    }
-
-    /// Prints the table; returns how many required lines were not met.
-    pub fn report(&self) -> usize {
-        println!("{:>9}  refusals, pairs of rows and boundaries", "met");
-        let lines = required::lines();
-        let mut missing = 0;
-        for line in &lines {
-            let count = match line {
-                required::Line::Pair(pair) => self.pairs.get(pair),
-                required::Line::Ended(key) | required::Line::Met(key) => self.counts.get(key),
-            };
-            let count = count.copied().unwrap_or(0);
-            missing += usize::from(count == 0);
-            let mark = if count == 0 { "  <-- NOT MET" } else { "" };
-            println!("{count:>9}  {line}{mark}");
-        }
-        for (call, row, other, reason) in required::EXCLUDED {
-            println!("{:>9}  {call}: rows {row} and {other} at once: {reason}", "-");
-        }
-        println!("one-copy orders: {}, entries in them: {}", self.orders, self.entries);
-        println!("required lines: {}, not met: {missing}", lines.len());
-        missing
     }
 }
 

@@ -82,14 +82,10 @@ const UNITS: &[(&str, Place, Change)] = &[
     }),
     ("record, audio 0", Place::CutRecord, |_, u| u[4..8].fill(0)),
     ("record, length 0", Place::CutRecord, |_, u| u[8..12].fill(0)),
-    ("record without cut, 4–11", Place::UncutRecord, |r, u| {
-        u[r.within(4, 11)] = r.nonzero_byte()
-    }),
+    ("record without cut, 4–11", Place::UncutRecord, |r, u| u[r.within(4, 11)] = r.nonzero_byte()),
     ("record, next operation", Place::Record, |r, u| other_link(r, u, 12)),
     ("first record, next transaction", Place::FirstRecord, |r, u| other_link(r, u, 14)),
-    ("later record, bytes 14–15", Place::LaterRecord, |r, u| {
-        u[r.within(14, 15)] = r.nonzero_byte()
-    }),
+    ("later record, bytes 14–15", Place::LaterRecord, |r, u| u[r.within(14, 15)] = r.nonzero_byte()),
     ("unused record, one byte", Place::UnusedRecord, |r, u| u[r.below(80)] = r.nonzero_byte()),
     ("unused record, whole", Place::UnusedRecord, |_, u| u[..3].copy_from_slice(&[4, 0, 1])),
     ("session, byte 0", Place::Session, |r, u| u[0] = *r.pick(&[3, 4, 255])),

@@ -60,12 +60,7 @@ fn control_word_name(at: usize) -> String {
     }
 }
 
-fn part_difference(
-    name: &str,
-    simulated: &Part,
-    played: &Part,
-    place: fn(usize) -> String,
-) -> Option<String> {
+fn part_difference(name: &str, simulated: &Part, played: &Part, place: fn(usize) -> String) -> Option<String> {
     let at = simulated.first_difference(played)?;
     let words = match usize::try_from(at) {
         Err(_) => format!("guard, {} before the start", -at),

@@ -1,4 +1,4 @@
-//! What is played on: the simulator, the real engine, or a wrong one.
+//! What is played on: the simulator, the linked engine, or a wrong one.
 
 use crate::call::Call;
 use crate::lent::Lent;
@@ -7,6 +7,27 @@ use simulator::{Answer, Control};
 pub trait Engine {
     /// Plays one of the six calls. Its input and output are already lent.
     fn play(&mut self, call: &Call, control: Control, lent: &mut Lent) -> Answer;
+}
+
+/// Plays a call by one of the two crates that have the six functions.
+macro_rules! play {
+    ($by:ident, $call:ident, $control:ident, $lent:ident) => {{
+        let Lent { library, log, sessions, input, output } = $lent;
+        let (library, log, sessions) = (library.lent_mut(), log.lent_mut(), sessions.lent_mut());
+        let (input, output) = (input.lent(), output.lent_mut());
+        match *$call {
+            Call::Setup { studios, .. } => $by::setup(library, log, sessions, studios, input),
+            Call::Commit { session, .. } => $by::commit(library, log, sessions, $control, session, input),
+            Call::Send { studio } => $by::send(library, log, sessions, $control, studio),
+            Call::Refresh { studio } => $by::refresh(library, log, sessions, $control, studio),
+            Call::Read { session, .. } => $by::read(library, log, sessions, $control, session, input, output),
+            Call::Collect { session, .. } => $by::collect(library, log, sessions, $control, session, output),
+        }
+    }};
+}
+
+pub fn simulate(call: &Call, control: Control, lent: &mut Lent) -> Answer {
+    play!(simulator, call, control, lent)
 }
 
 /// The simulator as an engine.
@@ -18,22 +39,11 @@ impl Engine for Simulated {
     }
 }
 
-pub fn simulate(call: &Call, control: Control, lent: &mut Lent) -> Answer {
-    let Lent { library, log, sessions, input, output } = lent;
-    let (library, log, sessions) = (library.lent_mut(), log.lent_mut(), sessions.lent_mut());
-    let (input, output) = (input.lent(), output.lent_mut());
-    match *call {
-        Call::Setup { studios, .. } => simulator::setup(library, log, sessions, studios, input),
-        Call::Commit { session, .. } => {
-            simulator::commit(library, log, sessions, control, session, input)
-        }
-        Call::Send { studio } => simulator::send(library, log, sessions, control, studio),
-        Call::Refresh { studio } => simulator::refresh(library, log, sessions, control, studio),
-        Call::Read { session, .. } => {
-            simulator::read(library, log, sessions, control, session, input, output)
-        }
-        Call::Collect { session, .. } => {
-            simulator::collect(library, log, sessions, control, session, output)
-        }
+/// The engine of libsulyobak.a.
+pub struct Linked;
+
+impl Engine for Linked {
+    fn play(&mut self, call: &Call, control: Control, lent: &mut Lent) -> Answer {
+        play!(linked, call, control, lent)
     }
 }

@@ -67,9 +67,7 @@ impl Guide<'_, '_> {
         if let Call::Setup { studios, session_studios } = &mut call {
             if matches!(aim, Aim::Window | Aim::Waits) {
                 *studios = self.random.within(1, 2) as u32;
-                session_studios
-                    .iter_mut()
-                    .for_each(|studio| *studio = (*studio).min(*studios as u8));
+                session_studios.iter_mut().for_each(|studio| *studio = (*studio).min(*studios as u8));
             }
             if self.random.percent(95) {
                 session_studios[0] = 1;

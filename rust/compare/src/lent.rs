@@ -47,12 +47,6 @@ impl Part {
         &mut self.bytes[GUARD..end]
     }
 
-    /// The slice's start, with the right to the whole allocation.
-    #[cfg_attr(not(real_engine), allow(dead_code))]
-    pub fn start(&mut self) -> *mut u8 {
-        self.bytes.as_mut_ptr().wrapping_add(GUARD)
-    }
-
     /// The byte `at`, zero past the end.
     pub fn byte(&self, at: usize) -> u8 {
         self.lent().get(at).copied().unwrap_or(0)

@@ -10,6 +10,7 @@ mod differ;
 mod direct;
 mod engine;
 mod guided;
+mod keys;
 mod lent;
 mod lists;
 mod make;
@@ -18,8 +19,7 @@ mod options;
 mod places;
 mod player;
 mod random;
-#[cfg(real_engine)]
-mod real;
+mod report;
 mod required;
 mod rows;
 mod run;
@@ -30,26 +30,12 @@ mod wall;
 mod watch;
 mod wrong;
 
-use engine::{Engine, Simulated};
+use engine::{Engine, Linked, Simulated};
 use options::{Mode, Options};
 use std::process::ExitCode;
 
 /// Makes an engine for one thread.
 type Make = fn() -> Box<dyn Engine>;
-
-fn simulated() -> Box<dyn Engine> {
-    Box::new(Simulated)
-}
-
-#[cfg(real_engine)]
-fn real() -> Option<Make> {
-    Some(|| Box::new(real::Real))
-}
-
-#[cfg(not(real_engine))]
-fn real() -> Option<Make> {
-    None
-}
 
 fn main() -> ExitCode {
     let options = match options::parse(std::env::args().skip(1)) {
@@ -63,11 +49,7 @@ fn main() -> ExitCode {
         return exit(self_check::run() == 0);
     }
     watch::start(options.trace, options.trace && matches!(options.mode, Mode::List(_)));
-    let engine: Option<Make> = if options.simulator { Some(simulated) } else { real() };
-    let Some(make) = engine else {
-        eprintln!("built without the real engine: set SULYOBAK_LIB_DIR, or use --simulator");
-        return ExitCode::from(2);
-    };
+    let make: Make = if options.simulator { || Box::new(Simulated) } else { || Box::new(Linked) };
     match options.mode {
         Mode::List(seed) => exit(one_list(make, seed)),
         _ => exit(compare(make, &options)),
@@ -94,7 +76,7 @@ fn one_list(make: Make, seed: u64) -> bool {
 fn compare(make: Make, options: &Options) -> bool {
     match run::play_on_threads(make, options.seed, options.calls, options.threads) {
         Ok((coverage, calls)) => {
-            let missing = coverage.report();
+            let missing = report::print(&coverage);
             println!("{calls} calls compared, no mismatch");
             missing == 0
         }

@@ -59,14 +59,7 @@ impl History {
         }
     }
 
-    fn push_read(
-        &mut self,
-        call: u64,
-        session: u32,
-        request: Vec<u8>,
-        answer: &Answer,
-        output: &[u8],
-    ) {
+    fn push_read(&mut self, call: u64, session: u32, request: Vec<u8>, answer: &Answer, output: &[u8]) {
         let numbers = if request[0] == 1 { usize::from(request[1]) } else { 1 };
         let written = output[..output.len().min(80 * numbers)].to_vec();
         let what = What::Read { request, state: answer.value, found: answer.found, written };

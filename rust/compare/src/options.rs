@@ -30,14 +30,7 @@ pub const GATE_SEED: u64 = 20_240_000;
 pub const GATE_CALLS: u64 = 600_000;
 
 pub fn parse(mut words: impl Iterator<Item = String>) -> Result<Options, String> {
-    let mut options = Options {
-        mode: Mode::Run,
-        seed: 1,
-        calls: GATE_CALLS,
-        threads: 2,
-        simulator: false,
-        trace: false,
-    };
+    let mut options = Options { mode: Mode::Run, seed: 1, calls: GATE_CALLS, threads: 2, simulator: false, trace: false };
     while let Some(word) = words.next() {
         match word.as_str() {
             "--seed" => options.seed = number(&word, words.next())?,

@@ -47,11 +47,7 @@ pub const ALL: [(Place, &str); 16] = [
 pub fn memory(place: Place, lent: &mut Lent) -> &mut Part {
     match place {
         Place::HeldCart | Place::EmptyCart | Place::CartAboveS => &mut lent.library,
-        Place::Session
-        | Place::IdleSession
-        | Place::NumbersSession
-        | Place::TitleSession
-        | Place::UnusedSession => &mut lent.sessions,
+        Place::Session | Place::IdleSession | Place::NumbersSession | Place::TitleSession | Place::UnusedSession => &mut lent.sessions,
         _ => &mut lent.log,
     }
 }
@@ -61,14 +57,10 @@ pub fn find(place: Place, lent: &mut Lent, control: &Control) -> Vec<usize> {
     let bytes = memory(place, lent).lent();
     let units = bytes.chunks_exact(UNIT).enumerate();
     let fits = |at: usize, unit: &[u8]| match place {
-        Place::HeldCart | Place::EmptyCart | Place::CartAboveS => {
-            cart_fits(place, at, unit, control)
+        Place::HeldCart | Place::EmptyCart | Place::CartAboveS => cart_fits(place, at, unit, control),
+        Place::Session | Place::IdleSession | Place::NumbersSession | Place::TitleSession | Place::UnusedSession => {
+            session_fits(place, unit, control.session_studios[at] != 0)
         }
-        Place::Session
-        | Place::IdleSession
-        | Place::NumbersSession
-        | Place::TitleSession
-        | Place::UnusedSession => session_fits(place, unit, control.session_studios[at] != 0),
         _ => record_fits(place, at, bytes, at < control.used as usize),
     };
     units.filter(|(at, unit)| fits(*at, unit)).map(|(at, _)| at).collect()

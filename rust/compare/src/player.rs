@@ -71,24 +71,14 @@ impl<'e> Player<'e> {
     }
 
     /// Plays a call of H and takes it into the history.
-    pub fn play_in(
-        &mut self,
-        history: &mut History,
-        wall: &mut Wall,
-        call: &Call,
-    ) -> Result<Answer, Mismatch> {
+    pub fn play_in(&mut self, history: &mut History, wall: &mut Wall, call: &Call) -> Result<Answer, Mismatch> {
         let answer = self.play(wall, call)?;
         history.note(self.call_number, call, &answer, wall.played.output.lent());
         Ok(answer)
     }
 
     /// Plays a call on a changed copy of the wall, which itself stays.
-    pub fn play_aside(
-        &mut self,
-        wall: &Wall,
-        call: &Call,
-        change: impl FnOnce(&mut Wall),
-    ) -> Result<Answer, Mismatch> {
+    pub fn play_aside(&mut self, wall: &Wall, call: &Call, change: impl FnOnce(&mut Wall)) -> Result<Answer, Mismatch> {
         let mut aside = self.scratch.take().unwrap_or_else(Wall::zeros);
         aside.copy_from(wall);
         change(&mut aside);
@@ -101,11 +91,7 @@ impl<'e> Player<'e> {
     /// Checks the one-copy order of a whole list.
     pub fn check_order(&mut self, history: &History) -> Result<(), Mismatch> {
         self.coverage.count_order(history.len());
-        history.check().map_err(|(call_number, words)| Mismatch {
-            call_number,
-            call: "(the whole list)".to_string(),
-            words,
-        })
+        history.check().map_err(|(call_number, words)| Mismatch { call_number, call: "(the whole list)".to_string(), words })
     }
 
     fn mismatch(&self, call: String, words: String) -> Mismatch {
@@ -113,14 +99,7 @@ impl<'e> Player<'e> {
     }
 
     /// Row 2 is what the answer says, except after row 1, where it is looked at.
-    fn settle_row_2(
-        &self,
-        holding: &mut Vec<u32>,
-        call: &Call,
-        answer: &Answer,
-        wall: &Wall,
-        control: &simulator::Control,
-    ) {
+    fn settle_row_2(&self, holding: &mut Vec<u32>, call: &Call, answer: &Answer, wall: &Wall, control: &simulator::Control) {
         let applies = call.rows().contains(&2) && answer.kind == REFUSED;
         let holds = match answer.value {
             1 => rows::out_of_layout(control, &wall.simulated),

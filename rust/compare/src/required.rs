@@ -1,7 +1,7 @@
 //! The lines that a run must have met, and the pairs that cannot be.
 
-use crate::coverage::{DONE, Key, READ, WAITED};
 use crate::damage;
+use crate::keys::{DONE, Key, LENGTHS, READ, WAITED};
 use crate::places;
 use crate::sweep;
 use std::fmt;
@@ -53,16 +53,6 @@ const CALLS: [(&str, &[u32], &[u32]); 6] = [
     ("refresh", &[1, 2, 3, 11], &[DONE]),
     ("read", &[1, 2, 3, 4, 12, 13], &[READ, WAITED]),
     ("collect", &[1, 2, 3, 13, 14], &[READ, WAITED]),
-];
-
-/// The subjects for the length of each memory, call by call as in `CALLS`.
-pub const LENGTHS: [[&str; 3]; 6] = [
-    ["setup, library bytes", "setup, log bytes", "setup, session bytes"],
-    ["commit, library bytes", "commit, log bytes", "commit, session bytes"],
-    ["send, library bytes", "send, log bytes", "send, session bytes"],
-    ["refresh, library bytes", "refresh, log bytes", "refresh, session bytes"],
-    ["read, library bytes", "read, log bytes", "read, session bytes"],
-    ["collect, library bytes", "collect, log bytes", "collect, session bytes"],
 ];
 
 /// −1 as it is kept in a key.

@@ -32,18 +32,12 @@ pub fn out_of_layout(control: &Control, lent: &Lent) -> bool {
 fn row_holds(row: u32, call: &Call, control: &Control, lent: &Lent) -> bool {
     match (row, call) {
         (1, _) => !lent.right_lengths(),
-        (3, Call::Send { studio } | Call::Refresh { studio }) => {
-            !(1..=control.studios).contains(studio)
-        }
+        (3, Call::Send { studio } | Call::Refresh { studio }) => !(1..=control.studios).contains(studio),
         (3, _) => session_studio(call, control) == 0,
         (4, _) => waiting(call, lent),
         (14, _) => !waiting(call, lent),
-        (5..=8, Call::Commit { operations, .. }) => {
-            commit_row_holds(row, operations, control, lent)
-        }
-        (9..=11, Call::Send { studio } | Call::Refresh { studio }) => {
-            studio_row_holds(row, *studio, control)
-        }
+        (5..=8, Call::Commit { operations, .. }) => commit_row_holds(row, operations, control, lent),
+        (9..=11, Call::Send { studio } | Call::Refresh { studio }) => studio_row_holds(row, *studio, control),
         (12, Call::Read { request, .. }) => !simulator::request_in_form(request),
         (13, Call::Read { request, output, .. }) => *output < output_asked(request),
         (13, Call::Collect { output, .. }) => *output < output_asked(&stored(call, lent)),
@@ -58,9 +52,7 @@ fn row_holds(row: u32, call: &Call, control: &Control, lent: &Lent) -> bool {
 /// The session that a call names.
 pub fn session_of(call: &Call) -> Option<u32> {
     match call {
-        Call::Commit { session, .. }
-        | Call::Read { session, .. }
-        | Call::Collect { session, .. } => Some(*session),
+        Call::Commit { session, .. } | Call::Read { session, .. } | Call::Collect { session, .. } => Some(*session),
         _ => None,
     }
 }

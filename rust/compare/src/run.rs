@@ -14,11 +14,7 @@ pub struct Found {
 }
 
 /// Plays lists of seeds `seed`, `seed` + step, … until enough calls were made.
-pub fn play_lists(
-    engine: &mut dyn Engine,
-    (seed, step): (u64, u64),
-    calls: u64,
-) -> Result<(Coverage, u64), Found> {
+pub fn play_lists(engine: &mut dyn Engine, (seed, step): (u64, u64), calls: u64) -> Result<(Coverage, u64), Found> {
     let mut player = Player::new(engine, true);
     let mut seed = seed;
     while player.calls < calls {
@@ -30,12 +26,7 @@ pub fn play_lists(
 }
 
 /// The same on several threads, each with an engine of its own.
-pub fn play_on_threads(
-    make: fn() -> Box<dyn Engine>,
-    seed: u64,
-    calls: u64,
-    threads: u64,
-) -> Result<(Coverage, u64), Found> {
+pub fn play_on_threads(make: fn() -> Box<dyn Engine>, seed: u64, calls: u64, threads: u64) -> Result<(Coverage, u64), Found> {
     let start = |thread: u64| {
         let work = move || {
             let seeds = (seed.wrapping_add(thread), threads);

@@ -4,8 +4,8 @@
 use crate::arguments::{self, Taste};
 use crate::asides::{self, WORDS};
 use crate::call::Call;
-use crate::coverage::DONE;
 use crate::direct;
+use crate::keys::DONE;
 use crate::make::Maker;
 use crate::places;
 use crate::player::{Mismatch, Player};

@@ -47,9 +47,7 @@ impl Wall {
     }
 
     pub fn used_sessions(&self) -> Vec<u32> {
-        (1..=16)
-            .filter(|session| self.control.session_studios[*session as usize - 1] != 0)
-            .collect()
+        (1..=16).filter(|session| self.control.session_studios[*session as usize - 1] != 0).collect()
     }
 }
 

@@ -4,8 +4,8 @@ use crate::cart::{Copy, encode_cart};
 use crate::control::Outcome;
 use crate::operation::{Operation, Transaction};
 use crate::session::{Request, Session};
+use crate::sizes::{RECORDS, TRANSACTION_OPERATIONS, UNIT, WINDOW};
 use crate::system::{Studio, System};
-use crate::{RECORDS, TRANSACTION_OPERATIONS, UNIT, WINDOW};
 
 /// The end of a call, or the number of the row that stopped it.
 pub type Ended = Result<Outcome, u32>;
@@ -16,13 +16,11 @@ pub fn commit(system: &mut System, session: u32, operations: &[u8]) -> Ended {
         return Err(4);
     }
     let count = operations.len() / UNIT;
-    let sized =
-        operations.len().is_multiple_of(UNIT) && (1..=TRANSACTION_OPERATIONS).contains(&count);
+    let sized = operations.len().is_multiple_of(UNIT) && (1..=TRANSACTION_OPERATIONS).contains(&count);
     if !sized {
         return Err(5);
     }
-    let transaction: Option<Transaction> =
-        operations.chunks_exact(UNIT).map(Operation::handed_in).collect();
+    let transaction: Option<Transaction> = operations.chunks_exact(UNIT).map(Operation::handed_in).collect();
     let transaction = transaction.ok_or(6u32)?;
     let used: usize = system.transactions.iter().map(Vec::len).sum();
     if used + count > RECORDS {
@@ -148,8 +146,7 @@ fn used_session(system: &System, session: u32) -> Result<usize, u32> {
 
 /// The studio of a number from 1 to S, or row 3.
 fn known_studio(system: &mut System, studio: u32) -> Result<&mut Studio, u32> {
-    let place =
-        usize::try_from(studio).ok().and_then(|studio| studio.checked_sub(1)).ok_or(3u32)?;
+    let place = usize::try_from(studio).ok().and_then(|studio| studio.checked_sub(1)).ok_or(3u32)?;
     system.studios.get_mut(place).ok_or(3)
 }
 

@@ -1,7 +1,7 @@
 //! Carts, and a copy of 128 of them.
 
-use crate::UNIT;
 use crate::bytes::{all_zero, put_u16, put_u32, u16_at, u32_at};
+use crate::sizes::UNIT;
 use crate::title::Title;
 
 /// Audio number and length in milliseconds, both at least 1.

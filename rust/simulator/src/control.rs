@@ -1,44 +1,68 @@
 //! The values that cross the interface: control and answer.
 
-use crate::{SESSIONS, STUDIOS};
+use crate::sizes::{SESSIONS, STUDIOS};
 
 /// Control, passed and handed back as a value.
 #[repr(C)]
 #[derive(Clone, Copy, PartialEq, Eq, Debug, Default)]
 pub struct Control {
+    /// S, 1 to 4.
     pub studios: u32,
+    /// The studio of each session, 0 for an unused one.
     pub session_studios: [u32; SESSIONS],
+    /// Records used.
     pub used: u32,
+    /// Commits.
     pub commits: u32,
+    /// Sent of each studio.
     pub sent: [u32; STUDIOS],
+    /// Applied of each studio.
     pub applied: [u32; STUDIOS],
 }
 
+/// The kind of a refusal.
 pub const REFUSED: u32 = 0;
+/// The kind of an accepted setup, commit, send or refresh.
 pub const DONE: u32 = 1;
+/// The kind of an answered read.
 pub const ANSWERED: u32 = 2;
+/// The kind of a read that waits.
 pub const WAITS: u32 = 3;
 
 /// What a call hands back. Words without a meaning are zero.
 #[repr(C)]
 #[derive(Clone, Copy, PartialEq, Eq, Debug, Default)]
 pub struct Answer {
+    /// One of the four kinds.
     pub kind: u32,
+    /// The refusal's number, the count, the state, or the session's number.
     pub value: u32,
+    /// How many were found.
     pub found: u32,
+    /// Control for the next call.
     pub control: Control,
 }
 
 /// How a call ended, before it is put into the words of an answer.
 #[derive(Clone, Copy, PartialEq, Eq, Debug)]
 pub enum Outcome {
+    /// The row's number.
     Refused(u32),
+    /// The count returned, 0 for setup.
     Done(u32),
-    Answered { state: u32, found: u32 },
+    /// A read is answered.
+    Answered {
+        /// Applied of the session's studio.
+        state: u32,
+        /// How many were found.
+        found: u32,
+    },
+    /// The session's number.
     Waits(u32),
 }
 
 impl Outcome {
+    /// The words of the answer.
     pub fn with(self, control: Control) -> Answer {
         let (kind, value, found) = match self {
             Outcome::Refused(number) => (REFUSED, number, 0),

@@ -10,35 +10,15 @@ mod control;
 mod log;
 mod operation;
 mod session;
+mod sizes;
 mod system;
 mod title;
 
 pub use control::{ANSWERED, Answer, Control, DONE, Outcome, REFUSED, WAITS};
+pub use sizes::{CARTS, COPY, LIBRARY, LOG, NUMBERS, RECORDS, SESSION_MEMORY, SESSIONS, STUDIOS, TRANSACTION_OPERATIONS, UNIT, WINDOW};
 
-/// Bytes of a cart, a record, a session, an operation and a request.
-pub const UNIT: usize = 80;
-pub const CARTS: usize = 128;
-pub const COPY: usize = CARTS * UNIT;
-pub const STUDIOS: usize = 4;
-pub const RECORDS: usize = 512;
-pub const SESSIONS: usize = 16;
-pub const LIBRARY: usize = (1 + STUDIOS) * COPY;
-pub const LOG: usize = RECORDS * UNIT;
-pub const SESSION_MEMORY: usize = SESSIONS * UNIT;
-/// Most operations of one transaction.
-pub const TRANSACTION_OPERATIONS: usize = 8;
-/// Most numbers of one read.
-pub const NUMBERS: usize = 32;
-/// Most transactions sent and not applied.
-pub const WINDOW: u32 = 32;
-
-pub fn setup(
-    library: &mut [u8],
-    log: &mut [u8],
-    sessions: &mut [u8],
-    studios: u32,
-    session_studios: &[u8],
-) -> Answer {
+/// Setup.
+pub fn setup(library: &mut [u8], log: &mut [u8], sessions: &mut [u8], studios: u32, session_studios: &[u8]) -> Answer {
     let refused = |number| Outcome::Refused(number).with(Control::default());
     if !right_lengths(library, log, sessions) {
         return refused(1);
@@ -58,37 +38,22 @@ pub fn setup(
     Outcome::Done(0).with(control)
 }
 
-pub fn commit(
-    library: &mut [u8],
-    log: &mut [u8],
-    sessions: &mut [u8],
-    control: Control,
-    session: u32,
-    operations: &[u8],
-) -> Answer {
+/// Commit.
+pub fn commit(library: &mut [u8], log: &mut [u8], sessions: &mut [u8], control: Control, session: u32, operations: &[u8]) -> Answer {
     play(library, log, sessions, control, |system| calls::commit(system, session, operations))
 }
 
-pub fn send(
-    library: &mut [u8],
-    log: &mut [u8],
-    sessions: &mut [u8],
-    control: Control,
-    studio: u32,
-) -> Answer {
+/// Send.
+pub fn send(library: &mut [u8], log: &mut [u8], sessions: &mut [u8], control: Control, studio: u32) -> Answer {
     play(library, log, sessions, control, |system| calls::send(system, studio))
 }
 
-pub fn refresh(
-    library: &mut [u8],
-    log: &mut [u8],
-    sessions: &mut [u8],
-    control: Control,
-    studio: u32,
-) -> Answer {
+/// Refresh.
+pub fn refresh(library: &mut [u8], log: &mut [u8], sessions: &mut [u8], control: Control, studio: u32) -> Answer {
     play(library, log, sessions, control, |system| calls::refresh(system, studio))
 }
 
+/// Read.
 pub fn read(
     library: &mut [u8],
     log: &mut [u8],
@@ -101,14 +66,8 @@ pub fn read(
     play(library, log, sessions, control, |system| calls::read(system, session, request, output))
 }
 
-pub fn collect(
-    library: &mut [u8],
-    log: &mut [u8],
-    sessions: &mut [u8],
-    control: Control,
-    session: u32,
-    output: &mut [u8],
-) -> Answer {
+/// Collect.
+pub fn collect(library: &mut [u8], log: &mut [u8], sessions: &mut [u8], control: Control, session: u32, output: &mut [u8]) -> Answer {
     play(library, log, sessions, control, |system| calls::collect(system, session, output))
 }
 

@@ -2,7 +2,7 @@
 
 use crate::bytes::{all_zero, put_u16, u16_at};
 use crate::operation::{Operation, Transaction};
-use crate::{RECORDS, TRANSACTION_OPERATIONS, UNIT};
+use crate::sizes::{RECORDS, TRANSACTION_OPERATIONS, UNIT};
 
 const NEXT_OPERATION: usize = 12;
 const NEXT_TRANSACTION: usize = 14;

@@ -1,8 +1,8 @@
 //! The four operations: their form, the state they must meet, their effect.
 
-use crate::CARTS;
 use crate::bytes::{all_zero, put_u16, u16_at};
 use crate::cart::{Cart, Copy, Cut};
+use crate::sizes::CARTS;
 use crate::title::Title;
 
 #[derive(Clone, Copy, PartialEq, Eq, Debug)]

@@ -1,8 +1,8 @@
 //! Sessions and read requests.
 
 use crate::bytes::{all_zero, put_u16, u16_at};
+use crate::sizes::{CARTS, NUMBERS, UNIT};
 use crate::title::Title;
-use crate::{CARTS, NUMBERS, UNIT};
 
 #[derive(Clone, PartialEq, Eq, Debug)]
 pub enum Request {
@@ -76,11 +76,7 @@ impl Session {
         if number > commits || !all_zero(&unit[4..16]) {
             return None;
         }
-        let waiting = if unit[0] == 0 {
-            Title::absent(unit).then_some(None)
-        } else {
-            Request::decode(unit).map(Some)
-        };
+        let waiting = if unit[0] == 0 { Title::absent(unit).then_some(None) } else { Request::decode(unit).map(Some) };
         Some(Session { studio, number, waiting: waiting? })
     }
 

@@ -6,7 +6,7 @@ use crate::control::Control;
 use crate::log;
 use crate::operation::Transaction;
 use crate::session::Session;
-use crate::{COPY, SESSIONS, STUDIOS, UNIT, WINDOW};
+use crate::sizes::{COPY, SESSIONS, STUDIOS, UNIT, WINDOW};
 
 /// A studio: its copy and its two counts.
 #[derive(Clone, PartialEq, Eq, Debug)]
@@ -29,12 +29,7 @@ pub struct System {
 impl System {
     /// The system, or `None` when control and memory are not of the layout.
     /// The three memories have their right lengths.
-    pub fn decode(
-        library: &[u8],
-        log: &[u8],
-        sessions: &[u8],
-        control: &Control,
-    ) -> Option<System> {
+    pub fn decode(library: &[u8], log: &[u8], sessions: &[u8], control: &Control) -> Option<System> {
         let count = usize::try_from(control.studios).ok()?;
         if !(1..=STUDIOS).contains(&count) {
             return None;

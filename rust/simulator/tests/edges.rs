@@ -143,9 +143,7 @@ fn setup_rows() {
 
 #[test]
 fn lengths_come_first() {
-    for (library, log, sessions) in
-        [(LIBRARY - 1, LOG, SESSION_MEMORY), (LIBRARY, LOG + 1, SESSION_MEMORY), (LIBRARY, LOG, 0)]
-    {
+    for (library, log, sessions) in [(LIBRARY - 1, LOG, SESSION_MEMORY), (LIBRARY, LOG + 1, SESSION_MEMORY), (LIBRARY, LOG, 0)] {
         let mut wall = fresh();
         wall.library.resize(library, 0);
         wall.log.resize(log, 0);

@@ -25,8 +25,7 @@ fn the_log_links() {
 
 #[test]
 fn one_field_out_of_its_rule() {
-    let library =
-        [(480, 1), (482, 7), (560, 0), (561, 5), (562, 9), (572, 1), (639, 1), (30_720, 1)];
+    let library = [(480, 1), (482, 7), (560, 0), (561, 5), (562, 9), (572, 1), (639, 1), (30_720, 1)];
     for (at, byte) in library {
         let mut wall = worked();
         wall.library[at] = byte;
@@ -38,8 +37,7 @@ fn one_field_out_of_its_rule() {
         wall.log[at] = byte;
         assert_eq!(wall.send(1), refused(2), "log byte {at}");
     }
-    for (at, byte) in [(0, 1), (1, 1), (2, 3), (3, 1), (4, 1), (16, 32), (80, 1), (80, 3), (240, 1)]
-    {
+    for (at, byte) in [(0, 1), (1, 1), (2, 3), (3, 1), (4, 1), (16, 32), (80, 1), (80, 3), (240, 1)] {
         let mut wall = worked();
         wall.sessions[at] = byte;
         assert_eq!(wall.send(1), refused(2), "session byte {at}");

@@ -1,6 +1,6 @@
-use crate::sizes;
 use crate::title::Title;
 use std::fmt;
+use sulyobak_sys::sizes;
 
 /// A cart that is held, as a read shows it.
 #[derive(Clone, Copy, Debug, PartialEq, Eq, Hash)]

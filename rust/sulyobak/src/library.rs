@@ -1,10 +1,9 @@
 use crate::answer::{Read, Refusal};
-use crate::control::Control;
 use crate::memory::Memory;
 use crate::operation::Operation;
 use crate::request::Request;
-use crate::sizes;
 use std::fmt;
+use sulyobak_sys::{sizes, Control};
 
 /// A system that owns its memory: the head end's copy, up to four studios' copies, the log and the sessions (some 93 kB).
 ///

@@ -1,9 +1,7 @@
 use crate::answer::{Found, Read, Refusal};
-use crate::control::Control;
-use crate::ffi;
 use crate::operation::Operation;
 use crate::request::Request;
-use crate::sizes;
+use sulyobak_sys::{self as sys, sizes, Control};
 
 /// A system in memory that lies elsewhere: three borrowed slices and control.
 ///
@@ -38,14 +36,13 @@ pub struct Memory<'a> {
 }
 
 // Calls an exported function with the three memories, and then the given arguments.
-//
-// SAFETY of every use: each pointer comes with its length from one slice, which stays borrowed for the whole call. What the
-// engine writes (the memories, output) is borrowed mutably, so that no two of the slices overlap and no other thread has them.
-// The engine accepts any bytes and any numbers, keeps no pointer, and does not unwind.
 macro_rules! call {
     ($function:ident, $self:ident $(, $argument:expr)*) => {
+        // SAFETY: each pointer comes with its length from one slice, which stays borrowed for the whole call. What the engine writes
+        // (the memories, output) is borrowed mutably, so that no two of the slices overlap and no other thread has them. The engine
+        // accepts any bytes and any numbers, keeps no pointer, and does not unwind.
         unsafe {
-            ffi::$function(
+            sys::$function(
                 $self.library.as_mut_ptr(),
                 $self.library.len(),
                 $self.log.as_mut_ptr(),
@@ -134,22 +131,22 @@ impl Memory<'_> {
     }
 
     // The answer of setup, commit, send, refresh or the layout test.
-    fn done(&mut self, answer: ffi::Answer) -> Result<u32, Refusal> {
+    fn done(&mut self, answer: sys::Answer) -> Result<u32, Refusal> {
         *self.control = answer.control;
         match answer.kind {
-            ffi::DONE => Ok(answer.value),
-            ffi::REFUSED => Err(Refusal::from_number(answer.value)),
+            sys::DONE => Ok(answer.value),
+            sys::REFUSED => Err(Refusal::from_number(answer.value)),
             kind => other_version(kind),
         }
     }
 
     // The answer of read or collect.
-    fn answered(&mut self, answer: ffi::Answer) -> Result<Found, Refusal> {
+    fn answered(&mut self, answer: sys::Answer) -> Result<Found, Refusal> {
         *self.control = answer.control;
         match answer.kind {
-            ffi::ANSWERED => Ok(Found::Answered { state: answer.value, found: answer.found }),
-            ffi::WAITS => Ok(Found::Waits { number: answer.value }),
-            ffi::REFUSED => Err(Refusal::from_number(answer.value)),
+            sys::ANSWERED => Ok(Found::Answered { state: answer.value, found: answer.found }),
+            sys::WAITS => Ok(Found::Waits { number: answer.value }),
+            sys::REFUSED => Err(Refusal::from_number(answer.value)),
             kind => other_version(kind),
         }
     }

@@ -1,5 +1,5 @@
-use crate::sizes;
 use crate::title::Title;
+use sulyobak_sys::sizes;
 
 /// An edit of one cart. A commit has one to eight, and all of them act or none.
 ///

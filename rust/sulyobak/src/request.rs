@@ -1,7 +1,7 @@
-use crate::sizes;
 use crate::title::Title;
 use std::error::Error;
 use std::fmt;
+use sulyobak_sys::sizes;
 
 /// What a read asks for: carts by their numbers, or the cart with a title.
 #[derive(Clone, Copy, Debug, PartialEq, Eq, Hash)]

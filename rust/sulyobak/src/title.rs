@@ -1,7 +1,7 @@
-use crate::sizes;
 use std::error::Error;
 use std::fmt;
 use std::str::FromStr;
+use sulyobak_sys::sizes;
 
 /// A cart's title: 1 to 64 printable ASCII letters (space to `~`).
 ///

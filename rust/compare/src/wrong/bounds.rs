@@ -1,6 +1,6 @@
 //! Writes outside of what a call may write, and words that should be zero.
 
-use super::{Mistake, Notes, is_refused, mistake, right};
+use super::mistake::{Mistake, Notes, is_refused, mistake, right};
 use crate::call::Call;
 use crate::lent::Lent;
 use simulator::{ANSWERED, Answer, Control, DONE, REFUSED};
@@ -83,12 +83,7 @@ fn studio_bytes_changed(_: &mut Notes, call: &Call, control: Control, lent: &mut
     answer
 }
 
-fn refused_changes_control(
-    _: &mut Notes,
-    call: &Call,
-    control: Control,
-    lent: &mut Lent,
-) -> Answer {
+fn refused_changes_control(_: &mut Notes, call: &Call, control: Control, lent: &mut Lent) -> Answer {
     let mut answer = right(call, control, lent);
     if is_refused(&answer, 8) {
         answer.control.used += 1;

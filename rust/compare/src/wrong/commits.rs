@@ -1,7 +1,7 @@
 //! Mistakes of commit.
 
-use super::{Mistake, Notes, copy_of, is_refused, mistake, order_mistake, refused, right};
-use super::{session_unit, transaction};
+use super::mistake::{Mistake, Notes, copy_of, is_refused, mistake, order_mistake, refused, right};
+use super::mistake::{session_unit, transaction};
 use crate::call::Call;
 use crate::lent::Lent;
 use crate::single;
@@ -28,9 +28,7 @@ pub const MISTAKES: &[Mistake] = &[
 
 fn number_at_send(notes: &mut Notes, call: &Call, control: Control, lent: &mut Lent) -> Answer {
     let before = match call {
-        Call::Commit { session: session @ 1..=16, .. } if lent.right_lengths() => {
-            Some(session_unit(lent, *session)[2..4].to_vec())
-        }
+        Call::Commit { session: session @ 1..=16, .. } if lent.right_lengths() => Some(session_unit(lent, *session)[2..4].to_vec()),
         _ => None,
     };
     let answer = right(call, control, lent);

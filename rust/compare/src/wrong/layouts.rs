@@ -1,7 +1,7 @@
 //! Mistakes of the layout test. A rule is left out by putting its fields
 //! right in a refused call's memory and playing it again.
 
-use super::{Mistake, Notes, copy_of, is_refused, mistake, refused, right};
+use super::mistake::{Mistake, Notes, copy_of, is_refused, mistake, refused, right};
 use crate::call::Call;
 use crate::lent::Lent;
 use crate::single;
@@ -30,12 +30,7 @@ pub const MISTAKES: &[Mistake] = &[
 ];
 
 /// Plays the call; if it is refused 2, plays it again on what `mend` makes.
-fn lax(
-    call: &Call,
-    control: Control,
-    lent: &mut Lent,
-    mend: fn(&mut Lent, &mut Control),
-) -> Answer {
+fn lax(call: &Call, control: Control, lent: &mut Lent, mend: fn(&mut Lent, &mut Control)) -> Answer {
     let answer = right(call, control, lent);
     if !is_refused(&answer, 2) {
         return answer;

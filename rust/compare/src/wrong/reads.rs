@@ -1,7 +1,7 @@
 //! Mistakes of read and collect.
 
-use super::session_unit;
-use super::{Mistake, Notes, copy_of, is_refused, mistake, order_mistake, refused, right};
+use super::mistake::session_unit;
+use super::mistake::{Mistake, Notes, copy_of, is_refused, mistake, order_mistake, refused, right};
 use crate::call::Call;
 use crate::lent::Lent;
 use crate::rows;
@@ -51,12 +51,7 @@ fn request_of(call: &Call, before: &[u8]) -> Vec<u8> {
 }
 
 /// The answer that the same read gets on a changed copy of what is lent.
-fn on_changed(
-    call: &Call,
-    control: Control,
-    lent: &mut Lent,
-    change: impl FnOnce(&mut Lent, u32, u32),
-) -> Answer {
+fn on_changed(call: &Call, control: Control, lent: &mut Lent, change: impl FnOnce(&mut Lent, u32, u32)) -> Answer {
     let session = rows::session_of(call).expect("reads name a session");
     let studio = rows::session_studio(call, &control);
     let mut changed = lent.clone();
@@ -81,12 +76,7 @@ fn from_head_end(_: &mut Notes, call: &Call, control: Control, lent: &mut Lent) 
 }
 
 /// Title reads done anew with another test of equality.
-fn titles_by(
-    call: &Call,
-    control: Control,
-    lent: &mut Lent,
-    equal: fn(cart: &[u8], wanted: &[u8]) -> bool,
-) -> Answer {
+fn titles_by(call: &Call, control: Control, lent: &mut Lent, equal: fn(cart: &[u8], wanted: &[u8]) -> bool) -> Answer {
     let stored = rows::stored(call, lent);
     let mut answer = right(call, control, lent);
     let request = request_of(call, &stored);
@@ -117,9 +107,7 @@ fn title_beginning(_: &mut Notes, call: &Call, control: Control, lent: &mut Lent
 }
 
 fn title_without_last(_: &mut Notes, call: &Call, control: Control, lent: &mut Lent) -> Answer {
-    titles_by(call, control, lent, |cart, wanted| {
-        cart[2] != 128 && cart[1] == wanted[1] && cart[16..] == wanted[16..]
-    })
+    titles_by(call, control, lent, |cart, wanted| cart[2] != 128 && cart[1] == wanted[1] && cart[16..] == wanted[16..])
 }
 
 fn several_writes_first(_: &mut Notes, call: &Call, control: Control, lent: &mut Lent) -> Answer {

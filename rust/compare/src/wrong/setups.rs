@@ -1,6 +1,6 @@
 //! Mistakes of setup, and of the lengths.
 
-use super::{Mistake, Notes, is_refused, mistake, right};
+use super::mistake::{Mistake, Notes, is_refused, mistake, right};
 use crate::call::Call;
 use crate::lent::Lent;
 use simulator::{Answer, Control, DONE};

@@ -1,8 +1,6 @@
 //! Mistakes of send and refresh.
 
-use super::{
-    Mistake, Notes, copy_of, is_refused, mistake, order_mistake, refused, right, transaction,
-};
+use super::mistake::{Mistake, Notes, copy_of, is_refused, mistake, order_mistake, refused, right, transaction};
 use crate::call::Call;
 use crate::lent::Lent;
 use crate::single;
@@ -39,12 +37,7 @@ type Operations = [Vec<u8>];
 
 /// Plays the call; after a refresh its studio's copy is made anew by `remake`
 /// from the copy before, the transaction, and the one before that.
-fn remade(
-    call: &Call,
-    control: Control,
-    lent: &mut Lent,
-    remake: fn(&mut [u8], &Operations, &Operations),
-) -> Answer {
+fn remade(call: &Call, control: Control, lent: &mut Lent, remake: fn(&mut [u8], &Operations, &Operations)) -> Answer {
     let before = lent.library.clone();
     let answer = right(call, control, lent);
     if let Some(studio) = refreshed(call, &answer) {
@@ -101,12 +94,7 @@ fn refresh_plays_next(_: &mut Notes, call: &Call, control: Control, lent: &mut L
     answer
 }
 
-fn refresh_on_first_studio(
-    _: &mut Notes,
-    call: &Call,
-    control: Control,
-    lent: &mut Lent,
-) -> Answer {
+fn refresh_on_first_studio(_: &mut Notes, call: &Call, control: Control, lent: &mut Lent) -> Answer {
     let before = lent.library.clone();
     let answer = right(call, control, lent);
     if refreshed(call, &answer).is_some() {

@@ -32,12 +32,7 @@ pub fn waits(number: u32) -> Words {
 
 /// 01's table: S = 2; sessions 1 and 2 at studio 1, session 3 at studio 2.
 pub fn fresh() -> Wall {
-    let mut wall = Wall {
-        library: vec![7; LIBRARY],
-        log: vec![7; LOG],
-        sessions: vec![7; SESSION_MEMORY],
-        control: Control::default(),
-    };
+    let mut wall = Wall { library: vec![7; LIBRARY], log: vec![7; LOG], sessions: vec![7; SESSION_MEMORY], control: Control::default() };
     let studios = [1, 1, 2, 0, 0, 0, 0, 0, 0, 0, 0, 0, 0, 0, 0, 0];
     assert_eq!(wall.setup(2, &studios), done(0));
     wall
@@ -66,8 +61,7 @@ impl Wall {
     pub fn commit_bytes(&mut self, session: u32, bytes: &[u8]) -> Words {
         let before = self.clone();
         let (library, log) = (&mut self.library, &mut self.log);
-        let answer =
-            simulator::commit(library, log, &mut self.sessions, self.control, session, bytes);
+        let answer = simulator::commit(library, log, &mut self.sessions, self.control, session, bytes);
         self.keep(before, answer)
     }
 

@@ -1,0 +1,76 @@
+//! The tables that are printed.
+
+use crate::bars::Bars;
+use crate::clock::{Entry, Race};
+use crate::growth::Point;
+use crate::measure::{Both, Layout, Measured};
+use crate::scans::Scan;
+use crate::stages::Stages;
+use crate::states::State;
+
+/// Prints a line, and returns the engine's time as a multiple of the floor's.
+pub fn layout(race: &Race, name: &str, layout: &Layout) -> f64 {
+    let engine = layout.both.engine.time(race);
+    let simulator = layout.both.simulator.time(race);
+    let floor = race.best(layout.floor);
+    println!(
+        "  {name:<26} {engine:>7.0} {:>9.0} {floor:>8.0} {:>8.2} {simulator:>10.0} {:>9.1}",
+        1e9 / engine,
+        engine / floor,
+        simulator / engine
+    );
+    engine / floor
+}
+
+pub fn calls(race: &Race, state: &State, measured: &Measured, bars: &mut Bars) {
+    println!("\nCalls, {}: {}", state.name, state.what);
+    println!("                          engine   calls/s  x layout  beyond  simulator  x engine");
+    let layout = measured.layout.both.engine.time(race);
+    for ((name, kind, _), both) in state.calls.iter().zip(&measured.calls) {
+        let (engine, simulator) = (both.engine.time(race), both.simulator.time(race));
+        println!(
+            "  {name:<22} {engine:>7.0} {:>9.0} {:>9.3} {:>7.0} {simulator:>10.0} {:>9.1}",
+            1e9 / engine,
+            engine / layout,
+            engine - layout,
+            simulator / engine
+        );
+        for (_, bar) in bars.calls.iter_mut().filter(|(its_kind, _)| its_kind == kind) {
+            bar.see(engine / layout, format!("{name}; {}", state.name));
+        }
+    }
+}
+
+pub fn setup(race: &Race, (setup, clear): &(Both, Entry), bars: &mut Bars) {
+    let clear = race.best(*clear);
+    let (engine, simulator) = (setup.engine.time(race), setup.simulator.time(race));
+    let each = 1e9 / engine;
+    println!("\nSetup: engine {engine:.0} ({each:.0} calls/s), simulator {simulator:.0}, memset {clear:.0}");
+    bars.setup.see(engine / clear, "any memory".to_string());
+}
+
+pub fn stages(race: &Race, stages: &Stages) {
+    println!("\nWhere the layout test's time goes, full: 504 commits of 1");
+    println!("                                                  engine   floor");
+    for stage in stages.times(race) {
+        let floor = stage.floor.map_or(String::new(), |floor| format!("{floor:.0}"));
+        println!("  {:<46} {:>7.0} {floor:>7}", stage.name, stage.engine);
+    }
+}
+
+pub fn points(race: &Race, name: &str, points: &[Point]) {
+    println!("\nGrowth, full memory: {name}");
+    println!("             layout    call  beyond  x layout");
+    for Point { at, layout, call } in points {
+        let (layout, call) = (layout.time(race), call.time(race));
+        println!("  {at:>8} {layout:>8.0} {call:>7.0} {:>7.0} {:>9.3}", call - layout, call / layout);
+    }
+}
+
+pub fn scans(race: &Race, scans: &[Scan]) {
+    println!("\nScans of the lower crate           engine    floor  x floor     Rust   x Rust");
+    for scan in scans {
+        let [engine, floor, plain] = [scan.engine, scan.floor, scan.plain].map(|entry| race.best(entry));
+        println!("  {:<30} {engine:>8.0} {floor:>8.0} {:>8.2} {plain:>8.0} {:>8.2}", scan.name, engine / floor, engine / plain);
+    }
+}

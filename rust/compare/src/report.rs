@@ -1,0 +1,26 @@
+//! The table of what a run has met, held to what it must have met.
+
+use crate::coverage::Coverage;
+use crate::required::{self, Line};
+
+/// Prints the table; returns how many required lines were not met.
+pub fn print(coverage: &Coverage) -> usize {
+    println!("{:>9}  refusals, pairs of rows and boundaries", "met");
+    let lines = required::lines();
+    let mut missing = 0;
+    for line in &lines {
+        let count = match line {
+            Line::Pair(pair) => coverage.pair_met(pair),
+            Line::Ended(key) | Line::Met(key) => coverage.met(key),
+        };
+        missing += usize::from(count == 0);
+        let mark = if count == 0 { "  <-- NOT MET" } else { "" };
+        println!("{count:>9}  {line}{mark}");
+    }
+    for (call, row, other, reason) in required::EXCLUDED {
+        println!("{:>9}  {call}: rows {row} and {other} at once: {reason}", "-");
+    }
+    println!("one-copy orders: {}, entries in them: {}", coverage.orders, coverage.entries);
+    println!("required lines: {}, not met: {missing}", lines.len());
+    missing
+}

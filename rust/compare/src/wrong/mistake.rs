@@ -1,0 +1,78 @@
+//! What every wrong engine is made with.
+
+use crate::call::Call;
+use crate::engine::simulate;
+use crate::lent::Lent;
+use simulator::{Answer, Control};
+use std::collections::BTreeMap;
+
+/// What a wrong engine keeps between calls.
+#[derive(Default)]
+pub struct Notes {
+    /// The session of each commit.
+    pub sessions: BTreeMap<u32, u32>,
+}
+
+pub type Play = fn(&mut Notes, &Call, Control, &mut Lent) -> Answer;
+
+/// A mistake: its name, and the simulator with it.
+#[derive(Clone, Copy)]
+pub struct Mistake {
+    pub name: &'static str,
+    pub play: Play,
+    /// One of 01's "Mistakes this trade has made", or one that demand 3 shows:
+    /// the one-copy order alone must catch it too.
+    pub breaks_order: bool,
+}
+
+/// A mistake that the comparison must catch.
+pub const fn mistake(name: &'static str, play: Play) -> Mistake {
+    Mistake { name, play, breaks_order: false }
+}
+
+/// A mistake that the one-copy order alone must catch as well.
+pub const fn order_mistake(name: &'static str, play: Play) -> Mistake {
+    Mistake { name, play, breaks_order: true }
+}
+
+/// An answer of a number without a control change.
+pub fn refused(number: u32, control: Control) -> Answer {
+    Answer { kind: simulator::REFUSED, value: number, found: 0, control }
+}
+
+pub fn is_refused(answer: &Answer, number: u32) -> bool {
+    answer.kind == simulator::REFUSED && answer.value == number
+}
+
+/// The 80 bytes of a session from 1 to 16.
+pub fn session_unit(lent: &mut Lent, session: u32) -> &mut [u8] {
+    let start = 80 * (session as usize - 1);
+    &mut lent.sessions.lent_mut()[start..start + 80]
+}
+
+/// The copy of a studio, or the head end's for 0.
+pub fn copy_of(lent: &mut Lent, studio: u32) -> &mut [u8] {
+    let start = simulator::COPY * studio as usize;
+    &mut lent.library.lent_mut()[start..start + simulator::COPY]
+}
+
+/// The operations of transaction `number`, and the place of its first record
+/// counted from 0; the log is of the layout.
+pub fn transaction(lent: &Lent, number: u32) -> (usize, Vec<Vec<u8>>) {
+    let log = lent.log.lent();
+    let link = |r: usize, at: usize| usize::from(log[80 * r + at]) | usize::from(log[80 * r + at + 1]) << 8;
+    let mut first = 0;
+    for _ in 1..number {
+        first = link(first, 14) - 1;
+    }
+    let mut last = first;
+    while link(last, 12) != 0 {
+        last += 1;
+    }
+    (first, (first..=last).map(|r| log[80 * r..80 * (r + 1)].to_vec()).collect())
+}
+
+/// Plays the call as the simulator does.
+pub fn right(call: &Call, control: Control, lent: &mut Lent) -> Answer {
+    simulate(call, control, lent)
+}

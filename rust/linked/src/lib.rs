@@ -1,0 +1,79 @@
+//! The linked engine, with the simulator's functions and values: so that the comparison and the benchmark play both in the same words.
+
+use simulator::{Answer, Control};
+use sulyobak_sys as sys;
+
+#[inline]
+fn passed(control: Control) -> sys::Control {
+    let Control { studios, session_studios, used, commits, sent, applied } = control;
+    sys::Control { studios, session_studios, used, commits, sent, applied }
+}
+
+#[inline]
+fn handed_back(answer: sys::Answer) -> Answer {
+    let sys::Answer { kind, value, found, control } = answer;
+    let sys::Control { studios, session_studios, used, commits, sent, applied } = control;
+    let control = Control { studios, session_studios, used, commits, sent, applied };
+    Answer { kind, value, found, control }
+}
+
+// Calls an exported function with the three memories, and then the given arguments.
+macro_rules! call {
+    ($function:ident, $library:ident, $log:ident, $sessions:ident $(, $argument:expr)*) => {{
+        let (library, log, sessions) = ($library.as_mut_ptr(), $log.as_mut_ptr(), $sessions.as_mut_ptr());
+        // SAFETY: each pointer comes with its length from one slice that is borrowed for the whole call; what is written is borrowed
+        // mutably, so that the slices are apart from each other and nobody else uses them.
+        handed_back(unsafe { sys::$function(library, $library.len(), log, $log.len(), sessions, $sessions.len(), $($argument),*) })
+    }};
+}
+
+/// Setup.
+#[inline]
+pub fn setup(library: &mut [u8], log: &mut [u8], sessions: &mut [u8], studios: u32, session_studios: &[u8]) -> Answer {
+    call!(sulyobak_setup, library, log, sessions, studios, session_studios.as_ptr(), session_studios.len())
+}
+
+/// Commit.
+#[inline]
+pub fn commit(library: &mut [u8], log: &mut [u8], sessions: &mut [u8], control: Control, session: u32, operations: &[u8]) -> Answer {
+    call!(sulyobak_commit, library, log, sessions, passed(control), session, operations.as_ptr(), operations.len())
+}
+
+/// Send.
+#[inline]
+pub fn send(library: &mut [u8], log: &mut [u8], sessions: &mut [u8], control: Control, studio: u32) -> Answer {
+    call!(sulyobak_send, library, log, sessions, passed(control), studio)
+}
+
+/// Refresh.
+#[inline]
+pub fn refresh(library: &mut [u8], log: &mut [u8], sessions: &mut [u8], control: Control, studio: u32) -> Answer {
+    call!(sulyobak_refresh, library, log, sessions, passed(control), studio)
+}
+
+/// Read.
+#[inline]
+pub fn read(
+    library: &mut [u8],
+    log: &mut [u8],
+    sessions: &mut [u8],
+    control: Control,
+    session: u32,
+    request: &[u8],
+    output: &mut [u8],
+) -> Answer {
+    let (asked, shown) = ((request.as_ptr(), request.len()), (output.as_mut_ptr(), output.len()));
+    call!(sulyobak_read, library, log, sessions, passed(control), session, asked.0, asked.1, shown.0, shown.1)
+}
+
+/// Collect.
+#[inline]
+pub fn collect(library: &mut [u8], log: &mut [u8], sessions: &mut [u8], control: Control, session: u32, output: &mut [u8]) -> Answer {
+    call!(sulyobak_collect, library, log, sessions, passed(control), session, output.as_mut_ptr(), output.len())
+}
+
+/// The layout test alone.
+#[inline]
+pub fn layout(library: &mut [u8], log: &mut [u8], sessions: &mut [u8], control: Control) -> Answer {
+    call!(sulyobak_layout, library, log, sessions, passed(control))
+}

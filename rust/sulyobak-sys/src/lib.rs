@@ -1,0 +1,148 @@
+//! The calls of libsulyobak.a, as `include/sulyobak.h` declares them: functions, structs, numbers and sizes, with no code of its own.
+//! The header says what each call does and what remains the caller's; the crate `sulyobak` is a safe wrapper.
+#![no_std]
+
+pub mod sizes;
+
+/// The version of the interface that these declarations are for: `SULYOBAK_VERSION`.
+pub const VERSION: u32 = 1;
+
+/// The counts of a system. The engine is passed them and hands them back; any value may stand in any field, and each has its answer.
+///
+/// Its fields belong to the version of the interface ([`VERSION`]): store both together.
+#[repr(C)]
+#[derive(Clone, Copy, Debug, Default, PartialEq, Eq, Hash)]
+pub struct Control {
+    /// How many studios, 1 to 4.
+    pub studios: u32,
+    /// The studio of each session; 0 for a session that is not in use.
+    pub session_studios: [u32; sizes::SESSION_COUNT],
+    /// Records of the log that hold operations, up to 512.
+    pub used: u32,
+    /// Transactions committed.
+    pub commits: u32,
+    /// For each studio, how many transactions were sent to it.
+    pub sent: [u32; sizes::STUDIOS],
+    /// For each studio, how many of these its copy has taken.
+    pub applied: [u32; sizes::STUDIOS],
+}
+
+/// What a call answers. Words that have no meaning for the kind are 0.
+#[repr(C)]
+#[derive(Clone, Copy, Debug, PartialEq, Eq)]
+pub struct Answer {
+    /// [`REFUSED`], [`DONE`], [`ANSWERED`] or [`WAITS`].
+    pub kind: u32,
+    /// Refused: the number; done: what the call counts; answered: the state; waits: the session's number.
+    pub value: u32,
+    /// Answered: how many carts were found.
+    pub found: u32,
+    /// Control for the next call.
+    pub control: Control,
+}
+
+// The structs of the header have 27 and 30 words.
+const _: () = assert!(core::mem::size_of::<Control>() == 27 * 4 && core::mem::size_of::<Answer>() == 30 * 4);
+
+/// Nothing was done, and no byte was changed.
+pub const REFUSED: u32 = 0;
+/// Done.
+pub const DONE: u32 = 1;
+/// The read is answered; the carts are in output.
+pub const ANSWERED: u32 = 2;
+/// The read is kept in the session.
+pub const WAITS: u32 = 3;
+
+extern "C" {
+    /// Sets up a fresh system.
+    pub fn sulyobak_setup(
+        library: *mut u8,
+        library_len: usize,
+        log: *mut u8,
+        log_len: usize,
+        sessions: *mut u8,
+        sessions_len: usize,
+        studios: u32,
+        session_studios: *const u8,
+        session_studios_len: usize,
+    ) -> Answer;
+
+    /// Commits a transaction at the head end.
+    pub fn sulyobak_commit(
+        library: *mut u8,
+        library_len: usize,
+        log: *mut u8,
+        log_len: usize,
+        sessions: *mut u8,
+        sessions_len: usize,
+        control: Control,
+        session: u32,
+        operations: *const u8,
+        operations_len: usize,
+    ) -> Answer;
+
+    /// Counts the next committed transaction as sent to a studio.
+    pub fn sulyobak_send(
+        library: *mut u8,
+        library_len: usize,
+        log: *mut u8,
+        log_len: usize,
+        sessions: *mut u8,
+        sessions_len: usize,
+        control: Control,
+        studio: u32,
+    ) -> Answer;
+
+    /// Applies the next transaction that was sent to a studio to its copy.
+    pub fn sulyobak_refresh(
+        library: *mut u8,
+        library_len: usize,
+        log: *mut u8,
+        log_len: usize,
+        sessions: *mut u8,
+        sessions_len: usize,
+        control: Control,
+        studio: u32,
+    ) -> Answer;
+
+    /// Reads carts from the copy of the session's studio, or waits.
+    pub fn sulyobak_read(
+        library: *mut u8,
+        library_len: usize,
+        log: *mut u8,
+        log_len: usize,
+        sessions: *mut u8,
+        sessions_len: usize,
+        control: Control,
+        session: u32,
+        request: *const u8,
+        request_len: usize,
+        output: *mut u8,
+        output_len: usize,
+    ) -> Answer;
+
+    /// Collects the read that a session has waiting.
+    pub fn sulyobak_collect(
+        library: *mut u8,
+        library_len: usize,
+        log: *mut u8,
+        log_len: usize,
+        sessions: *mut u8,
+        sessions_len: usize,
+        control: Control,
+        session: u32,
+        output: *mut u8,
+        output_len: usize,
+    ) -> Answer;
+
+    /// Tests memory and control alone.
+    pub fn sulyobak_layout(
+        library: *mut u8,
+        library_len: usize,
+        log: *mut u8,
+        log_len: usize,
+        sessions: *mut u8,
+        sessions_len: usize,
+        control: Control,
+    ) -> Answer;
+}
