@@ -6,8 +6,14 @@
  * once the copy has reached the session's own last commit, and waits until then. So nobody is handed an old cut that they have just
  * replaced.
  *
- * Link with libsulyobak.a (the command `rt staticlib sulyobak` writes it to target/staticlib). It needs memcpy and memset and no other
- * function, allocates nothing, keeps nothing between calls, takes up to 28 kB of stack (measured), and runs on x86-64 Linux.
+ * ONE CHAIR IS ONE SESSION. The wait goes by the session's own number, so whoever edits must read in the session that committed. With two
+ * sessions in one chair, an edit committed in the first does not raise the second's number: a read in the second is answered at once from
+ * the copy as it is, with the old cut. That is right by the rules; it is the caller who keeps a person to one session.
+ *
+ * Link with libsulyobak.a (the command `rt staticlib sulyobak` writes it to target/staticlib):
+ *     cc -std=c99 -Iinclude program.c -Ltarget/staticlib -lsulyobak -o program
+ * It needs memcpy and memset and no other function, allocates nothing, keeps nothing between calls, and runs on x86-64 Linux.
+ * sulyobak_util.h has functions that make operations and requests and take carts and sessions apart.
  *
  * WHAT THE ENGINE LOOKS AFTER. Every byte and every number passed in is tested: any control, any bytes and any argument have their
  * answer. A refused call returns its number and changes no byte of your memory. Every call ends. Each function here is proved to
@@ -35,8 +41,13 @@ extern "C" {
 #endif
 
 /* The version of this interface: functions, structs, numbers and layout of memory. sulyobak_control and sulyobak_answer change with it,
- * so a header and a library go together, and control is stored together with the version that wrote it. */
+ * so a header and a library go together (compare the macro with sulyobak_version() at the program's start), and control is stored together
+ * with the version that wrote it. */
 #define SULYOBAK_VERSION 1
+
+/* Stack that every call keeps within, in bytes. Measured on a full system, not proved: examples/run runs examples/c/stack.c, which fails
+ * where a call takes more. */
+#define SULYOBAK_STACK_MOST 4096
 
 /* Sizes of the memories that a caller lends, in bytes: exactly these. */
 #define SULYOBAK_LIBRARY_SIZE 51200 /* five copies of 128 carts: the head end's, then those of studios 1 to 4 */
@@ -125,12 +136,14 @@ typedef struct {
 #define SULYOBAK_NOTHING_WAITING 14 /* The session has no read waiting. */
 #define SULYOBAK_BAD_STUDIOS 15     /* Studios are 1 to 4, with one byte for each of 16 sessions, none above the number of studios. */
 
-/* The three memories that every call is lent. They must be of the sizes above; the engine tests the lengths passed.
+/* The version of the linked library: SULYOBAK_VERSION of the header that it was made with. */
+uint32_t sulyobak_version(void);
+
+/* Every call is lent the three memories. They must be of the sizes above; the engine tests the lengths passed. What a call does not change
+ * it takes as const.
  *   library, library_len     SULYOBAK_LIBRARY_SIZE bytes: changed by setup, commit, refresh
  *   log, log_len             SULYOBAK_LOG_SIZE bytes: changed by setup, commit
  *   sessions, sessions_len   SULYOBAK_SESSIONS_SIZE bytes: changed by setup, commit, read, collect */
-#define SULYOBAK_MEMORY \
-    uint8_t *library, size_t library_len, uint8_t *log, size_t log_len, uint8_t *sessions, size_t sessions_len
 
 /* Sets up a fresh system: all memory zero, every cart empty, all counts zero.
  *   studios               how many studios, 1 to 4
@@ -138,27 +151,30 @@ typedef struct {
  *   session_studios_len   16
  * Answers done (value 0), or refused 1, 15. A refused setup leaves memory as it was and hands back a control of zeros, with which every
  * other call is refused by 2: keep your earlier control until setup is done. */
-sulyobak_answer sulyobak_setup(SULYOBAK_MEMORY, uint32_t studios, const uint8_t *session_studios, size_t session_studios_len);
+sulyobak_answer sulyobak_setup(uint8_t *library, size_t library_len, uint8_t *log, size_t log_len, uint8_t *sessions, size_t sessions_len,
+                               uint32_t studios, const uint8_t *session_studios, size_t session_studios_len);
 
 /* Commits a transaction at the head end: all its operations, in their order, or none.
  *   control                       as the last call handed it back
  *   session                       whose commit this is, 1 to 16; the session's later reads wait until its studio has taken this commit
  *   operations, operations_len    1 to 8 operations of 80 bytes, one after the other
  * Answers done (value: the commit's number, from 1), or refused 1, 2, 3, 4, 5, 6, 7, 8. */
-sulyobak_answer sulyobak_commit(SULYOBAK_MEMORY, sulyobak_control control, uint32_t session, const uint8_t *operations,
-                                size_t operations_len);
+sulyobak_answer sulyobak_commit(uint8_t *library, size_t library_len, uint8_t *log, size_t log_len, uint8_t *sessions, size_t sessions_len,
+                                sulyobak_control control, uint32_t session, const uint8_t *operations, size_t operations_len);
 
 /* Counts the next committed transaction as sent to a studio. Changes no memory.
  *   control   as the last call handed it back
  *   studio    1 to control.studios
  * Answers done (value: how many were sent to the studio by now), or refused 1, 2, 3, 9, 10. */
-sulyobak_answer sulyobak_send(SULYOBAK_MEMORY, sulyobak_control control, uint32_t studio);
+sulyobak_answer sulyobak_send(const uint8_t *library, size_t library_len, const uint8_t *log, size_t log_len,
+                              const uint8_t *sessions, size_t sessions_len, sulyobak_control control, uint32_t studio);
 
 /* Applies the next transaction that was sent to a studio, whole, to the studio's copy.
  *   control   as the last call handed it back
  *   studio    1 to control.studios
  * Answers done (value: how many the copy has taken by now), or refused 1, 2, 3, 11. */
-sulyobak_answer sulyobak_refresh(SULYOBAK_MEMORY, sulyobak_control control, uint32_t studio);
+sulyobak_answer sulyobak_refresh(uint8_t *library, size_t library_len, const uint8_t *log, size_t log_len,
+                                 const uint8_t *sessions, size_t sessions_len, sulyobak_control control, uint32_t studio);
 
 /* Reads carts from the copy of the session's studio, or waits if that copy is behind the session's own last commit.
  *   control               as the last call handed it back
@@ -170,20 +186,28 @@ sulyobak_answer sulyobak_refresh(SULYOBAK_MEMORY, sulyobak_control control, uint
  * Answers answered (value: how many transactions the copy had taken; found: how many of the places asked hold a cart, or how many carts
  * have the title), or waits (value: the session's number; the request is kept, output is left alone: call collect later), or
  * refused 1, 2, 3, 4, 12, 13. */
-sulyobak_answer sulyobak_read(SULYOBAK_MEMORY, sulyobak_control control, uint32_t session, const uint8_t *request, size_t request_len,
-                              uint8_t *output, size_t output_len);
+sulyobak_answer sulyobak_read(const uint8_t *library, size_t library_len, const uint8_t *log, size_t log_len,
+                              uint8_t *sessions, size_t sessions_len, sulyobak_control control, uint32_t session, const uint8_t *request,
+                              size_t request_len, uint8_t *output, size_t output_len);
 
 /* Collects the read that a session has waiting: answered, as by read, once the studio's copy has caught up; else it waits on.
  *   control               as the last call handed it back
  *   session               1 to 16
  *   output, output_len    as for read
  * Answers answered or waits, as read does, or refused 1, 2, 3, 14, 13 (in this order). */
-sulyobak_answer sulyobak_collect(SULYOBAK_MEMORY, sulyobak_control control, uint32_t session, uint8_t *output, size_t output_len);
+sulyobak_answer sulyobak_collect(const uint8_t *library, size_t library_len, const uint8_t *log, size_t log_len,
+                                 uint8_t *sessions, size_t sessions_len, sulyobak_control control, uint32_t session, uint8_t *output,
+                                 size_t output_len);
 
 /* Tests memory and control alone, as every call but setup does first: for use after loading them from a disk. Changes no memory.
  *   control   as it was stored
+ * It tells whether every field is within its rule, the log's chain has the transactions and records that control counts, and the counts
+ * agree with each other. It does not tell whether memory and control are those that were stored: an older control, or a title with another
+ * letter, can be of the layout too. Nor does it tell whether a copy is what the log makes: a test of that is to come (request S-8).
+ * examples/c/restart.c stores and loads a system.
  * Answers done (value 0), or refused 1, 2. */
-sulyobak_answer sulyobak_layout(SULYOBAK_MEMORY, sulyobak_control control);
+sulyobak_answer sulyobak_layout(const uint8_t *library, size_t library_len, const uint8_t *log, size_t log_len,
+                                const uint8_t *sessions, size_t sessions_len, sulyobak_control control);
 
 #ifdef __cplusplus
 }

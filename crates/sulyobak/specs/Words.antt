@@ -10,6 +10,10 @@ use Rattle.replication.specs.Calls.{After}
 use Rattle.replication.specs.declared.control.Control.{Control}
 use Rattle.sulyobak.specs.declared.words.Words.{Words}
 
+-- the version of these words, and of the memory's layout: SULYOBAK_VERSION of include/sulyobak.h
+abbrev pub version : ℕ
+version = 1
+
 abbrev pub words : ℕ → ℕ → ℕ → Control → Words
 words kind value found c = record { kind = kind; value = value; found = found; control = c }
 

@@ -13,9 +13,17 @@ ghost use mathlib.Core.Path.{_≡_};
 ghost use mathlib.Core.List.{[]};
 ghost use Rattle.replication.specs.Memory.{memory};
 ghost use Rattle.replication.specs.Calls.{setup, commit, send, refresh, read, collect};
-ghost use Rattle.sulyobak.specs.Words.{left, leftBy, layoutWords};
+ghost use Rattle.sulyobak.specs.Words.{left, leftBy, layoutWords, version};
 
 pub mod words;
+
+// The version of this interface, for a program that was compiled with a header of its own.
+#[no_mangle]
+pub extern "C" fn sulyobak_version() -> u32
+    ensures { λ r. ⌜ r ≡ version ⌝ }
+{
+    Words::VERSION
+}
 
 // Setup, with the studio of each of the sixteen sessions.
 #[no_mangle]

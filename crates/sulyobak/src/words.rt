@@ -19,6 +19,8 @@ pub struct Words {
 }
 
 impl Words {
+    pub const VERSION: u32 = 1;
+
     pub const REFUSED: u32 = 0;
 
     pub const DONE: u32 = 1;

@@ -54,6 +54,9 @@ pub const ANSWERED: u32 = 2;
 pub const WAITS: u32 = 3;
 
 extern "C" {
+    /// The version of the linked engine: [`VERSION`] of the interface that it was made for.
+    pub fn sulyobak_version() -> u32;
+
     /// Sets up a fresh system.
     pub fn sulyobak_setup(
         library: *mut u8,
@@ -83,11 +86,11 @@ extern "C" {
 
     /// Counts the next committed transaction as sent to a studio.
     pub fn sulyobak_send(
-        library: *mut u8,
+        library: *const u8,
         library_len: usize,
-        log: *mut u8,
+        log: *const u8,
         log_len: usize,
-        sessions: *mut u8,
+        sessions: *const u8,
         sessions_len: usize,
         control: Control,
         studio: u32,
@@ -97,9 +100,9 @@ extern "C" {
     pub fn sulyobak_refresh(
         library: *mut u8,
         library_len: usize,
-        log: *mut u8,
+        log: *const u8,
         log_len: usize,
-        sessions: *mut u8,
+        sessions: *const u8,
         sessions_len: usize,
         control: Control,
         studio: u32,
@@ -107,9 +110,9 @@ extern "C" {
 
     /// Reads carts from the copy of the session's studio, or waits.
     pub fn sulyobak_read(
-        library: *mut u8,
+        library: *const u8,
         library_len: usize,
-        log: *mut u8,
+        log: *const u8,
         log_len: usize,
         sessions: *mut u8,
         sessions_len: usize,
@@ -123,9 +126,9 @@ extern "C" {
 
     /// Collects the read that a session has waiting.
     pub fn sulyobak_collect(
-        library: *mut u8,
+        library: *const u8,
         library_len: usize,
-        log: *mut u8,
+        log: *const u8,
         log_len: usize,
         sessions: *mut u8,
         sessions_len: usize,
@@ -137,11 +140,11 @@ extern "C" {
 
     /// Tests memory and control alone.
     pub fn sulyobak_layout(
-        library: *mut u8,
+        library: *const u8,
         library_len: usize,
-        log: *mut u8,
+        log: *const u8,
         log_len: usize,
-        sessions: *mut u8,
+        sessions: *const u8,
         sessions_len: usize,
         control: Control,
     ) -> Answer;
