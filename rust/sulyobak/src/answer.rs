@@ -48,6 +48,8 @@ pub enum Refusal {
     Studios,
     /// A number that this version of the crate does not know.
     Unknown(u32),
+    /// The linked engine is of this version of the interface, and this crate is for [`VERSION`](crate::VERSION): nothing was called.
+    Version(u32),
 }
 
 impl Refusal {
@@ -76,7 +78,7 @@ impl Refusal {
         place.and_then(|place| Refusal::ALL.get(place)).copied().unwrap_or(Refusal::Unknown(number))
     }
 
-    /// Its number in document 01.
+    /// Its number in document 01; 0 for [`Refusal::Version`], which it does not have.
     pub fn number(self) -> u32 {
         match self {
             Refusal::Lengths => 1,
@@ -95,6 +97,7 @@ impl Refusal {
             Refusal::NothingWaiting => 14,
             Refusal::Studios => 15,
             Refusal::Unknown(number) => number,
+            Refusal::Version(_) => 0,
         }
     }
 
@@ -118,14 +121,18 @@ impl Refusal {
             Refusal::Output => "output is shorter than 80 bytes for each number asked, or 80 for a title",
             Refusal::NothingWaiting => "the session has no read waiting",
             Refusal::Studios => "studios are 1 to 4, with a studio for each of 16 sessions, none above the number of studios",
-            Refusal::Unknown(_) => "the linked engine is of another version than this crate",
+            Refusal::Unknown(_) => "a number that this version of the crate does not have",
+            Refusal::Version(_) => "the linked libsulyobak.a is of another version than this crate",
         }
     }
 }
 
 impl fmt::Display for Refusal {
     fn fmt(&self, f: &mut fmt::Formatter<'_>) -> fmt::Result {
-        write!(f, "refused ({}): {}", self.number(), self.sentence())
+        match self {
+            Refusal::Version(linked) => write!(f, "{}: {linked}, not {}", self.sentence(), sulyobak_sys::VERSION),
+            _ => write!(f, "refused ({}): {}", self.number(), self.sentence()),
+        }
     }
 }
 

@@ -14,6 +14,13 @@
 //! - [`Memory`] borrows memory that lies elsewhere, such as a mapped file.
 //! - [`Operation`], [`Request`] and [`Title`] are what goes in; [`Read`], [`Cart`] and [`Refusal`] what comes out.
 //!
+//! **One chair is one session.** The wait goes by the session's own number, so whoever edits must read in the session that committed.
+//! With two sessions in one chair, an edit committed in the first does not raise the second's number: a read in the second is answered at
+//! once, with the old cut. That is right by the rules; it is the caller who keeps a person to one session.
+//!
+//! The first call asks the linked engine for its version; where it is another than [`VERSION`], every call is refused by
+//! [`Refusal::Version`].
+//!
 //! # Example
 //!
 //! A producer re-cuts a jingle and reads it back in the same chair.
@@ -49,6 +56,7 @@ mod memory;
 mod operation;
 mod request;
 mod title;
+mod version;
 
 pub use answer::{Found, Read, Refusal};
 pub use cart::Cart;

@@ -1,5 +1,5 @@
 use crate::answer::{Read, Refusal};
-use crate::memory::Memory;
+use crate::memory::{self, Memory};
 use crate::operation::Operation;
 use crate::request::Request;
 use std::fmt;
@@ -17,7 +17,7 @@ pub struct Library {
 }
 
 /// A library taken apart, to be stored.
-#[derive(Clone, Debug, PartialEq, Eq)]
+#[derive(Clone, PartialEq, Eq)]
 pub struct Parts {
     /// The five copies, [`sizes::LIBRARY`] bytes.
     pub library: Box<[u8]>,
@@ -57,6 +57,9 @@ impl Library {
     }
 
     /// The library with these parts, or [`Refusal::Lengths`] or [`Refusal::Layout`] where they are damaged or do not belong together.
+    ///
+    /// The layout is tested, as each call does: every field within its rule, the log's chain and the counts agreeing. An older control that
+    /// is of the layout, or a title with another letter, is not seen, nor whether a copy is what the log makes.
     ///
     /// ```
     /// use sulyobak::{Library, Refusal};
@@ -119,6 +122,12 @@ impl Library {
 
 impl fmt::Debug for Library {
     fn fmt(&self, f: &mut fmt::Formatter<'_>) -> fmt::Result {
-        f.debug_struct("Library").field("control", &self.control).finish_non_exhaustive()
+        memory::debug(f, "Library", [&self.library, &self.log, &self.sessions], &self.control)
+    }
+}
+
+impl fmt::Debug for Parts {
+    fn fmt(&self, f: &mut fmt::Formatter<'_>) -> fmt::Result {
+        memory::debug(f, "Parts", [&self.library, &self.log, &self.sessions], &self.control)
     }
 }

@@ -1,6 +1,8 @@
 use crate::answer::{Found, Read, Refusal};
 use crate::operation::Operation;
 use crate::request::Request;
+use crate::version;
+use std::fmt;
 use sulyobak_sys::{self as sys, sizes, Control};
 
 /// A system in memory that lies elsewhere: three borrowed slices and control.
@@ -23,7 +25,6 @@ use sulyobak_sys::{self as sys, sizes, Control};
 /// assert_eq!(control.studios, 2);
 /// # Ok::<(), Refusal>(())
 /// ```
-#[derive(Debug)]
 pub struct Memory<'a> {
     /// The five copies, [`sizes::LIBRARY`] bytes.
     pub library: &'a mut [u8],
@@ -35,9 +36,10 @@ pub struct Memory<'a> {
     pub control: &'a mut Control,
 }
 
-// Calls an exported function with the three memories, and then the given arguments.
+// Calls an exported function with the three memories, and then the given arguments, if the linked engine is of this crate's version.
 macro_rules! call {
-    ($function:ident, $self:ident $(, $argument:expr)*) => {
+    ($function:ident, $self:ident $(, $argument:expr)*) => {{
+        version::check()?;
         // SAFETY: each pointer comes with its length from one slice, which stays borrowed for the whole call. What the engine writes
         // (the memories, output) is borrowed mutably, so that no two of the slices overlap and no other thread has them. The engine
         // accepts any bytes and any numbers, keeps no pointer, and does not unwind.
@@ -52,23 +54,30 @@ macro_rules! call {
                 $($argument),*
             )
         }
-    };
+    }};
 }
 
 impl Memory<'_> {
     /// Sets up a fresh system: all memory zero, every cart empty, all counts zero.
     ///
     /// There are 1 to 4 studios, and 16 bytes with the studio of each session; 0 leaves a session unused.
-    /// A refused setup leaves memory as it was, and a control of zeros ([`Control::default`]), as the engine hands it back.
+    /// A refused setup changes neither memory nor control, so a system that was live stays so. (The engine hands back a control of zeros
+    /// then; it is not taken over.)
     pub fn setup(&mut self, studios: u32, session_studios: &[u8]) -> Result<(), Refusal> {
         let answer = call!(sulyobak_setup, self, studios, session_studios.as_ptr(), session_studios.len());
-        self.done(answer).map(|_| ())
+        counted(&answer)?;
+        *self.control = answer.control;
+        Ok(())
     }
 
-    /// Tests lengths and layout alone, as every call but setup does first.
-    pub fn check(&mut self) -> Result<(), Refusal> {
-        let answer = call!(sulyobak_layout, self, *self.control);
-        self.done(answer).map(|_| ())
+    /// Tests lengths and layout alone, as every call but setup does first. Whether a copy is what the log makes is not tested.
+    pub fn check(&self) -> Result<(), Refusal> {
+        version::check()?;
+        let [(library, library_len), (log, log_len), (sessions, sessions_len)] =
+            [&self.library, &self.log, &self.sessions].map(|memory| (memory.as_ptr(), memory.len()));
+        // SAFETY: each pointer comes with its length from one slice, which stays borrowed for the whole call and is only read.
+        let answer = unsafe { sys::sulyobak_layout(library, library_len, log, log_len, sessions, sessions_len, *self.control) };
+        counted(&answer).map(|_| ())
     }
 
     /// Commits 1 to 8 operations at the head end, all or none. Returns the commit's number.
@@ -130,14 +139,10 @@ impl Memory<'_> {
         bytes.map_or(0, Request::places_in).min(sizes::NUMBERS)
     }
 
-    // The answer of setup, commit, send, refresh or the layout test.
+    // The answer of commit, send or refresh.
     fn done(&mut self, answer: sys::Answer) -> Result<u32, Refusal> {
         *self.control = answer.control;
-        match answer.kind {
-            sys::DONE => Ok(answer.value),
-            sys::REFUSED => Err(Refusal::from_number(answer.value)),
-            kind => other_version(kind),
-        }
+        counted(&answer)
     }
 
     // The answer of read or collect.
@@ -152,7 +157,38 @@ impl Memory<'_> {
     }
 }
 
+// What a call counts that does not read.
+fn counted(answer: &sys::Answer) -> Result<u32, Refusal> {
+    match answer.kind {
+        sys::DONE => Ok(answer.value),
+        sys::REFUSED => Err(Refusal::from_number(answer.value)),
+        kind => other_version(kind),
+    }
+}
+
 // No call of this version answers such a kind.
 fn other_version(kind: u32) -> ! {
     panic!("the linked engine answers a kind {kind} that this call does not have: libsulyobak.a is of another version than this crate")
+}
+
+// So many bytes, not each of them.
+struct Bytes(usize);
+
+impl fmt::Debug for Bytes {
+    fn fmt(&self, f: &mut fmt::Formatter<'_>) -> fmt::Result {
+        write!(f, "{} bytes", self.0)
+    }
+}
+
+// The three memories by their lengths, and control.
+pub(crate) fn debug(f: &mut fmt::Formatter<'_>, name: &str, memories: [&[u8]; 3], control: &Control) -> fmt::Result {
+    let [library, log, sessions] = memories.map(|memory| Bytes(memory.len()));
+    let mut shown = f.debug_struct(name);
+    shown.field("library", &library).field("log", &log).field("sessions", &sessions).field("control", control).finish()
+}
+
+impl fmt::Debug for Memory<'_> {
+    fn fmt(&self, f: &mut fmt::Formatter<'_>) -> fmt::Result {
+        debug(f, "Memory", [self.library, self.log, self.sessions], self.control)
+    }
 }

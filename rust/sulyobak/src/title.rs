@@ -23,25 +23,33 @@ pub struct Title {
 }
 
 impl Title {
-    /// The title with these letters, or the reason why there is none.
+    /// The title with these letters, or the reason why there is none. Letters are counted as people do: an é is one letter, though not a
+    /// printable ASCII one.
     pub fn new(text: &str) -> Result<Title, TitleError> {
-        Title::from_bytes(text.as_bytes())
+        Title::from_letters(text.chars().map(|letter| u8::try_from(letter).unwrap_or(0)))
     }
 
-    /// The same from bytes.
+    /// The same from bytes, each of them a letter.
     pub fn from_bytes(text: &[u8]) -> Result<Title, TitleError> {
-        if text.is_empty() {
+        Title::from_letters(text.iter().copied())
+    }
+
+    fn from_letters(text: impl Iterator<Item = u8> + Clone) -> Result<Title, TitleError> {
+        let length = text.clone().count();
+        if length == 0 {
             return Err(TitleError::Empty);
         }
-        if text.len() > sizes::TITLE {
-            return Err(TitleError::TooLong { length: text.len() });
+        if length > sizes::TITLE {
+            return Err(TitleError::TooLong { length });
         }
-        if let Some(at) = text.iter().position(|byte| !(32..=126).contains(byte)) {
+        if let Some(at) = text.clone().position(|letter| !(32..=126).contains(&letter)) {
             return Err(TitleError::Unprintable { at });
         }
         let mut letters = [0; sizes::TITLE];
-        letters[..text.len()].copy_from_slice(text);
-        Ok(Title { letters, length: text.len() as u8 })
+        for (place, letter) in letters.iter_mut().zip(text) {
+            *place = letter;
+        }
+        Ok(Title { letters, length: length as u8 })
     }
 
     /// The letters as bytes.
@@ -100,12 +108,12 @@ pub enum TitleError {
     Empty,
     /// There are more than 64 letters.
     TooLong {
-        /// How many bytes there are.
+        /// How many letters there are.
         length: usize,
     },
-    /// A byte is outside 32 to 126, so it is no printable ASCII letter.
+    /// A letter is no printable ASCII letter (space to `~`).
     Unprintable {
-        /// The byte's place, counted from 0.
+        /// The letter's place, counted from 0.
         at: usize,
     },
 }
@@ -115,9 +123,26 @@ impl fmt::Display for TitleError {
         match self {
             TitleError::Empty => write!(f, "the title is empty"),
             TitleError::TooLong { length } => write!(f, "the title has {length} letters; at most {} fit, and it is not cut", sizes::TITLE),
-            TitleError::Unprintable { at } => write!(f, "byte {at} of the title is no printable ASCII letter"),
+            TitleError::Unprintable { at } => write!(f, "letter {} of the title is no printable ASCII letter", at + 1),
         }
     }
 }
 
 impl Error for TitleError {}
+
+#[cfg(test)]
+mod tests {
+    use super::{Title, TitleError};
+
+    #[test]
+    fn length_and_place_are_told_in_letters() {
+        let accented = "é".repeat(40);
+        assert_eq!(Title::new(&accented), Err(TitleError::Unprintable { at: 0 }));
+        assert_eq!(Title::new(&format!("été{}", "x".repeat(62))), Err(TitleError::TooLong { length: 65 }));
+        let error = Title::new("Péter").unwrap_err();
+        assert_eq!(error.to_string(), "letter 2 of the title is no printable ASCII letter");
+        assert_eq!(Title::from_bytes(&[b'x'; 65]), Err(TitleError::TooLong { length: 65 }));
+        assert_eq!(Title::from_bytes(b"ab\x7f"), Err(TitleError::Unprintable { at: 2 }));
+        assert_eq!(Title::new("\u{e9}").map(|title| title.len()), Err(TitleError::Unprintable { at: 0 }));
+    }
+}

@@ -136,7 +136,7 @@ fn memory_of_another_length_or_layout() {
     assert_eq!(short.collect(1), Err(Refusal::Lengths));
     assert_eq!(*short.control, parts.control, "control comes back unchanged");
     assert_eq!(short.setup(2, &[1; 16]), Err(Refusal::Lengths));
-    assert_eq!(control, Control::default(), "a refused setup hands back the zero control");
+    assert_eq!(control, parts.control, "a refused setup leaves control alone");
 
     let mut parts = fresh().into_parts();
     parts.control.applied[0] = 1;
@@ -147,6 +147,36 @@ fn memory_of_another_length_or_layout() {
     let mut parts = fresh().into_parts();
     parts.sessions[sizes::SESSIONS - 1] = 1;
     assert_eq!(Library::from_parts(parts).err(), Some(Refusal::Layout));
+}
+
+#[test]
+fn a_refused_setup_leaves_a_live_library_alone() {
+    let mut library = fresh();
+    library.commit(1, &[new(7)]).expect("commit");
+    refused(&mut library, Refusal::Studios, |library| library.memory().setup(5, &[1; 16]));
+    refused(&mut library, Refusal::Studios, |library| library.memory().setup(2, &[1; 15]));
+    refused(&mut library, Refusal::Studios, |library| library.memory().setup(2, &[3; 16]));
+    assert_eq!(library.commit(1, &[recut(7)]), Ok(2));
+    assert_eq!(library.memory().setup(2, &[1; 16]), Ok(()));
+    assert_eq!(library.control().commits, 0);
+}
+
+#[test]
+fn memory_is_shown_by_its_lengths() {
+    let mut library = fresh();
+    let shown = format!("{:?}", library.memory());
+    assert!(shown.starts_with("Memory { library: 51200 bytes, log: 40960 bytes, sessions: 1280 bytes, control: Control { studios: 2,"));
+    assert!(shown.len() < 400, "{shown}");
+    assert!(format!("{library:?}").starts_with("Library { library: 51200 bytes"));
+    assert!(format!("{:?}", library.into_parts()).starts_with("Parts { library: 51200 bytes"));
+}
+
+#[test]
+fn two_sessions_in_one_chair() {
+    let mut library = fresh();
+    library.commit(1, &[new(7)]).expect("commit");
+    assert_eq!(library.read(1, &Request::cart(7)), Ok(Read::Waits { number: 1 }));
+    assert_eq!(library.read(2, &Request::cart(7)), Ok(Read::Answered { state: 0, found: 0, carts: vec![None] }));
 }
 
 #[test]
