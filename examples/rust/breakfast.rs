@@ -2,7 +2,8 @@
 //!
 //! Two versions of a jingle have long titles that differ in the last letter: a playlist imported by title and by cart number gets the
 //! same carts. Then a producer re-cuts the sponsor's jingle and reads it in the same chair while the studio's copy is two edits
-//! behind: the read waits, and is collected with the new cut.
+//! behind: the read waits, and is collected with the new cut. One chair is one session: a second session in the producer's chair has
+//! edited nothing, so its read is answered at once with the old cut.
 use std::error::Error;
 use sulyobak::{Library, Operation, Read, Refusal, Request, Title};
 
@@ -10,6 +11,7 @@ use sulyobak::{Library, Operation, Read, Refusal, Request, Title};
 const MANAGER: u32 = 1;
 const PRODUCER: u32 = 2;
 const PRESENTER: u32 = 3;
+const SECOND: u32 = 4; // in the producer's chair, by mistake
 const STUDIO: u32 = 1;
 
 // Carts.
@@ -19,7 +21,7 @@ const SPONSOR: u16 = 20;
 const NEWS: u16 = 30;
 
 fn main() -> Result<(), Box<dyn Error>> {
-    let mut wall = Library::new(1, &[1, 1, 1])?;
+    let mut wall = Library::new(1, &[1, 1, 1, 1])?;
     the_title_column(&mut wall)?;
     println!();
     the_sponsors_jingle(&mut wall)?;
@@ -67,7 +69,7 @@ fn the_sponsors_jingle(wall: &mut Library) -> Result<(), Box<dyn Error>> {
         Ok(number) => println!("commit {number}"),
         Err(refusal) => println!("another commit in that chair: {refusal}"),
     }
-    show("the presenter, who has edited nothing", &wall.read(PRESENTER, &request)?);
+    show("a second session in that chair reads the old cut", &wall.read(SECOND, &request)?);
     catch_up(wall)?;
     show("the producer collects", &wall.collect(PRODUCER)?);
     catch_up(wall)?;

@@ -1,0 +1,138 @@
+/*
+ * Measures the stack that each call takes on a full system: the call runs on a painted stack of its own, and the bytes that have lost their
+ * paint are counted, less those that a function takes that calls nothing. Ends with 0 if and only if every call keeps within
+ * SULYOBAK_STACK_MOST.
+ */
+#define _XOPEN_SOURCE 700
+#include "sulyobak_util.h"
+
+#include <stdio.h>
+#include <stdlib.h>
+#include <string.h>
+#include <ucontext.h>
+
+enum { STACK = 1 << 18, PAINT = 0xA5, EDITOR = 1, READER = 2 };
+
+static uint8_t library_memory[SULYOBAK_LIBRARY_SIZE];
+static uint8_t log_memory[SULYOBAK_LOG_SIZE];
+static uint8_t session_memory[SULYOBAK_SESSIONS_SIZE];
+static uint8_t operations[SULYOBAK_OPERATIONS * SULYOBAK_OPERATION_SIZE];
+static uint8_t request[SULYOBAK_REQUEST_SIZE];
+static uint8_t output[SULYOBAK_OUTPUT_MOST];
+static const uint8_t studios[SULYOBAK_SESSIONS] = {1, 1};
+static sulyobak_answer answer;
+
+#define MEMORY library_memory, sizeof library_memory, log_memory, sizeof log_memory, session_memory, sizeof session_memory
+
+typedef sulyobak_answer call(void);
+
+static sulyobak_answer nothing(void) { return answer; }
+static sulyobak_answer setup(void) { return sulyobak_setup(MEMORY, 1, studios, sizeof studios); }
+static sulyobak_answer commit_one(void) { return sulyobak_commit(MEMORY, answer.control, EDITOR, operations, 80); }
+static sulyobak_answer commit_eight(void) { return sulyobak_commit(MEMORY, answer.control, EDITOR, operations, sizeof operations); }
+static sulyobak_answer send(void) { return sulyobak_send(MEMORY, answer.control, 1); }
+static sulyobak_answer refresh(void) { return sulyobak_refresh(MEMORY, answer.control, 1); }
+static sulyobak_answer read_as(uint32_t session)
+{
+    return sulyobak_read(MEMORY, answer.control, session, request, sizeof request, output, sizeof output);
+}
+static sulyobak_answer read(void) { return read_as(READER); }
+static sulyobak_answer read_own(void) { return read_as(EDITOR); }
+static sulyobak_answer collect(void) { return sulyobak_collect(MEMORY, answer.control, EDITOR, output, sizeof output); }
+static sulyobak_answer layout(void) { return sulyobak_layout(MEMORY, answer.control); }
+
+static void fail(const char *what)
+{
+    printf("stack: FAILED: %s\n", what);
+    exit(1);
+}
+
+/* Plays a call that must not be refused. */
+static void accept(call *played, const char *what)
+{
+    answer = played();
+    if (answer.kind == SULYOBAK_REFUSED)
+        fail(what);
+}
+
+static uint8_t stack[STACK];
+static call *measured;
+
+static void run_measured(void)
+{
+    answer = measured();
+}
+
+/* How many bytes of a painted stack the call takes. */
+static long taken(call *played)
+{
+    static ucontext_t here, there;
+    long clean = 0;
+    memset(stack, PAINT, STACK);
+    measured = played;
+    if (getcontext(&there) != 0)
+        fail("getcontext");
+    there.uc_stack.ss_sp = stack;
+    there.uc_stack.ss_size = STACK;
+    there.uc_link = &here;
+    makecontext(&there, run_measured, 0);
+    if (swapcontext(&here, &there) != 0)
+        fail("swapcontext");
+    while (clean < STACK && stack[clean] == PAINT)
+        clean++;
+    return STACK - clean;
+}
+
+static void measure(const char *what, call *played)
+{
+    long bytes = taken(played) - taken(nothing);
+    if (answer.kind == SULYOBAK_REFUSED)
+        fail("a measured call was refused");
+    printf("  %-26s %6ld bytes\n", what, bytes);
+    if (bytes > SULYOBAK_STACK_MOST)
+        fail("more than SULYOBAK_STACK_MOST");
+}
+
+/* Eight operations, and a commit of the first alone until the log has room for eight more only. */
+static void fill(void)
+{
+    static const char longest[] = "0123456789012345678901234567890123456789012345678901234567890123";
+    uint32_t i;
+    for (i = 0; i < 8; i++)
+        sulyobak_operation_new(operations + 80 * i, i + 1, longest, 1, 1);
+    accept(setup, "setup");
+    accept(commit_eight, "commit");
+    for (i = 0; i < 8; i++)
+        sulyobak_operation_retitle(operations + 80 * i, i + 1, longest);
+    while (answer.control.used < SULYOBAK_RECORDS - 9)
+        accept(commit_one, "commit");
+    while (answer.control.applied[0] < answer.control.commits) {
+        accept(send, "send");
+        accept(refresh, "refresh");
+    }
+}
+
+int main(void)
+{
+    uint32_t carts[SULYOBAK_NUMBERS], i;
+    for (i = 0; i < SULYOBAK_NUMBERS; i++)
+        carts[i] = i + 1;
+    printf("Stack that a call takes on a full system\n");
+    fill();
+    measure("layout", layout);
+    measure("commit of 1 operation", commit_one);
+    measure("commit of 8 operations", commit_eight);
+    measure("send", send);
+    measure("refresh", refresh);
+    sulyobak_request_numbers(request, carts, SULYOBAK_NUMBERS);
+    measure("read of 32 numbers", read);
+    sulyobak_request_title(request, "0123456789012345678901234567890123456789012345678901234567890123");
+    measure("read of a title", read);
+    measure("read that waits", read_own);
+    measure("collect that waits", collect);
+    accept(send, "send");
+    accept(refresh, "refresh");
+    measure("collect of a title", collect);
+    measure("setup", setup);
+    return 0;
+}
