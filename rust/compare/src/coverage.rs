@@ -47,9 +47,13 @@ impl Coverage {
             }
         }
         self.note_lengths(call, before, end);
-        if end == 1 {
-            return;
+        if end != 1 {
+            self.note_arguments(call, control, before, answer);
         }
+    }
+
+    fn note_arguments(&mut self, call: &Call, control: &Control, before: &Before, answer: &Answer) {
+        let end = outcome(answer);
         match call {
             Call::Setup { studios, session_studios } => {
                 self.note_setup(*studios, session_studios, end);
