@@ -127,7 +127,7 @@ module _ (copy title : List ℕ) (found : Found) (e : found ≡ searchAnswer (ti
 -- what the code's case of a read says of its bytes
 abbrev pub ByCase : Waiting → List ℕ → Type 0
 ByCase Nothing x = requestOf x ≡ nothing
-ByCase (Numbers n) x = (requestOf x ≡ byNumbers (numbersIn x)) × (requestFields x ≡ numbersForm x)
+ByCase (Numbers n) x = (requestOf x ≡ byNumbers (numbersIn x)) × ((requestFields x ≡ numbersForm x) × (n ≡ byte x 1))
 ByCase (Title n) x = (requestOf x ≡ byTitle (part x 16 n)) × (requestFields x ≡ titleForm n (part x 16 64))
 
 pub by-case : (x : List ℕ) (w : Waiting) → w ≡ waitingValue x → ByCase w x
@@ -135,7 +135,7 @@ unfolding waitingValue requestOf requestFields
 by-case x w e = rw e (go (eqb (byte x 0) 1) (eqb (byte x 0) 2) refl refl)
   where
     go : (a b : Bool) → eqb (byte x 0) 1 ≡ a → eqb (byte x 0) 2 ≡ b → ByCase (cond a (Numbers (byte x 1)) (cond b (Title (byte x 1)) Nothing)) x
-    go true b p q = rw p (refl, refl)
+    go true b p q = rw p (refl, (refl, refl))
     go false true p q = rw (p, q) (refl, refl)
     go false false p q = rw (p, q)
 
@@ -144,11 +144,6 @@ pub case-nothing : (x : List ℕ) (w : Waiting) → w ≡ waitingValue x → One
 case-nothing x Nothing e k = by-case x Nothing e
 case-nothing x (Numbers n) e k = let z : ⊥ = omega arith in absurd z
 case-nothing x (Title n) e k = let z : ⊥ = omega arith in absurd z
-
-pub case-numbers : (x : List ℕ) (w : Waiting) → w ≡ waitingValue x → OneOf (1 ∷ []) (tagOf WaitingType.the-type w) → ByCase (Numbers (byte x 1)) x
-case-numbers x Nothing e k = let z : ⊥ = omega arith in absurd z
-case-numbers x (Numbers n) e k = by-case x (Numbers n) e
-case-numbers x (Title n) e k = let z : ⊥ = omega arith in absurd z
 
 -- a title of its form
 pub title-short : (n : ℕ) (t : List ℕ) → titleForm n t ≡ true → n ≤ 64

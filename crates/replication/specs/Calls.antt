@@ -2,7 +2,7 @@
 -- "Commit acts by this same effect on the head end's copy, refresh on its studio's, and an answered read is taken from the copy of
 -- its session's studio, each also where that copy is no L(n)."
 use mathlib.Core.Bool.{cond}
-use mathlib.Core.List.{List, [], _∷_}
+use mathlib.Core.List.{List, []}
 use Prim.Native.Nat.{ℕ, _+_, _-_}
 use lib.ListN.{length, set}
 use lib.Dec.{leb}

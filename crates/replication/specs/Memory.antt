@@ -43,6 +43,19 @@ sessionCount = 16
 abbrev pub sessionsSize : ℕ
 sessionsSize = 1280
 
+-- "Bytes 2–3: the session's number. Bytes 4–15 zero. Bytes 16–79: u16 cart numbers .. or the title"; "count of numbers 1–32"
+abbrev pub sequenceAt : ℕ
+sequenceAt = 2
+
+abbrev pub unusedAt : ℕ
+unusedAt = 4
+
+abbrev pub payloadAt : ℕ
+payloadAt = 16
+
+abbrev pub numbersMost : ℕ
+numbersMost = 32
+
 -- "S (studios, 1 to 4)"
 abbrev pub studioCount : ℕ
 studioCount = 4
@@ -82,10 +95,10 @@ withSession sessions s x = over sessions (sessionSize * (s - 1)) sessionSize x
 
 -- "Bytes 2–3: the session's number" (its sequence number)
 unfoldable pub sequenceOf : List ℕ → ℕ
-sequenceOf x = u16 x 2
+sequenceOf x = u16 x sequenceAt
 
 unfoldable pub withSequence : ℕ → List ℕ → List ℕ
-withSequence n x = over x 2 2 (u16Bytes n)
+withSequence n x = over x sequenceAt 2 (u16Bytes n)
 
 -- control's entry for session or studio i, counted from 1
 abbrev pub nth : List ℕ → ℕ → ℕ

@@ -1,12 +1,13 @@
 -- What the code's parts give, by the definitions: a session's value; a record's links; one transaction of the chain.
 use mathlib.Core.Bool.{Bool, true, false, cond, _&&_}
 use mathlib.Core.List.{List, [], _∷_}
-use Prim.Native.Nat.{ℕ, zero, suc, _+_, _*_}
+use Prim.Native.Nat.{ℕ, zero, suc, _+_, _*_, _-_}
 use lib.ListN.{length, drop}
 use lib.Dec.{leb, eqb}
 use Rattle.carts.specs.Bytes.{part, byte, u16, within, all, every, allZero, pairwise}
+use Rattle.carts.specs.Cart.{cartSize}
 use Rattle.replication.specs.Log.{nextOperation, nextTransaction, recordsOf, upFrom}
-use Rattle.replication.specs.Memory.{recordAt, sessionAt, sequenceOf, nth, studioOf}
+use Rattle.replication.specs.Memory.{unusedAt, payloadAt, recordAt, sessionAt, sequenceOf, nth, studioOf}
 use Rattle.replication.specs.Layout.{waitingForm}
 use Rattle.replication.specs.declared.session.Session.{Session}
 use Rattle.replication.specs.declared.session.Waiting.{Waiting}
@@ -29,14 +30,14 @@ waitsBy (Title n) = true
 
 abbrev pub neededBy : Waiting → ℕ
 neededBy Nothing = 0
-neededBy (Numbers n) = 80 * n
-neededBy (Title n) = 80
+neededBy (Numbers n) = cartSize * n
+neededBy (Title n) = cartSize
 
 -- a session's form, by its studio and the commits
 unfoldable pub sessionFormOf : ℕ → ℕ → List ℕ → Bool
 sessionFormOf studio commits x =
     cond (eqb studio 0) (allZero x)
-    (all (leb (sequenceOf x) commits ∷ allZero (part x 4 12) ∷ waitingForm x ∷ []))
+    (all (leb (sequenceOf x) commits ∷ allZero (part x unusedAt (payloadAt - unusedAt)) ∷ waitingForm x ∷ []))
 
 -- a record's links
 abbrev pub linksOf : List ℕ → ℕ → Record

@@ -59,9 +59,9 @@ pub fn collect(
             control,
         };
     }
-    let mut asked = [0u8; 80];
+    let mut asked = [0u8; Session::SIZE];
     bytes::copy_all(&mut asked, session::session_at(sessions, session));
-    let nothing = [0u8; 80];
+    let nothing = [0u8; Session::SIZE];
     let answer = block::block(
         control,
         library,

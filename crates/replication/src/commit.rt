@@ -14,7 +14,8 @@ ghost use mathlib.Core.List.{[]};
 ghost use Prim.Native.Nat.{_+_, _*_, _-_, _<_, _≤_};
 ghost use lib.ListN.{length};
 ghost use Rattle.replication.specs.Answer.{countAnswer};
-ghost use Rattle.replication.specs.Memory.{memory, sessionAt};
+ghost use Rattle.replication.specs.Memory.{memory, recordCount, sessionsSize, sessionCount, sessionAt};
+ghost use Rattle.carts.specs.Cart.{copySize};
 ghost use Rattle.replication.specs.Request.{requestOf, isWaiting};
 ghost use Rattle.replication.specs.Rows.{stopped, sizeForm, operationRows, commitStop};
 ghost use Rattle.replication.specs.Calls.{after, commit};
@@ -29,7 +30,7 @@ fn is_size(operations: &[u8]) -> bool
 
 // Rows 5 to 8: the number of the row that stops a commit of these operations, or 0.
 fn stopped_by_operations(used: u32, primary: &[u8], operations: &[u8]) -> u32
-    requires { ⌜ (used ≤ 512) × (length (now primary) ≡ 10240) ⌝ }
+    requires { ⌜ (used ≤ recordCount) × (length (now primary) ≡ copySize) ⌝ }
     ensures { λ r. ⌜ r ≡ stopped (operationRows used (now (primary .entry)) (now (operations .entry))) ⌝ }
 {
     if !is_size(operations) {
@@ -50,7 +51,7 @@ fn stopped_by_operations(used: u32, primary: &[u8], operations: &[u8]) -> u32
 
 // A read is waiting in a session.
 fn has_waiting(sessions: &[u8], session: u32) -> bool
-    requires { ⌜ (length (now sessions) ≡ 1280) × ((1 ≤ session) × (session ≤ 16)) ⌝ }
+    requires { ⌜ (length (now sessions) ≡ sessionsSize) × ((1 ≤ session) × (session ≤ sessionCount)) ⌝ }
     ensures { λ r. ⌜ r ≡ isWaiting (requestOf (sessionAt (now (sessions .entry)) session)) ⌝ }
 {
     Session::from_bytes(session::session_at(sessions, session)).is_waiting()

@@ -4,7 +4,7 @@ ghost use Prim.Native.Nat.{ℕ, _+_, _*_, _-_, _<_, _≤_};
 ghost use Rattle.carts.specs.Bytes.{every};
 ghost use lib.Dec.{leb};
 ghost use lib.ListN.{length};
-ghost use Rattle.replication.specs.Memory.{studioOf, nth};
+ghost use Rattle.replication.specs.Memory.{recordCount, sessionCount, studioCount, studioOf, nth};
 ghost use Rattle.replication.specs.Layout.{countsForm};
 ghost use Rattle.replication.specs.Calls.{controlOf, committed, withSent, withApplied};
 
@@ -21,6 +21,11 @@ pub struct Control {
 
 impl Control {
     pub const STUDIOS: u32 = 4;
+
+    // The head end's copy and the studios'.
+    pub const COPIES: u32 = 5;
+
+    pub const LIBRARY_SIZE: usize = 51200;
 
     pub const SESSIONS: u32 = 16;
 
@@ -42,7 +47,7 @@ impl Control {
 
     // The studio of a session; 0 for an unused one.
     pub fn studio_of(self, session: u32) -> u32
-        requires { ⌜ (1 ≤ session) × (session ≤ 16) ⌝ }
+        requires { ⌜ (1 ≤ session) × (session ≤ sessionCount) ⌝ }
         ensures { λ r. ⌜ r ≡ studioOf self session ⌝ }
     {
         let j = session as usize - 1;
@@ -59,7 +64,7 @@ impl Control {
 
     // What was sent to studio i.
     pub fn sent_to(self, i: u32) -> u32
-        requires { ⌜ (1 ≤ i) × (i ≤ 4) ⌝ }
+        requires { ⌜ (1 ≤ i) × (i ≤ studioCount) ⌝ }
         ensures { λ r. ⌜ r ≡ nth (self .sent) i ⌝ }
     {
         let j = i as usize - 1;
@@ -68,7 +73,7 @@ impl Control {
 
     // What studio i has applied.
     pub fn applied_by(self, i: u32) -> u32
-        requires { ⌜ (1 ≤ i) × (i ≤ 4) ⌝ }
+        requires { ⌜ (1 ≤ i) × (i ≤ studioCount) ⌝ }
         ensures { λ r. ⌜ r ≡ nth (self .applied) i ⌝ }
     {
         let j = i as usize - 1;
@@ -77,7 +82,7 @@ impl Control {
 
     // The counts of studio i are of the layout.
     pub fn has_counts(self, i: u32) -> bool
-        requires { ⌜ (1 ≤ i) × (i ≤ 4) ⌝ }
+        requires { ⌜ (1 ≤ i) × (i ≤ studioCount) ⌝ }
         ensures { λ r. ⌜ r ≡ countsForm self i ⌝ }
     {
         let sent = self.sent_to(i);
@@ -93,7 +98,7 @@ impl Control {
 
     // Control with another number sent to studio i.
     pub fn with_sent(self, i: u32, n: u32) -> Control
-        requires { ⌜ (1 ≤ i) × (i ≤ 4) ⌝ }
+        requires { ⌜ (1 ≤ i) × (i ≤ studioCount) ⌝ }
         ensures { λ r. ⌜ r ≡ withSent self i n ⌝ }
     {
         let j = i as usize - 1;
@@ -104,7 +109,7 @@ impl Control {
 
     // Control with another number applied by studio i.
     pub fn with_applied(self, i: u32, n: u32) -> Control
-        requires { ⌜ (1 ≤ i) × (i ≤ 4) ⌝ }
+        requires { ⌜ (1 ≤ i) × (i ≤ studioCount) ⌝ }
         ensures { λ r. ⌜ r ≡ withApplied self i n ⌝ }
     {
         let j = i as usize - 1;
@@ -115,7 +120,7 @@ impl Control {
 
     // Control after a commit of n operations.
     pub fn committed(self, n: u32) -> Control
-        requires { ⌜ (self .used + n ≤ 512) × (self .commits ≤ 512) ⌝ }
+        requires { ⌜ (self .used + n ≤ recordCount) × (self .commits ≤ recordCount) ⌝ }
         ensures { λ r. ⌜ r ≡ committed self n ⌝ }
     {
         let mut next = self;
@@ -127,7 +132,7 @@ impl Control {
 
 // Each number is at most the given one.
 fn are_at_most(numbers: &[u32], most: u32) -> bool
-    requires { ⌜ length (now numbers) ≤ 16 ⌝ }
+    requires { ⌜ length (now numbers) ≤ sessionCount ⌝ }
     ensures { λ r. ⌜ r ≡ every (λ i. leb i most) (now (numbers .entry)) ⌝ }
 {
     let mut ok = true;

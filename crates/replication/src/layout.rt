@@ -14,12 +14,13 @@ ghost use Prim.Native.Nat.{ℕ, _+_, _*_, _-_, _<_, _≤_};
 ghost use lib.ListN.{length};
 ghost use mathlib.Core.List.{[], _∷_};
 ghost use Rattle.carts.specs.Bytes.{every, eachPart};
-ghost use Rattle.replication.specs.Memory.{memory};
+ghost use Rattle.replication.specs.Memory.{memory, librarySize, copyCount, recordSize, recordCount, logSize, sessionSize, sessionsSize, sessionCount};
+ghost use Rattle.carts.specs.Cart.{copySize};
 ghost use Rattle.replication.specs.Layout.{replicaForm, recordForm, sessionForm, countsForm, ofLayout};
 
 // Copy i of a system of so many studios is of its form: carts, or zeros above the last studio.
 fn is_replica(copy: &[u8], i: u32, studios: u32) -> bool
-    requires { ⌜ length (now copy) ≡ 10240 ⌝ }
+    requires { ⌜ length (now copy) ≡ copySize ⌝ }
     ensures { λ r. ⌜ r ≡ replicaForm studios i (now (copy .entry)) ⌝ }
 {
     if i <= studios {
@@ -30,12 +31,12 @@ fn is_replica(copy: &[u8], i: u32, studios: u32) -> bool
 
 // The five copies.
 fn are_replicas(library: &[u8], studios: u32) -> bool
-    requires { ⌜ length (now library) ≡ 51200 ⌝ }
-    ensures { λ r. ⌜ r ≡ eachPart (replicaForm studios) 10240 5 0 (now (library .entry)) ⌝ }
+    requires { ⌜ length (now library) ≡ librarySize ⌝ }
+    ensures { λ r. ⌜ r ≡ eachPart (replicaForm studios) copySize copyCount 0 (now (library .entry)) ⌝ }
 {
     let mut ok = true;
     let mut i: u32 = 0;
-    while i < 5 {
+    while i < Control::COPIES {
         let start = Cart::COPY_SIZE * (i as usize);
         let end = start + Cart::COPY_SIZE;
         ok &= is_replica(&library[start..end], i, studios);
@@ -46,8 +47,8 @@ fn are_replicas(library: &[u8], studios: u32) -> bool
 
 // The first `used` records hold operations.
 fn are_records(log: &[u8], used: u32) -> bool
-    requires { ⌜ (length (now log) ≡ 40960) × (used ≤ 512) ⌝ }
-    ensures { λ r. ⌜ r ≡ eachPart recordForm 80 used 1 (now (log .entry)) ⌝ }
+    requires { ⌜ (length (now log) ≡ logSize) × (used ≤ recordCount) ⌝ }
+    ensures { λ r. ⌜ r ≡ eachPart recordForm recordSize used 1 (now (log .entry)) ⌝ }
 {
     let mut ok = true;
     let mut r: u32 = 0;
@@ -60,8 +61,8 @@ fn are_records(log: &[u8], used: u32) -> bool
 
 // The sixteen sessions.
 fn are_sessions(control: Control, sessions: &[u8]) -> bool
-    requires { ⌜ length (now sessions) ≡ 1280 ⌝ }
-    ensures { λ r. ⌜ r ≡ eachPart (sessionForm control) 80 16 1 (now (sessions .entry)) ⌝ }
+    requires { ⌜ length (now sessions) ≡ sessionsSize ⌝ }
+    ensures { λ r. ⌜ r ≡ eachPart (sessionForm control) sessionSize sessionCount 1 (now (sessions .entry)) ⌝ }
 {
     let mut ok = true;
     let mut s: u32 = 0;
@@ -84,7 +85,7 @@ fn are_counts(control: Control) -> bool
 
 // Control and memory are of this layout.
 pub fn is_layout(control: Control, library: &[u8], log: &[u8], sessions: &[u8]) -> bool
-    requires { ⌜ (length (now library) ≡ 51200) × ((length (now log) ≡ 40960) × (length (now sessions) ≡ 1280)) ⌝ }
+    requires { ⌜ (length (now library) ≡ librarySize) × ((length (now log) ≡ logSize) × (length (now sessions) ≡ sessionsSize)) ⌝ }
     ensures { λ r. ⌜ r ≡ ofLayout control (memory (now (library .entry)) (now (log .entry)) (now (sessions .entry))) ⌝ }
 {
     let used = control.used;

@@ -66,7 +66,7 @@ pub fn read(
             control,
         };
     }
-    let mut own = [0u8; 80];
+    let mut own = [0u8; Session::SIZE];
     bytes::copy_all(&mut own, session::session_at(sessions, session));
     let answer = block::block(control, library, sessions, session, request, &own, output);
     let ReadAnswer::Waits(number) = answer else {

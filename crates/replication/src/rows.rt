@@ -3,7 +3,6 @@ use crate::control::Control;
 use crate::layout;
 use crate::record::Record;
 use crate::session::Session;
-use carts::cart::Cart;
 ghost use mathlib.Core.Path.{_≡_};
 ghost use mathlib.Core.List.{[], _∷_, _++_};
 ghost use Prim.Native.Nat.{ℕ, _+_, _*_, _-_, _<_, _≤_};
@@ -14,7 +13,7 @@ ghost use Rattle.replication.specs.Rows.{stopped, memoryRows, sessionRow
 pub fn are_lengths(library: &[u8], log: &[u8], sessions: &[u8]) -> bool
     ensures { λ r. ⌜ r ≡ lengthsForm (memory (now (library .entry)) (now (log .entry)) (now (sessions .entry))) ⌝ }
 {
-    (library.len() == 5 * Cart::COPY_SIZE)
+    (library.len() == Control::LIBRARY_SIZE)
         & (log.len() == Record::LOG_SIZE)
         & (sessions.len() == Session::MEMORY_SIZE)
 }

@@ -11,7 +11,7 @@ ghost use lib.ListN.{length};
 ghost use lib.Dec.{leb};
 ghost use Rattle.carts.specs.Bytes.{every};
 ghost use Rattle.replication.specs.Answer.{setupAnswer};
-ghost use Rattle.replication.specs.Memory.{memory};
+ghost use Rattle.replication.specs.Memory.{memory, sessionCount};
 ghost use Rattle.replication.specs.Rows.{setupStop};
 ghost use Rattle.replication.specs.Calls.{after, setup};
 
@@ -30,12 +30,12 @@ fn are_studios(places: &[u8], studios: u32) -> bool
 
 // The sixteen studio bytes as numbers.
 fn numbers_of(places: &[u8]) -> [u32; 16]
-    requires { ⌜ length (now places) ≡ 16 ⌝ }
+    requires { ⌜ length (now places) ≡ sessionCount ⌝ }
     ensures { λ r. ⌜ r ≡ now (places .entry) ⌝ }
 {
     let mut numbers = [0u32; 16];
     let mut i = 0;
-    while i < 16 {
+    while i < places.len() {
         numbers[i] = bytes::byte_at(places, i);
         i += 1;
     }
@@ -52,7 +52,7 @@ pub fn decide_setup(library: &[u8], log: &[u8], sessions: &[u8], studios: u32, p
     if !bytes::is_within(1, Control::STUDIOS, studios) {
         return 15;
     }
-    if places.len() != 16 {
+    if places.len() != Control::SESSIONS as usize {
         return 15;
     }
     if !are_studios(places, studios) {

@@ -16,22 +16,20 @@ use Rattle.replication.proofs.output.show_numbers.Statement.{statement}
 use Rattle.replication.proofs.output.show_numbers.Tie as tie
 
 abbrev Inv-loop : tie.InvT-loop
-Inv-loop copy request output₀ n found₀ i₀ output found i =
+Inv-loop copy request count output₀ n found₀ i₀ output found i =
     (i ≤ n) × (length output ≡ length output₀) × (found ≤ i) × (foundByNumbers copy (numbersIn request) ≡ found + foundByNumbers copy (Left request n i))
     × (over output₀ 0 (80 * n) (shownByNumbers copy (numbersIn request)) ≡ over output (80 * i) (80 * (n - i)) (shownByNumbers copy (Left request n i)))
 
 abbrev μ-loop : tie.MeasureT-loop
-μ-loop copy request output₀ n found₀ i₀ output found i = n - i
+μ-loop copy request count output₀ n found₀ i₀ output found i = n - i
 
-byte-at-requires : tie.Need-byte-at-requires Inv-loop μ-loop
-byte-at-requires c κs = omega arith
-
-cast-n : tie.Need-cast-n Inv-loop μ-loop
-cast-n c = omega arith
+abbrev start : tie.At-loop Inv-loop μ-loop → tie.Start Inv-loop μ-loop
+start t = t .before .before .before .before
 
 loop-holds : tie.Need-loop-holds Inv-loop μ-loop
-loop-holds c = let g = c .before .before .before .before .args in
-    let e = c .byte-at .ensures .0 in
+loop-holds c = let s = c .before .before .before in
+    let g = s .args in
+    let e = s .pre .1 .1 in
     (omega arith, refl, omega arith, found-start (g .copy .now) (g .request .now) _ e, shown-start (g .copy .now) (g .request .now) _ e (g .output .now))
 
 mul-u16-at : tie.Need-mul-u16-at Inv-loop μ-loop
@@ -41,9 +39,9 @@ add-u16-at : tie.Need-add-u16-at Inv-loop μ-loop
 add-u16-at c = omega arith
 
 u16-at-requires : tie.Need-u16-at-requires Inv-loop μ-loop
-u16-at-requires c κs = let s = c .before .before .before .before .before .before in
-    let k = few-numbers (s .args .request .now) (s .pre .1 .0) in
-    omega (arith, c .before .before .byte-at .ensures .0)
+u16-at-requires c κs = let s = start (c .before) in
+    let k = few-numbers (s .args .request .now) (s .pre .1 .0 .0) in
+    omega (arith, s .pre .1 .1)
 
 mul-start : tie.Need-mul-start Inv-loop μ-loop
 mul-start c = omega arith
@@ -62,16 +60,16 @@ part-show-cart-end c = omega arith
 
 -- the number read in a turn
 within-128 : (c : tie.After-u16-at Inv-loop μ-loop) → (1 ≤ c .u16-at .result) × (c .u16-at .result ≤ 128)
-within-128 c = let s = c .before .before .before .before .before .before .before in
-    let n = c .before .before .before .byte-at .ensures .0 in
+within-128 c = let s = start (c .before .before) in
+    let n = s .pre .1 .1 in
     let t = c .before .loop-test .taken in
-    let w = number-within (s .args .request .now) (s .pre .1 .0) (c .before .before .loop .i) (omega arith) in
+    let w = number-within (s .args .request .now) (s .pre .1 .0 .0) (c .before .before .loop .i) (omega arith) in
     let e = c .u16-at .ensures .0 in
     (omega arith, omega arith)
 
 show-cart-requires : tie.Need-show-cart-requires Inv-loop μ-loop
 show-cart-requires c κs = let t = c .before .before .before in
-    let s = t .before .before .before .before .before in
+    let s = start t in
     ((s .pre .0 .0, within-128 (c .before)), length-lent 80 (t .loop .i) (t .loop .output) (omega arith))
 
 add-found : tie.Need-add-found Inv-loop μ-loop
@@ -87,7 +85,7 @@ loop-again : tie.Need-loop-again Inv-loop μ-loop
 loop-again c = let y = c .before .before in
     let u = y .before .before in
     let t = u .before .before in
-    let s = t .before .before .before .before .before in
+    let s = start t in
     let g = s .args in
     let i = t .loop .i in
     let e = u .u16-at .ensures .0 in
@@ -108,8 +106,9 @@ same-length c = c .before .loop .inv .1
 
 returns : tie.Need-returns Inv-loop μ-loop
 returns c = let t = c .before in
-    let g = t .before .before .before .before .before .args in
-    let e = t .before .byte-at .ensures .0 in
+    let s = start t in
+    let g = s .args in
+    let e = s .pre .1 .1 in
     let h = c .loop-test .left in (
       found-end (g .copy .now) (g .request .now) _ (t .loop .i) (t .loop .found) h (t .loop .inv .3),
       shown-end (g .copy .now) (g .request .now) _ (t .loop .i) (t .loop .output) h (t .loop .inv .4)
@@ -122,8 +121,6 @@ show-numbers-spec =
     (tie.spec
     Inv-loop
     μ-loop
-    byte-at-requires
-    cast-n
     loop-holds
     mul-u16-at
     add-u16-at

@@ -1,4 +1,4 @@
-use mathlib.Core.Path.{refl, ap, _∙_}
+use mathlib.Core.Path.{ap, _∙_}
 use lib.ListN.{length}
 use Rattle.replication.specs.Answer.{readAnswer}
 use Rattle.replication.specs.Memory.{memory}

@@ -22,6 +22,9 @@ right c = sym (c .before .are-lengths .ensures) ∙ not-false (c .before .are-le
 returns-2 : tie.Need-returns-2
 returns-2 c = setup-studios _ _ _ (right (c .before .before)) 0 (sym (c .before .is-within .ensures) ∙ not-true (c .before .is-within .result) (c .if2 .taken))
 
+cast-if3 : tie.Need-cast-if3
+cast-if3 c = search needs
+
 returns-3 : tie.Need-returns-3
 returns-3 c = setup-studios _ _ _ (right (c .before .before .before)) 1 (ne-eqb _ _ (c .if3 .taken))
 
@@ -45,6 +48,7 @@ decide-setup-spec =
     returns
     is-within-requires
     returns-2
+    cast-if3
     returns-3
     are-studios-requires
     returns-4
