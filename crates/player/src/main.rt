@@ -1,32 +1,14 @@
 // Plays a transcript, the file that its first argument names or standard input: each call's answer, a summary, and the
 // one-copy order replayed on a single library. docs/TRANSCRIPT.md has the format and the limits.
-mod order;
 mod play;
-mod print;
-mod show;
 
-use transcript::parse;
-use transcript::parse::Call;
-use transcript::progress::Progress;
-use transcript::text;
-use transcript::text::Class;
+use journal::progress::Progress;
+use lines::parse;
+use lines::text;
+use lines::text::Class;
 ghost use mathlib.Core.Path.{_≡_};
 ghost use Prim.Native.Nat.{_≤_};
 ghost use lib.ListN.{length};
-
-// A call is shown with its line's number; a comment and a blank line as they are.
-fn echo(line: u32, bytes: &[u8], call: Call) {
-    match call {
-        Call::Nothing => print::words(bytes),
-        _ => {
-            let mut page = io::buffer();
-            let n = report::summary::echo(&mut page, line);
-            print::told(&page, n);
-            print::words(bytes);
-        }
-    }
-    print::words(b"\n");
-}
 
 // A line, where it is whole.
 fn play_line(
@@ -48,7 +30,7 @@ fn play_line(
     let next = p.next_line();
     let mut payload = [0u8; 640];
     let call = parse::parse(line, &mut payload);
-    echo(next.line, line, call);
+    print::summary::echo(next.line, line, call);
     play::play_call(next, library, log, sessions, cells, store, call, &payload)
 }
 
@@ -78,18 +60,24 @@ fn play_lines(
     player
 }
 
-// The lines after a line were cut.
-fn cut_after(line: u32) {
-    let mut page = io::buffer();
-    let n = report::summary::cut(&mut page, line);
-    print::told(&page, n);
-}
-
-fn summary(p: Progress) {
-    let tally = p.tally;
-    let mut page = io::buffer();
-    let n = report::summary::summary(&mut page, p.line, tally);
-    print::told(&page, n);
+// Every line, then the summary and the order of what came last.
+fn play_all(
+    library: &mut [u8],
+    log: &mut [u8],
+    sessions: &mut [u8],
+    cells: &mut [u32],
+    store: &mut [u8],
+    bytes: &[u8],
+    cut: bool,
+)
+    requires { ⌜ length (now cells) ≡ 8192 ⌝ }
+{
+    let player = play_lines(library, log, sessions, cells, store, bytes, cut);
+    if cut {
+        print::summary::cut_after(player.line);
+    }
+    print::summary::summary(player);
+    print::order::show_order(player.history, cells, store);
 }
 
 // All memory is on the stack.
@@ -98,8 +86,8 @@ fn play_text(bytes: &[u8], cut: bool) {
     let mut log = [0u8; 40960];
     let mut sessions = [0u8; 1280];
     let mut cells = [0u32; 8192];
-    let mut store = [0u8; 524288];
-    let player = play_lines(
+    let mut store = [0u8; 262144];
+    play_all(
         &mut library,
         &mut log,
         &mut sessions,
@@ -108,11 +96,6 @@ fn play_text(bytes: &[u8], cut: bool) {
         bytes,
         cut,
     );
-    if cut {
-        cut_after(player.line);
-    }
-    summary(player);
-    order::show_order(player.history, &cells, &store);
 }
 
 // The transcript is cut where there is more to read than the buffer holds.

@@ -1,88 +1,40 @@
-// The calls of a transcript: each is played on the engine, its answer told in words, and handed to the library to be kept.
-use crate::order;
-use crate::print;
-use crate::show;
-use replication::answer::CountAnswer;
+// The calls of a transcript: each is played on the engine, its answer printed, and handed to the journal to be kept.
+use journal::history;
+use journal::progress;
+use journal::progress::Progress;
+use lines::parse::Call;
+use lines::text;
 use replication::answer::CountResult;
-use replication::answer::ReadAnswer;
 use replication::answer::ReadResult;
-use replication::answer::SetupAnswer;
-use replication::answer::SetupResult;
 use replication::collect::collect;
 use replication::commit::commit;
 use replication::read::read;
 use replication::refresh::refresh;
 use replication::send::send;
 use replication::setup::setup;
-use transcript::cursor::Mistake;
-use transcript::history;
-use transcript::history::History;
-use transcript::parse::Call;
-use transcript::progress;
-use transcript::progress::Progress;
-use transcript::replay;
-use transcript::text;
 ghost use mathlib.Core.Path.{_≡_};
-ghost use Prim.Native.Nat.{_<_, _≤_};
+ghost use Prim.Native.Nat.{_≤_};
 ghost use lib.ListN.{length};
 
-// The order of the answers before a setup, where there are any.
-fn end_part(h: History, cells: &[u32], store: &[u8])
-    requires { ⌜ h .entries ≤ 1024 ⌝ }
-{
-    if h.entries == 0 {
-        return;
-    }
-    let mut page = io::buffer();
-    let n = report::answer::ended(&mut page);
-    print::told(&page, n);
-    order::show_order(h, cells, store);
-}
-
-fn tell_fresh(studios: u32) {
-    let mut page = io::buffer();
-    let n = report::answer::fresh(&mut page, studios);
-    print::told(&page, n);
-}
-
-// What a setup of n studios answered.
-fn finish_setup(p: Progress, result: SetupResult, cells: &[u32], store: &[u8], n: u32) -> Progress
+fn play_setup(
+    p: Progress,
+    library: &mut [u8],
+    log: &mut [u8],
+    sessions: &mut [u8],
+    cells: &[u32],
+    store: &[u8],
+    studios: u32,
+    payload: &[u8],
+) -> Progress
     requires { ⌜ p .history .entries ≤ 1024 ⌝ }
     ensures { λ r. ⌜ r .history .entries ≤ 1024 ⌝ }
 {
+    let places = text::part_of(payload, 0, 16);
+    let result = setup(library, log, sessions, studios, places);
     let answer = result.answer;
     let history = p.history;
-    match answer {
-        SetupAnswer::Ready => {
-            end_part(history, cells, store);
-            tell_fresh(n);
-        }
-        SetupAnswer::Refused(row) => print::refusal(row),
-    }
+    print::answer::made(answer, history, cells, store, studios);
     p.after_setup(result)
-}
-
-fn tell_commit(answer: CountAnswer) {
-    match answer {
-        CountAnswer::Number(edit) => {
-            let mut page = io::buffer();
-            let n = report::answer::committed(&mut page, edit);
-            print::told(&page, n);
-        }
-        CountAnswer::Refused(row) => print::refusal(row),
-    }
-}
-
-// What became of an edit at a studio: it was sent there, or applied.
-fn tell_moved(edit: u32, studio: u32, is_sent: bool) {
-    let mut page = io::buffer();
-    if is_sent {
-        let n = report::answer::sent(&mut page, edit, studio);
-        print::told(&page, n);
-        return;
-    }
-    let n = report::answer::applied(&mut page, edit, studio);
-    print::told(&page, n);
 }
 
 fn play_commit(
@@ -100,82 +52,21 @@ fn play_commit(
 {
     let result = commit(p.control, library, log, sessions, session, ops);
     let answer = result.answer;
-    tell_commit(answer);
+    print::answer::committed(answer);
     p.after_commit(result, cells, store, session, ops)
 }
 
-// A send or a refresh, with what became of the edit.
-fn moved(p: Progress, result: CountResult, studio: u32, is_sent: bool) -> Progress
+// A send or a refresh was answered.
+fn finish_move(p: Progress, result: CountResult, studio: u32, is_sent: bool) -> Progress
     requires { ⌜ p .history .entries ≤ 1024 ⌝ }
     ensures { λ r. ⌜ r .history .entries ≤ 1024 ⌝ }
 {
     let answer = result.answer;
-    match answer {
-        CountAnswer::Number(edit) => tell_moved(edit, studio, is_sent),
-        CountAnswer::Refused(row) => print::refusal(row),
-    }
+    print::answer::moved(answer, studio, is_sent);
     p.after_move(result)
 }
 
-// The cart shown at place i of a read by numbers.
-fn shown_at(block: &[u8], i: usize)
-    requires { ⌜ i < 256 ⌝ }
-{
-    let cart = text::part_of(block, 80 + 80 * i, 80);
-    if text::letter(cart, 0) == 1 {
-        print::cart(cart);
-        return;
-    }
-    let mut page = io::buffer();
-    let n = report::cart::empty(&mut page, replay::asked(block, i as u32));
-    print::told(&page, n);
-}
-
-fn shown(block: &[u8], n: usize)
-    requires { ⌜ n < 256 ⌝ }
-{
-    let mut i: usize = 0;
-    while i < n {
-        shown_at(block, i);
-        i += 1;
-    }
-}
-
-// What a read by title found.
-fn found_by_title(block: &[u8], found: u32) {
-    if found == 1 {
-        print::cart(text::part_of(block, 80, 80));
-        return;
-    }
-    let mut page = io::buffer();
-    if found == 0 {
-        let n = report::answer::untitled(&mut page);
-        print::told(&page, n);
-        return;
-    }
-    let n = report::answer::several(&mut page, found);
-    print::told(&page, n);
-}
-
-// An answered read: its request stands at the start of the block, its output after it.
-fn tell_answered(block: &[u8], state: u32, found: u32) {
-    let mut page = io::buffer();
-    let n = report::answer::answered(&mut page, state, found);
-    print::told(&page, n);
-    if text::letter(block, 0) == 2 {
-        found_by_title(block, found);
-        return;
-    }
-    shown(block, progress::places(block));
-}
-
-fn tell_waits(edit: u32) {
-    let mut page = io::buffer();
-    let n = report::answer::waits(&mut page, edit);
-    print::told(&page, n);
-}
-
-// What a read or a collect answered.
+// A read or a collect was answered.
 fn finish_read(
     p: Progress,
     result: ReadResult,
@@ -188,11 +79,7 @@ fn finish_read(
     ensures { λ r. ⌜ r .history .entries ≤ 1024 ⌝ }
 {
     let answer = result.answer;
-    match answer {
-        ReadAnswer::Answered { state, found } => tell_answered(block, state, found),
-        ReadAnswer::Waits(edit) => tell_waits(edit),
-        ReadAnswer::Refused(n) => print::refusal(n),
-    }
+    print::answer::read(answer, block);
     p.after_read(result, cells, store, session, block)
 }
 
@@ -235,12 +122,30 @@ fn play_collect(
     finish_read(p, result, cells, store, session, &block)
 }
 
-// A line that is no call.
-fn tell_mistake(line: u32, mistake: Mistake, at: usize) {
-    let column = std::num::wrapping_add_u64(at as u64, 1);
-    let mut page = io::buffer();
-    let n = report::mistake::unreadable(&mut page, line, column, mistake);
-    print::told(&page, n);
+// A call that adds no entry; a comment and an empty line are none.
+fn play_other(p: Progress, library: &mut [u8], log: &[u8], sessions: &[u8], call: Call) -> Progress
+    requires { ⌜ p .history .entries ≤ 1024 ⌝ }
+    ensures { λ r. ⌜ r .history .entries ≤ 1024 ⌝ }
+{
+    match call {
+        Call::Show => {
+            print::show::show(p.control, library, sessions);
+            p
+        }
+        Call::Send(studio) => {
+            let result = send(p.control, library, log, sessions, studio);
+            finish_move(p, result, studio, true)
+        }
+        Call::Refresh(studio) => {
+            let result = refresh(p.control, library, log, sessions, studio);
+            finish_move(p, result, studio, false)
+        }
+        Call::Unreadable { mistake, at } => {
+            print::answer::unreadable(p.line, mistake, at);
+            p.unreadable()
+        }
+        _ => p,
+    }
 }
 
 // One call, with its bytes at the start of the payload.
@@ -258,15 +163,8 @@ pub fn play_call(
     ensures { λ r. ⌜ r .history .entries ≤ 1024 ⌝ }
 {
     match call {
-        Call::Nothing => p,
-        Call::Show => {
-            show::show(p.control, library, sessions);
-            p
-        }
         Call::Setup(studios) => {
-            let places = text::part_of(payload, 0, 16);
-            let result = setup(library, log, sessions, studios, places);
-            finish_setup(p, result, cells, store, studios)
+            play_setup(p, library, log, sessions, cells, store, studios, payload)
         }
         Call::Commit {
             session,
@@ -275,22 +173,11 @@ pub fn play_call(
             let ops = text::part_of(payload, 0, 80 * (operations as usize));
             play_commit(p, library, log, sessions, cells, store, session, ops)
         }
-        Call::Send(studio) => {
-            let result = send(p.control, library, log, sessions, studio);
-            moved(p, result, studio, true)
-        }
-        Call::Refresh(studio) => {
-            let result = refresh(p.control, library, log, sessions, studio);
-            moved(p, result, studio, false)
-        }
         Call::Read(session) => {
             let request = text::part_of(payload, 0, 80);
             play_read(p, library, log, sessions, cells, store, session, request)
         }
         Call::Collect(session) => { play_collect(p, library, log, sessions, cells, store, session) }
-        Call::Unreadable { mistake, at } => {
-            tell_mistake(p.line, mistake, at);
-            p.unreadable()
-        }
+        _ => play_other(p, library, log, sessions, call),
     }
 }

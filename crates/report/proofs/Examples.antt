@@ -5,42 +5,13 @@ use mathlib.Core.Bool.{true, false}
 use Rattle.carts.specs.Bytes.{zeros, u16, u32, u16Bytes}
 use Rattle.carts.specs.Cart.{held}
 use Rattle.carts.specs.Fields.{cartFields}
-use Rattle.transcript.specs.declared.cursor.Mistake.the-variants.{NumberMissing}
-use Rattle.transcript.specs.Build.{u32Bytes, titleField, operationBytes, u16List, numbersBytes}
-use Rattle.transcript.specs.Words.{bytesOf}
-use Rattle.report.specs.Page.{digitsOf, decimal, countOf, quoted}
-use Rattle.report.specs.Sentences.{refusalSentence}
-use Rattle.report.specs.Lines.{refusalText, unreadableText, freshText, sentText, answeredText, recordingText, cartText, headText, askedNumbers, waitingText, sessionText, kindText, entryText, unlikeText, verdictText, cutText, tallyText, summaryText}
-
-pub record Numbers : Type 0 where
-  zero : decimal 0 ≡ bytesOf "0"
-  ten : decimal 10 ≡ bytesOf "10"
-  largest-u32 : decimal 4294967295 ≡ bytesOf "4294967295"
-  largest-u64 : decimal 18446744073709551615 ≡ bytesOf "18446744073709551615"
-  one-studio : countOf 1 (bytesOf "studio") ≡ bytesOf "1 studio"
-  two-studios : countOf 2 (bytesOf "studio") ≡ bytesOf "2 studios"
-  no-studio : countOf 0 (bytesOf "studio") ≡ bytesOf "0 studios"
-
-pub numbers : Numbers
-unfolding digitsOf decimal countOf
-numbers = record {
-  zero = refl;
-  ten = refl;
-  largest-u32 = refl;
-  largest-u64 = refl;
-  one-studio = refl;
-  two-studios = refl;
-  no-studio = refl;
-}
+use Rattle.lines.specs.Build.{u32Bytes, titleField, operationBytes, u16List, numbersBytes}
+use Rattle.lines.specs.Words.{bytesOf}
+use Rattle.words.specs.Page.{digitsOf, decimal, countOf, quoted}
+use Rattle.report.specs.Lines.{recordingText, cartText, headText, askedNumbers, waitingText, sessionText, kindText, entryText, unlikeText, verdictText, cutText, tallyText, summaryText}
 
 -- a held cart has the bytes of the operation that made it
 pub record Lines : Type 0 where
-  refused : refusalText 9 ≡ bytesOf "  refused (9): every edit has been sent to this studio\n"
-  unnamed : refusalText 16 ≡ bytesOf "  refused (16): unknown\n"
-  unreadable : unreadableText 3 5 NumberMissing ≡ bytesOf "  line 3, column 5 cannot be read: a number is missing\n"
-  fresh : freshText 2 ≡ bytesOf "  a fresh system with 2 studios\n"
-  sent : sentText 3 1 ≡ bytesOf "  edit 3 is sent to studio 1\n"
-  answered : answeredText 2 1 ≡ bytesOf "  answered at edit 2, found 1:\n"
   cart : cartText (operationBytes 1 7 501 8000 (bytesOf "Hour")) ≡ bytesOf "    cart 7 \"Hour\", audio 501, length 8000 ms\n"
   head-end : headText 1 4 ≡ bytesOf "  head end: 1 edit, 4 of 512 log records\n"
   nothing-waits : sessionText 1 2 (zeros 2 ++ (u16Bytes 300 ++ zeros 76)) ≡ bytesOf "  session 1 at studio 2: number 300, nothing waits\n"
@@ -54,14 +25,8 @@ pub record Lines : Type 0 where
   summary : summaryText 9 (record { accepted = 5; waited = 1; refused = 2; unreadable = 0 }) ≡ bytesOf "\nSummary: 9 lines; calls accepted 5, waited 1, refused 2; lines that could not be read 0\n"
 
 pub lines : Lines
-unfolding zeros u16 u32 u16Bytes held cartFields u32Bytes titleField operationBytes u16List numbersBytes digitsOf decimal countOf quoted refusalSentence refusalText unreadableText freshText sentText answeredText recordingText cartText headText askedNumbers waitingText sessionText kindText entryText unlikeText verdictText cutText tallyText summaryText
+unfolding zeros u16 u32 u16Bytes held cartFields u32Bytes titleField operationBytes u16List numbersBytes digitsOf decimal countOf quoted recordingText cartText headText askedNumbers waitingText sessionText kindText entryText unlikeText verdictText cutText tallyText summaryText
 lines = record {
-  refused = refl;
-  unnamed = refl;
-  unreadable = refl;
-  fresh = refl;
-  sent = refl;
-  answered = refl;
   cart = refl;
   head-end = refl;
   nothing-waits = refl;

@@ -1,3 +1,3 @@
--- Laws for the proofs of this crate.
+-- Laws for the proofs of this crate, and worked examples.
 pub mod Examples
-pub mod PageLaws
+pub mod StateLaws

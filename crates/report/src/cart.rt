@@ -1,10 +1,10 @@
 // Carts in words.
-use crate::page;
 use carts::cart::Cart;
+use words::page;
 ghost use mathlib.Core.Path.{_≡_};
 ghost use Prim.Native.Nat.{ℕ, _+_, _≤_};
 ghost use lib.ListN.{length};
-ghost use Rattle.report.specs.Page.{pageSize, Put, Told};
+ghost use Rattle.words.specs.Page.{pageSize, Put, Told};
 ghost use Rattle.report.specs.Lines.{recordingText, cartText, emptyText, noCartText};
 
 // A cart's recording, and the line's end.

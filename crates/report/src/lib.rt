@@ -1,9 +1,5 @@
-// What the player says: each line as text at the start of a lent page.
-pub mod answer;
+// Carts, the state, the one-copy order and the whole transcript in words: each line as text at the start of a lent page.
 pub mod cart;
-pub mod mistake;
 pub mod order;
-pub mod page;
-pub mod refusal;
 pub mod state;
 pub mod summary;

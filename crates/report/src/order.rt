@@ -1,10 +1,10 @@
 // The one-copy order in words.
-use crate::page;
-use transcript::history::Entry;
+use journal::history::Entry;
+use words::page;
 ghost use mathlib.Core.Path.{_≡_};
 ghost use Prim.Native.Nat.{ℕ, _+_, _≤_};
 ghost use lib.ListN.{length};
-ghost use Rattle.report.specs.Page.{pageSize, Put, Told};
+ghost use Rattle.words.specs.Page.{pageSize, Put, Told};
 ghost use Rattle.report.specs.Lines.{orderText, kindText, entryText, unlikeText, verdictText, leftOutText};
 
 // The order begins.

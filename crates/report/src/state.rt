@@ -1,12 +1,12 @@
 // The state of copies and sessions in words.
-use crate::page;
 use carts::bytes;
-use transcript::replay;
+use lines::build;
+use words::page;
 ghost use mathlib.Core.Path.{_≡_};
 ghost use Prim.Native.Nat.{ℕ, _+_, _≤_};
 ghost use lib.ListN.{length};
 ghost use Prim.Native.Nat.{_*_};
-ghost use Rattle.report.specs.Page.{pageSize, Put, Told};
+ghost use Rattle.words.specs.Page.{pageSize, Put, Told};
 ghost use Rattle.report.specs.Lines.{noSystemText, headText, studioText, askedNumbers, waitingText, sessionText};
 
 // There is no system.
@@ -47,7 +47,7 @@ fn put_asked(out: &mut [u8], at: usize, request: &[u8], n: u32) -> usize
     let mut end = at;
     let mut i: u32 = 0;
     while i < n {
-        end = page::put_numbered(out, end, b" ", replay::asked(request, i));
+        end = page::put_numbered(out, end, b" ", build::asked(request, i));
         i += 1;
     }
     end

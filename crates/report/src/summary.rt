@@ -1,10 +1,10 @@
 // The transcript itself in words.
-use crate::page;
-use transcript::progress::Tally;
+use journal::progress::Tally;
+use words::page;
 ghost use mathlib.Core.Path.{_≡_};
 ghost use Prim.Native.Nat.{ℕ, _+_, _≤_};
 ghost use lib.ListN.{length};
-ghost use Rattle.report.specs.Page.{pageSize, Put, Told};
+ghost use Rattle.words.specs.Page.{pageSize, Put, Told};
 ghost use Rattle.report.specs.Lines.{echoText, cutText, tallyText, summaryText};
 
 // A line's number, before the line itself.

@@ -1,4 +1,4 @@
-use Rattle.transcript.specs.Progress.{start}
+use Rattle.journal.specs.Progress.{start}
 use lib.ListN.{length}
 use Prim.Native.Nat.{_≤_, _-_}
 use mathlib.Core.Path.{_≡_, refl, _∙_}

@@ -1,5 +1,5 @@
 use Rattle.report.specs.Lines.{emptyText}
-use Rattle.report.proofs.PageLaws.{told-none, told-more}
+use Rattle.words.proofs.PageLaws.{told-none, told-more}
 use borrow.Author.Needs.{needs}
 use Rattle.report.proofs.cart.empty.Statement.{statement}
 use Rattle.report.proofs.cart.empty.Tie as tie

@@ -1,6 +1,6 @@
 use native.Mathlib.Omega.{arith}
 use Rattle.report.specs.Lines.{recordingText}
-use Rattle.report.proofs.PageLaws.{put-both}
+use Rattle.words.proofs.PageLaws.{put-both}
 use borrow.Author.Needs.{needs}
 use Rattle.report.proofs.cart.put_recording.Statement.{statement}
 use Rattle.report.proofs.cart.put_recording.Tie as tie

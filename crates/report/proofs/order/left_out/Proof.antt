@@ -1,5 +1,5 @@
 use Rattle.report.specs.Lines.{leftOutText}
-use Rattle.report.proofs.PageLaws.{told-none, told-more}
+use Rattle.words.proofs.PageLaws.{told-none, told-more}
 use borrow.Author.Needs.{needs}
 use Rattle.report.proofs.order.left_out.Statement.{statement}
 use Rattle.report.proofs.order.left_out.Tie as tie

@@ -3,9 +3,10 @@ use mathlib.Core.Path.{_≡_, refl, _∙_}
 use Prim.Native.Nat.{_+_, _-_, _*_, _≤_}
 use lib.ListN.{length}
 use borrow.Author.Needs.{needs}
-use Rattle.report.specs.Page.{Put}
+use Rattle.words.specs.Page.{Put}
 use Rattle.report.specs.Lines.{askedNumbers}
-use Rattle.report.proofs.PageLaws.{put-none, put-both, asked-more}
+use Rattle.words.proofs.PageLaws.{put-none, put-both}
+use Rattle.report.proofs.StateLaws.{asked-more}
 use Rattle.report.proofs.state.put_asked.Statement.{statement}
 use Rattle.report.proofs.state.put_asked.Tie as tie
 

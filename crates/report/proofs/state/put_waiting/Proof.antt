@@ -1,7 +1,7 @@
 use native.Mathlib.Omega.{arith}
 use borrow.Author.Tests.{eq-eqb, ne-eqb}
 use Rattle.report.specs.Lines.{waitingText}
-use Rattle.report.proofs.PageLaws.{put-both}
+use Rattle.words.proofs.PageLaws.{put-both}
 use borrow.Author.Needs.{needs}
 use Rattle.report.proofs.state.put_waiting.Statement.{statement}
 use Rattle.report.proofs.state.put_waiting.Tie as tie

@@ -1,0 +1,3 @@
+-- What the contracts of the journal cite.
+pub mod History
+pub mod Progress

@@ -1,0 +1,97 @@
+-- What a player of a transcript carries from line to line, and how each answer changes it.
+use mathlib.Core.Bool.{cond}
+use mathlib.Core.List.{List}
+use Prim.Native.Nat.{ℕ, _+_, _*_, _%_}
+use lib.ListN.{length, replicate}
+use lib.Dec.{eqb}
+use Rattle.carts.specs.Bytes.{byte, over}
+use Rattle.replication.specs.Calls.{controlOf}
+use Rattle.replication.specs.declared.control.Control.{Control}
+use Rattle.replication.specs.declared.answer.SetupAnswer.{SetupAnswer}
+use Rattle.replication.specs.declared.answer.SetupAnswer.the-variants as Setup
+use Rattle.replication.specs.declared.answer.CountAnswer.{CountAnswer}
+use Rattle.replication.specs.declared.answer.CountAnswer.the-variants as Count
+use Rattle.replication.specs.declared.answer.ReadAnswer.{ReadAnswer}
+use Rattle.replication.specs.declared.answer.ReadAnswer.the-variants as Read
+use Rattle.lines.specs.Text.{partIn}
+use Rattle.journal.specs.History.{addedCells, addedStore, addedHistory, emptyHistory, keptIn}
+use Rattle.journal.specs.declared.history.Entry.{Entry}
+use Rattle.journal.specs.declared.history.History.{History}
+use Rattle.journal.specs.declared.progress.Outcome.{Outcome}
+use Rattle.journal.specs.declared.progress.Outcome.the-variants.{Accepted, Waited, Refused, Unreadable}
+use Rattle.journal.specs.declared.progress.Tally.{Tally}
+use Rattle.journal.specs.declared.progress.Progress.{Progress}
+
+-- one more, in 32 bits
+abbrev pub oneMore : ℕ → ℕ
+oneMore n = (n + 1) % 4294967296
+
+-- one line more of an outcome
+unfoldable pub counted : Tally → Outcome → Tally
+counted t Accepted = record { accepted = oneMore (t .accepted); waited = t .waited; refused = t .refused; unreadable = t .unreadable }
+counted t Waited = record { accepted = t .accepted; waited = oneMore (t .waited); refused = t .refused; unreadable = t .unreadable }
+counted t Refused = record { accepted = t .accepted; waited = t .waited; refused = oneMore (t .refused); unreadable = t .unreadable }
+counted t Unreadable = record { accepted = t .accepted; waited = t .waited; refused = t .refused; unreadable = oneMore (t .unreadable) }
+
+-- before the first line: no system and no entry
+unfoldable pub start : Progress
+start = record { line = 0; control = controlOf 0 (replicate 16 0); history = emptyHistory; tally = record { accepted = 0; waited = 0; refused = 0; unreadable = 0 } }
+
+-- one line more
+unfoldable pub nextLine : Progress → Progress
+nextLine p = record { line = oneMore (p .line); control = p .control; history = p .history; tally = p .tally }
+
+-- after a line: control and history as they are then, and its outcome counted
+unfoldable pub stepped : Progress → Control → History → Outcome → Progress
+stepped p control history outcome = record { line = p .line; control = control; history = history; tally = counted (p .tally) outcome }
+
+-- what an answer leaves: the entries' numbers, the store, and what is carried on
+pub record Kept : Type 0 where
+  pub cells : List ℕ
+  pub store : List ℕ
+  pub progress : Progress
+
+abbrev pub kept : List ℕ → List ℕ → Progress → Kept
+kept cells store p = record { cells = cells; store = store; progress = p }
+
+-- an entry of kind 1, a commit, or 2, a read; its slots are set where it is added
+abbrev pub entryOf : ℕ → ℕ → ℕ → ℕ → ℕ → Entry
+entryOf kind line session number found = record { kind = kind; line = line; session = session; number = number; found = found; first = 0; slots = 0 }
+
+-- an accepted call, with one entry more where there is room
+unfoldable pub withEntry : Progress → Control → Entry → List ℕ → List ℕ → List ℕ → Kept
+withEntry p control e payload cells store =
+    kept (addedCells (p .history) e payload cells store) (addedStore (p .history) e payload cells store) (stepped p control (addedHistory (p .history) e payload cells store) Accepted)
+
+-- a setup: accepted, the entries begin anew
+unfoldable pub afterSetup : Progress → Control → SetupAnswer → Progress
+afterSetup p control Setup.Ready = stepped p control emptyHistory Accepted
+afterSetup p control (Setup.Refused n) = stepped p control (p .history) Refused
+
+-- a send or a refresh
+unfoldable pub afterMove : Progress → Control → CountAnswer → Progress
+afterMove p control (Count.Number n) = stepped p control (p .history) Accepted
+afterMove p control (Count.Refused n) = stepped p control (p .history) Refused
+
+-- a commit: accepted, it is an entry with its operations
+unfoldable pub afterCommit : Progress → Control → CountAnswer → ℕ → List ℕ → List ℕ → List ℕ → Kept
+afterCommit p control (Count.Number n) session ops cells store = withEntry p control (entryOf 1 (p .line) session n 0) ops cells store
+afterCommit p control (Count.Refused n) session ops cells store = kept cells store (stepped p control (p .history) Refused)
+
+-- how many carts an answered read shows: one for a title, else one for each number; the request is at the block's start
+unfoldable pub placesOf : List ℕ → ℕ
+placesOf block = cond (eqb (byte block 0) 2) 1 (byte block 1)
+
+-- the request and the carts shown after it
+unfoldable pub readBytes : List ℕ → List ℕ
+readBytes block = partIn block 0 (80 + 80 * placesOf block)
+
+-- a read or a collect: answered, it is an entry with its request and carts; where it waits, its request is kept
+unfoldable pub afterRead : Progress → Control → ReadAnswer → ℕ → List ℕ → List ℕ → List ℕ → Kept
+afterRead p control (Read.Answered state found) session block cells store = withEntry p control (entryOf 2 (p .line) session state found) (readBytes block) cells store
+afterRead p control (Read.Waits n) session block cells store = kept cells (keptIn store session (partIn block 0 80)) (stepped p control (p .history) Waited)
+afterRead p control (Read.Refused n) session block cells store = kept cells store (stepped p control (p .history) Refused)
+
+-- a request, where it is one, at the start of a block
+unfoldable pub requestIn : List ℕ → List ℕ → List ℕ
+requestIn block request = cond (eqb (length request) 80) (over block 0 80 request) block

@@ -1,0 +1,3 @@
+// What is kept of a transcript from line to line: the accepted commits and answered reads, and how each answer changes what is carried on.
+pub mod history;
+pub mod progress;

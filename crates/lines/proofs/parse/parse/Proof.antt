@@ -1,0 +1,136 @@
+use mathlib.Core.Path.{_≡_, refl, sym, _∙_}
+use mathlib.Core.Bool.{true, false}
+use mathlib.Core.List.{[]}
+use Rattle.lines.specs.declared.parse.Call.the-variants.{Nothing, Show}
+use Rattle.lines.specs.Cursor.{newAt, movedTo, nextWord, wordEnd, isOver}
+use Rattle.lines.specs.Parse.{line, lineOf, wholeCall, numberCallAt}
+use Rattle.lines.proofs.ParseLaws.{line-means}
+use borrow.Author.Needs.{needs}
+use Rattle.lines.proofs.parse.parse.Statement.{statement}
+use Rattle.lines.proofs.parse.parse.Tie as tie
+
+-- the line is not over; its first word, and the cursor past it
+over : (c : tie.Else1) → isOver (c .before .before .before .before .before .args .s .now) (newAt 0) ≡ false
+over c = rw (c .before .before .new .ensures) at (sym (c .before .is-over .ensures) ∙ c .if1 .left)
+
+word : (c : tie.After-past-word) → c .before .peek-word .result .now ≡ nextWord (c .before .before .before .before .before .before .before .args .s .now) (newAt 0)
+word c = rw (c .before .before .before .before .new .ensures) at (c .before .peek-word .ensures)
+
+next : (c : tie.After-past-word) → c .past-word .result ≡ movedTo (newAt 0) (wordEnd (c .before .before .before .before .before .before .before .args .s .now) (newAt 0))
+next c = rw (c .before .before .before .before .new .ensures) at (c .past-word .ensures)
+
+new-requires : tie.Need-new-requires
+new-requires c κs = search needs
+
+is-over-requires : tie.Need-is-over-requires
+is-over-requires c κs = search needs
+
+returns : tie.Need-returns
+unfolding lineOf
+returns c = let h : isOver (c .before .before .before .before .before .args .s .now) (newAt 0) ≡ true = rw (c .before .before .new .ensures) at (sym (c .before .is-over .ensures) ∙ c .if1 .taken) in
+    line-means _ (line Nothing []) _ _ _ (record { call = refl; payload = refl; fits = tt }) (rw h)
+
+peek-word-requires : tie.Need-peek-word-requires
+peek-word-requires c κs = search needs
+
+past-word-requires : tie.Need-past-word-requires
+past-word-requires c κs = search needs
+
+slice-aggregate-same : tie.Need-slice-aggregate-same
+slice-aggregate-same c = search needs
+
+same-requires : tie.Need-same-requires
+same-requires c κs = search needs
+
+whole-requires : tie.Need-whole-requires
+whole-requires c κs = search needs
+
+returns-2 : tie.Need-returns-2
+unfolding lineOf
+returns-2 c = line-means _ (line (wholeCall _ (c .before .before .before .before .past-word .result) Show) []) _ _ _ (record { call = c .whole .ensures .0; payload = refl; fits = c .whole .ensures .1 }) (rw (next (c .before .before .before .before), over (c .before .before .before .before .before .before), ← word (c .before .before .before .before), ← c .before .before .same .ensures, c .before .if2 .taken))
+
+slice-aggregate-same-2 : tie.Need-slice-aggregate-same-2
+slice-aggregate-same-2 c = search needs
+
+same-requires-2 : tie.Need-same-requires-2
+same-requires-2 c κs = search needs
+
+setup-requires : tie.Need-setup-requires
+setup-requires c κs = search needs
+
+same-length : tie.Need-same-length
+same-length c = search needs
+
+returns-3 : tie.Need-returns-3
+unfolding lineOf
+returns-3 c = line-means _ _ _ _ _ (c .before .before .setup .ensures) (rw (next (c .before .before .before .before .before .before .before .before .before .before), over (c .before .before .before .before .before .before .before .before .before .before .before .before), ← word (c .before .before .before .before .before .before .before .before .before .before), ← c .before .before .before .before .before .before .before .before .same .ensures, c .before .before .before .before .before .before .before .if2 .left, ← c .before .before .before .before .before .same2 .ensures, c .before .before .before .before .if3 .taken))
+
+slice-aggregate-same-3 : tie.Need-slice-aggregate-same-3
+slice-aggregate-same-3 c = search needs
+
+same-requires-3 : tie.Need-same-requires-3
+same-requires-3 c κs = search needs
+
+commit-requires : tie.Need-commit-requires
+commit-requires c κs = search needs
+
+same-length-2 : tie.Need-same-length-2
+same-length-2 c = search needs
+
+returns-4 : tie.Need-returns-4
+unfolding lineOf
+returns-4 c = line-means _ _ _ _ _ (c .before .before .commit .ensures) (rw (next (c .before .before .before .before .before .before .before .before .before .before .before .before .before), over (c .before .before .before .before .before .before .before .before .before .before .before .before .before .before .before), ← word (c .before .before .before .before .before .before .before .before .before .before .before .before .before), ← c .before .before .before .before .before .before .before .before .before .before .before .same .ensures, c .before .before .before .before .before .before .before .before .before .before .if2 .left, ← c .before .before .before .before .before .before .before .before .same2 .ensures, c .before .before .before .before .before .before .before .if3 .left, ← c .before .before .before .before .before .same3 .ensures, c .before .before .before .before .if4 .taken))
+
+slice-aggregate-same-4 : tie.Need-slice-aggregate-same-4
+slice-aggregate-same-4 c = search needs
+
+same-requires-4 : tie.Need-same-requires-4
+same-requires-4 c κs = search needs
+
+read-requires : tie.Need-read-requires
+read-requires c κs = search needs
+
+same-length-3 : tie.Need-same-length-3
+same-length-3 c = search needs
+
+returns-5 : tie.Need-returns-5
+unfolding lineOf
+returns-5 c = line-means _ _ _ _ _ (c .before .before .read .ensures) (rw (next (c .before .before .before .before .before .before .before .before .before .before .before .before .before .before .before .before), over (c .before .before .before .before .before .before .before .before .before .before .before .before .before .before .before .before .before .before), ← word (c .before .before .before .before .before .before .before .before .before .before .before .before .before .before .before .before), ← c .before .before .before .before .before .before .before .before .before .before .before .before .before .before .same .ensures, c .before .before .before .before .before .before .before .before .before .before .before .before .before .if2 .left, ← c .before .before .before .before .before .before .before .before .before .before .before .same2 .ensures, c .before .before .before .before .before .before .before .before .before .before .if3 .left, ← c .before .before .before .before .before .before .before .before .same3 .ensures, c .before .before .before .before .before .before .before .if4 .left, ← c .before .before .before .before .before .same4 .ensures, c .before .before .before .before .if5 .taken))
+
+by-number-requires : tie.Need-by-number-requires
+by-number-requires c κs = search needs
+
+returns-6 : tie.Need-returns-6
+unfolding lineOf
+returns-6 c = line-means _ (line (numberCallAt _ (c .before .before .before .before .before .before .before .before .before .before .before .before .before .past-word .result) (c .before .before .before .before .before .before .before .before .before .before .before .before .before .before .peek-word .result .now)) []) _ _ _ (record { call = c .by-number .ensures .0; payload = refl; fits = c .by-number .ensures .1 }) (rw (next (c .before .before .before .before .before .before .before .before .before .before .before .before .before), over (c .before .before .before .before .before .before .before .before .before .before .before .before .before .before .before), ← word (c .before .before .before .before .before .before .before .before .before .before .before .before .before), ← c .before .before .before .before .before .before .before .before .before .before .before .same .ensures, c .before .before .before .before .before .before .before .before .before .before .if2 .left, ← c .before .before .before .before .before .before .before .before .same2 .ensures, c .before .before .before .before .before .before .before .if3 .left, ← c .before .before .before .before .before .same3 .ensures, c .before .before .before .before .if4 .left, ← c .before .before .same4 .ensures, c .before .if5 .left))
+
+pub parse-spec : {M : Type 1} → statement M
+parse-spec =
+    tie.close
+    (tie.spec
+    new-requires
+    is-over-requires
+    returns
+    peek-word-requires
+    past-word-requires
+    slice-aggregate-same
+    same-requires
+    whole-requires
+    returns-2
+    slice-aggregate-same-2
+    same-requires-2
+    setup-requires
+    same-length
+    returns-3
+    slice-aggregate-same-3
+    same-requires-3
+    commit-requires
+    same-length-2
+    returns-4
+    slice-aggregate-same-4
+    same-requires-4
+    read-requires
+    same-length-3
+    returns-5
+    by-number-requires
+    returns-6)

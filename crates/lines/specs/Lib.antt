@@ -1,0 +1,6 @@
+-- What the contracts of lines cite.
+pub mod Build
+pub mod Cursor
+pub mod Parse
+pub mod Text
+pub mod Words

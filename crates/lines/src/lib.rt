@@ -1,0 +1,5 @@
+// Lines of a transcript: read as calls, with the bytes of their operations, requests and studios.
+pub mod build;
+pub mod cursor;
+pub mod parse;
+pub mod text;

@@ -1,0 +1,303 @@
+// Lines of a transcript, read as calls. docs/TRANSCRIPT.md has the format.
+use crate::build;
+use crate::cursor;
+use crate::cursor::Cursor;
+use crate::cursor::Mistake;
+use crate::cursor::Quoted;
+use crate::cursor::Taken;
+use crate::text;
+use crate::text::Class;
+use carts::bytes;
+ghost use mathlib.Core.Path.{_≡_};
+ghost use Prim.Native.Nat.{ℕ, _+_, _*_, _-_, _<_, _≤_};
+ghost use lib.ListN.{length};
+ghost use Rattle.lines.specs.Cursor.{Titled};
+ghost use Rattle.lines.specs.Parse.{gathered, titleIf, numberIf, fieldsAt, operationAt, operationsAt, numbersAt, titleRequestAt, numbersRequestAt, wholeCall, setupAt, commitAt, readAt, numberCallAt, callOf, payloadOf, callFits, Means, Stored};
+
+// What a line asks for. The bytes that belong to it stand at the start of the payload: a setup's 16 studio bytes,
+// a commit's operations of 80 bytes, a read's request of 80 bytes.
+pub enum Call {
+    Nothing,
+    Show,
+    Setup(u32),
+    Commit { session: u32, operations: u32 },
+    Send(u32),
+    Refresh(u32),
+    Read(u32),
+    Collect(u32),
+    Unreadable { mistake: Mistake, at: usize },
+}
+
+// The largest u32, and the largest number that two bytes hold.
+const ANY: u32 = 4294967295;
+
+const TWO_BYTES: u32 = 65535;
+
+// How many numbers were read.
+pub struct Counted {
+    pub count: usize,
+    pub cursor: Cursor,
+}
+
+// The call, where the whole line was read; else what is wrong with it.
+fn whole(s: &[u8], c: Cursor, call: Call) -> Call
+    requires { ⌜ callFits call ⌝ }
+    ensures { λ r. ⌜ (r ≡ wholeCall (now (s .entry)) c call) × callFits r ⌝ }
+{
+    let end = cursor::ended(s, c);
+    if end.good {
+        return call;
+    }
+    let mistake = end.mistake;
+    Call::Unreadable {
+        mistake,
+        at: text::run_end(s, end.at, Class::Space),
+    }
+}
+
+// A title, where one is asked for.
+fn title_if(s: &[u8], c: Cursor, asked: bool) -> Quoted
+    ensures { λ r. ⌜ (r ≡ titleIf (now (s .entry)) c asked) × Titled (now (s .entry)) (r .start) (r .length) ⌝ }
+{
+    if asked {
+        return cursor::title(s, c);
+    }
+    Quoted {
+        start: 0,
+        length: 0,
+        cursor: c,
+    }
+}
+
+// A word and the number after it, where they are asked for.
+fn number_if(s: &[u8], c: Cursor, word: &[u8], mistake: Mistake, asked: bool) -> Taken
+    ensures { λ r. ⌜ r ≡ numberIf (now (s .entry)) c (now (word .entry)) mistake asked ⌝ }
+{
+    if asked {
+        return cursor::number(s, cursor::word(s, c, word, mistake), ANY);
+    }
+    Taken {
+        value: 0,
+        cursor: c,
+    }
+}
+
+// The fields of an operation of a kind: its cart, a title and a recording where the kind has them.
+fn fields(s: &[u8], c: Cursor, op: &mut [u8], kind: u8, titled: bool, recorded: bool) -> Cursor
+    requires { ⌜ length (now op) ≡ 80 ⌝ }
+    ensures { λ r. ⌜ gathered (now (op .exit)) r ≡ fieldsAt (now (s .entry)) c kind titled recorded ⌝ }
+{
+    let cart = cursor::number(s, c, TWO_BYTES);
+    let title = title_if(s, cart.cursor, titled);
+    let audio = number_if(s, title.cursor, b"audio", Mistake::AudioMissing, recorded);
+    let milliseconds = number_if(s, audio.cursor, b"length", Mistake::LengthMissing, recorded);
+    let start = title.start;
+    let end = start + title.length;
+    let letters = &s[start..end];
+    build::put_operation(
+        op,
+        kind,
+        cart.value,
+        audio.value,
+        milliseconds.value,
+        letters,
+    );
+    milliseconds.cursor
+}
+
+// One operation, by its word.
+fn operation(s: &[u8], c: Cursor, op: &mut [u8]) -> Cursor
+    requires { ⌜ length (now op) ≡ 80 ⌝ }
+    ensures { λ r. ⌜ gathered (now (op .exit)) r ≡ operationAt (now (s .entry)) c ⌝ }
+{
+    let word = cursor::peek_word(s, c);
+    let next = cursor::past_word(s, c);
+    if text::same(word, b"new") {
+        return fields(s, next, op, 1, true, true);
+    }
+    if text::same(word, b"retitle") {
+        return fields(s, next, op, 2, true, false);
+    }
+    if text::same(word, b"re-cut") {
+        return fields(s, next, op, 3, false, true);
+    }
+    if text::same(word, b"withdraw") {
+        return fields(s, next, op, 4, false, false);
+    }
+    bytes::clear(op);
+    c.stopped(Mistake::UnknownOperation)
+}
+
+// One to eight operations, with a semicolon between two.
+fn operations(s: &[u8], c: Cursor, payload: &mut [u8]) -> Counted
+    requires { ⌜ length (now payload) ≡ 640 ⌝ }
+    ensures { λ r. ⌜ Stored 80 (operationsAt (now (s .entry)) c) (now (payload .entry)) (now (payload .exit)) r × (1 ≤ r .count) × (r .count ≤ 8) ⌝ }
+{
+    let mut next = operation(s, c, &mut payload[0..80]);
+    let mut n: usize = 1;
+    while n < 8 {
+        if cursor::peek(s, next) != 59 {
+            return Counted {
+                count: n,
+                cursor: next,
+            };
+        }
+        let start = 80 * n;
+        let end = start + 80;
+        next = operation(
+            s,
+            cursor::mark(s, next, 59, Mistake::TooMuch),
+            &mut payload[start..end],
+        );
+        n += 1;
+    }
+    if cursor::peek(s, next) == 59 {
+        next = next.stopped(Mistake::TooManyOperations);
+    }
+    Counted {
+        count: n,
+        cursor: next,
+    }
+}
+
+// One number or more, each at most a bound, as many as there is room for.
+fn numbers(s: &[u8], c: Cursor, most: u32, out: &mut [u32]) -> Counted
+    ensures { λ r. ⌜ Stored 1 (numbersAt (length (now (out .entry))) (now (s .entry)) c most) (now (out .entry)) (now (out .exit)) r × (r .count ≤ length (now (out .entry))) ⌝ }
+{
+    let mut next = c;
+    let mut n: usize = 0;
+    while n < out.len() {
+        let taken = cursor::number(s, next, most);
+        out[n] = taken.value;
+        next = taken.cursor;
+        n += 1;
+        if !text::is_in(Class::Digit, cursor::peek(s, next)) {
+            return Counted {
+                count: n,
+                cursor: next,
+            };
+        }
+    }
+    Counted {
+        count: n,
+        cursor: next.stopped(Mistake::TooManyNumbers),
+    }
+}
+
+// Setup: the number of studios, then each session's studio.
+fn setup(s: &[u8], c: Cursor, payload: &mut [u8]) -> Call
+    requires { ⌜ length (now payload) ≡ 640 ⌝ }
+    ensures { λ r. ⌜ Means (setupAt (now (s .entry)) c) (now (payload .entry)) (now (payload .exit)) r ⌝ }
+{
+    let studios = cursor::number(s, c, ANY);
+    let mut places = [0u32; 16];
+    let colon = cursor::mark(s, studios.cursor, 58, Mistake::ColonMissing);
+    let read = numbers(s, colon, 255, &mut places);
+    let n = read.count;
+    build::put_studios(&mut payload[0..16], &places[..n]);
+    whole(s, read.cursor, Call::Setup(studios.value))
+}
+
+// Commit: the session, then the operations.
+fn commit(s: &[u8], c: Cursor, payload: &mut [u8]) -> Call
+    requires { ⌜ length (now payload) ≡ 640 ⌝ }
+    ensures { λ r. ⌜ Means (commitAt (now (s .entry)) c) (now (payload .entry)) (now (payload .exit)) r ⌝ }
+{
+    let session = cursor::number(s, c, ANY);
+    let colon = cursor::mark(s, session.cursor, 58, Mistake::ColonMissing);
+    let read = operations(s, colon, payload);
+    whole(
+        s,
+        read.cursor,
+        Call::Commit {
+            session: session.value,
+            operations: read.count as u32,
+        },
+    )
+}
+
+// A request by title.
+fn title_request(s: &[u8], c: Cursor, request: &mut [u8]) -> Cursor
+    requires { ⌜ length (now request) ≡ 80 ⌝ }
+    ensures { λ r. ⌜ gathered (now (request .exit)) r ≡ titleRequestAt (now (s .entry)) c ⌝ }
+{
+    let title = cursor::title(s, c);
+    let start = title.start;
+    let end = start + title.length;
+    build::put_operation(request, 2, 0, 0, 0, &s[start..end]);
+    title.cursor
+}
+
+// A request by numbers.
+fn numbers_request(s: &[u8], c: Cursor, request: &mut [u8]) -> Cursor
+    requires { ⌜ length (now request) ≡ 80 ⌝ }
+    ensures { λ r. ⌜ gathered (now (request .exit)) r ≡ numbersRequestAt (now (s .entry)) c ⌝ }
+{
+    let mut carts = [0u32; 32];
+    let read = numbers(s, c, TWO_BYTES, &mut carts);
+    let n = read.count;
+    build::put_numbers(request, &carts[..n]);
+    read.cursor
+}
+
+// Read: the session, then cart numbers or a title.
+fn read(s: &[u8], c: Cursor, payload: &mut [u8]) -> Call
+    requires { ⌜ length (now payload) ≡ 640 ⌝ }
+    ensures { λ r. ⌜ Means (readAt (now (s .entry)) c) (now (payload .entry)) (now (payload .exit)) r ⌝ }
+{
+    let session = cursor::number(s, c, ANY);
+    let colon = cursor::mark(s, session.cursor, 58, Mistake::ColonMissing);
+    let next = cursor::peek(s, colon);
+    if (next == 34) | (next == 39) {
+        let end = title_request(s, colon, &mut payload[0..80]);
+        return whole(s, end, Call::Read(session.value));
+    }
+    let end = numbers_request(s, colon, &mut payload[0..80]);
+    whole(s, end, Call::Read(session.value))
+}
+
+// A call that has one number: a studio or a session.
+fn by_number(s: &[u8], c: Cursor, word: &[u8]) -> Call
+    ensures { λ r. ⌜ (r ≡ numberCallAt (now (s .entry)) c (now (word .entry))) × callFits r ⌝ }
+{
+    let n = cursor::number(s, c, ANY);
+    if text::same(word, b"send") {
+        return whole(s, n.cursor, Call::Send(n.value));
+    }
+    if text::same(word, b"refresh") {
+        return whole(s, n.cursor, Call::Refresh(n.value));
+    }
+    if text::same(word, b"collect") {
+        return whole(s, n.cursor, Call::Collect(n.value));
+    }
+    Call::Unreadable {
+        mistake: Mistake::UnknownWord,
+        at: 0,
+    }
+}
+
+// A line of a transcript.
+pub fn parse(s: &[u8], payload: &mut [u8]) -> Call
+    requires { ⌜ length (now payload) ≡ 640 ⌝ }
+    ensures { λ r. ⌜ (r ≡ callOf (now (s .entry))) × (now (payload .exit) ≡ payloadOf (now (s .entry)) (now (payload .entry))) × callFits r ⌝ }
+{
+    let c = Cursor::new(0);
+    if cursor::is_over(s, c) {
+        return Call::Nothing;
+    }
+    let word = cursor::peek_word(s, c);
+    let next = cursor::past_word(s, c);
+    if text::same(word, b"show") {
+        return whole(s, next, Call::Show);
+    }
+    if text::same(word, b"setup") {
+        return setup(s, next, payload);
+    }
+    if text::same(word, b"commit") {
+        return commit(s, next, payload);
+    }
+    if text::same(word, b"read") {
+        return read(s, next, payload);
+    }
+    by_number(s, next, word)
+}

@@ -1,0 +1,43 @@
+-- Laws of the single library's answers.
+use Prim.Native.Nat.{ℕ, suc, _+_, _-_, _*_, _<_, _≤_}
+use mathlib.Core.Path.{_≡_, refl}
+use mathlib.Core.Bool.{Bool, true, _&&_}
+use mathlib.Core.List.{List, [], _∷_}
+use native.Mathlib.Omega.{arith}
+use lib.Dec.{eqb}
+use borrow.Author.Tests.{le-leb}
+use Rattle.carts.specs.Bytes.{byte, part, every, allZero}
+use Rattle.carts.specs.Operation.{operationFields, operationForm}
+use Rattle.carts.proofs.ScanLaws.{test-end, and-left, and-right, all-at}
+use Rattle.lines.specs.Text.{partIn}
+use Rattle.lines.specs.Build.{askedAt}
+use Rattle.one_copy.specs.Replay.{placeAgrees, heldAt, placesAgree, heldPlaces, numbersAgree}
+
+-- operations of their form have the fields of their kinds
+pub forms-fields : (ops : List (List ℕ)) → every operationForm ops ≡ true → every operationFields ops ≡ true
+unfolding every operationForm
+forms-fields [] e = refl
+forms-fields (op ∷ ops) e =
+    let tests = operationFields op ∷ allZero (part op 12 4) ∷ [] in
+    let f : operationFields op ≡ true = all-at tests 0 (and-left (operationForm op) (every operationForm ops) e) in
+    rw f (forms-fields ops (and-right (operationForm op) (every operationForm ops) e))
+
+-- the places left of n, of which i have been passed
+module _ (copy request shown : List ℕ) (n i : ℕ) where
+  pub places-next : i < n → placesAgree copy request shown i (n - i) ≡ (placeAgrees copy (askedAt request i) (partIn shown (80 * i) 80) && placesAgree copy request shown (i + 1) (n - (i + 1)))
+  unfolding placesAgree
+  places-next h = let e : n - i ≡ suc (n - (i + 1)) = omega arith in rw e
+
+  pub held-next : i < n → heldPlaces copy request i (n - i) ≡ heldAt copy (askedAt request i) + heldPlaces copy request (i + 1) (n - (i + 1))
+  unfolding heldPlaces
+  held-next h = let e : n - i ≡ suc (n - (i + 1)) = omega arith in rw e
+
+  -- none are left
+  pub numbers-done : (found held : ℕ) (ok : Bool) → n ≡ byte request 1 → n ≤ 32 → n ≤ i → placesAgree copy request shown 0 n ≡ (ok && placesAgree copy request shown i (n - i))
+      → heldPlaces copy request 0 n ≡ held + heldPlaces copy request i (n - i) → (ok && eqb held found) ≡ numbersAgree copy request found shown
+  unfolding placesAgree heldPlaces numbersAgree
+  numbers-done found held ok e h k p q =
+      let z : n - i ≡ 0 = omega arith in
+      let a : ok ≡ placesAgree copy request shown 0 n = test-end ok (rw z at p) refl in
+      let b : held ≡ heldPlaces copy request 0 n = let r = rw z at q in omega arith in
+      rw (a, b, ← e, le-leb n 32 h)

@@ -1,0 +1,3 @@
+-- What the contracts of the one-copy order cite.
+pub mod Order
+pub mod Replay

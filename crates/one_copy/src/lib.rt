@@ -1,0 +1,3 @@
+// The one-copy order of a transcript's entries, replayed on a single library.
+pub mod order;
+pub mod replay;

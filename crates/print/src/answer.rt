@@ -1,0 +1,151 @@
+// What came of a call, printed.
+use crate::line;
+use crate::order;
+use journal::history::History;
+use journal::progress;
+use lines::build;
+use lines::cursor::Mistake;
+use lines::text;
+use replication::answer::CountAnswer;
+use replication::answer::ReadAnswer;
+use replication::answer::SetupAnswer;
+ghost use Prim.Native.Nat.{_<_, _≤_};
+
+// A setup ends the system before it: the order of its answers, where there are any.
+fn ended(h: History, cells: &[u32], store: &[u8])
+    requires { ⌜ h .entries ≤ 1024 ⌝ }
+{
+    if h.entries == 0 {
+        return;
+    }
+    let mut page = io::buffer();
+    let n = words::answer::ended(&mut page);
+    line::told(&page, n);
+    order::show_order(h, cells, store);
+}
+
+fn fresh(studios: u32) {
+    let mut page = io::buffer();
+    let n = words::answer::fresh(&mut page, studios);
+    line::told(&page, n);
+}
+
+// What a setup of so many studios answered, after the history so far.
+pub fn made(answer: SetupAnswer, h: History, cells: &[u32], store: &[u8], studios: u32)
+    requires { ⌜ h .entries ≤ 1024 ⌝ }
+{
+    match answer {
+        SetupAnswer::Ready => {
+            ended(h, cells, store);
+            fresh(studios);
+        }
+        SetupAnswer::Refused(row) => line::refusal(row),
+    }
+}
+
+// What a commit answered.
+pub fn committed(answer: CountAnswer) {
+    match answer {
+        CountAnswer::Number(edit) => {
+            let mut page = io::buffer();
+            let n = words::answer::committed(&mut page, edit);
+            line::told(&page, n);
+        }
+        CountAnswer::Refused(row) => line::refusal(row),
+    }
+}
+
+// What became of an edit at a studio: it was sent there, or applied.
+fn moved_edit(edit: u32, studio: u32, is_sent: bool) {
+    let mut page = io::buffer();
+    if is_sent {
+        let n = words::answer::sent(&mut page, edit, studio);
+        line::told(&page, n);
+        return;
+    }
+    let n = words::answer::applied(&mut page, edit, studio);
+    line::told(&page, n);
+}
+
+// What a send or a refresh answered.
+pub fn moved(answer: CountAnswer, studio: u32, is_sent: bool) {
+    match answer {
+        CountAnswer::Number(edit) => moved_edit(edit, studio, is_sent),
+        CountAnswer::Refused(row) => line::refusal(row),
+    }
+}
+
+// The cart shown at place i of a read by numbers.
+fn shown_at(block: &[u8], i: usize)
+    requires { ⌜ i < 256 ⌝ }
+{
+    let cart = text::part_of(block, 80 + 80 * i, 80);
+    if text::letter(cart, 0) == 1 {
+        line::cart(cart);
+        return;
+    }
+    let mut page = io::buffer();
+    let n = report::cart::empty(&mut page, build::asked(block, i as u32));
+    line::told(&page, n);
+}
+
+fn shown(block: &[u8], n: usize)
+    requires { ⌜ n < 256 ⌝ }
+{
+    let mut i: usize = 0;
+    while i < n {
+        shown_at(block, i);
+        i += 1;
+    }
+}
+
+// What a read by title found.
+fn found_by_title(block: &[u8], found: u32) {
+    if found == 1 {
+        line::cart(text::part_of(block, 80, 80));
+        return;
+    }
+    let mut page = io::buffer();
+    if found == 0 {
+        let n = words::answer::untitled(&mut page);
+        line::told(&page, n);
+        return;
+    }
+    let n = words::answer::several(&mut page, found);
+    line::told(&page, n);
+}
+
+// An answered read: its request stands at the start of the block, its output after it.
+fn answered(block: &[u8], state: u32, found: u32) {
+    let mut page = io::buffer();
+    let n = words::answer::answered(&mut page, state, found);
+    line::told(&page, n);
+    if text::letter(block, 0) == 2 {
+        found_by_title(block, found);
+        return;
+    }
+    shown(block, progress::places(block));
+}
+
+fn waits(edit: u32) {
+    let mut page = io::buffer();
+    let n = words::answer::waits(&mut page, edit);
+    line::told(&page, n);
+}
+
+// What a read or a collect answered.
+pub fn read(answer: ReadAnswer, block: &[u8]) {
+    match answer {
+        ReadAnswer::Answered { state, found } => answered(block, state, found),
+        ReadAnswer::Waits(edit) => waits(edit),
+        ReadAnswer::Refused(row) => line::refusal(row),
+    }
+}
+
+// A line that is no call.
+pub fn unreadable(line: u32, mistake: Mistake, at: usize) {
+    let column = std::num::wrapping_add_u64(at as u64, 1);
+    let mut page = io::buffer();
+    let n = words::mistake::unreadable(&mut page, line, column, mistake);
+    line::told(&page, n);
+}

@@ -1,0 +1,101 @@
+// The state of all copies and sessions.
+use crate::line;
+use lines::text;
+use replication::control::Control;
+ghost use mathlib.Core.Path.{_≡_};
+ghost use Prim.Native.Nat.{_+_, _*_, _<_, _≤_};
+ghost use lib.Dec.{eqb};
+ghost use Rattle.carts.specs.Bytes.{byte};
+ghost use Rattle.lines.specs.Text.{partIn};
+
+// Cart c of a copy, where it is held; the answer is whether it is.
+fn cart_of(library: &[u8], copy: usize, c: usize) -> bool
+    requires { ⌜ (copy < 5) × (c < 128) ⌝ }
+    ensures { λ r. ⌜ r ≡ eqb (byte (partIn (now (library .entry)) (10240 * copy + 80 * c) 80) 0) 1 ⌝ }
+{
+    let cart = text::part_of(library, 10240 * copy + 80 * c, 80);
+    if text::letter(cart, 0) != 1 {
+        return false;
+    }
+    line::cart(cart);
+    true
+}
+
+fn no_cart() {
+    let mut page = io::buffer();
+    let n = report::cart::none(&mut page);
+    line::told(&page, n);
+}
+
+// The held carts of a copy.
+fn carts_of(library: &[u8], copy: usize)
+    requires { ⌜ copy < 5 ⌝ }
+{
+    let mut some = false;
+    let mut c: usize = 0;
+    while c < 128 {
+        some |= cart_of(library, copy, c);
+        c += 1;
+    }
+    if !some {
+        no_cart();
+    }
+}
+
+fn studio_line(control: Control, library: &[u8], i: u32)
+    requires { ⌜ (1 ≤ i) × (i ≤ 4) ⌝ }
+{
+    if control.studios < i {
+        return;
+    }
+    let mut page = io::buffer();
+    let n = report::state::studio(&mut page, i, control.sent_to(i), control.applied_by(i));
+    line::told(&page, n);
+    carts_of(library, i as usize);
+}
+
+fn session_line(control: Control, sessions: &[u8], j: u32)
+    requires { ⌜ (1 ≤ j) × (j ≤ 16) ⌝ }
+{
+    let at = control.studio_of(j);
+    if at == 0 {
+        return;
+    }
+    let own = text::part_of(sessions, 80 * (j as usize - 1), 80);
+    if own.len() != 80 {
+        return;
+    }
+    let mut page = io::buffer();
+    let n = report::state::session(&mut page, j, at, own);
+    line::told(&page, n);
+}
+
+fn studios(control: Control, library: &[u8]) {
+    let mut i: u32 = 1;
+    while i <= 4 {
+        studio_line(control, library, i);
+        i += 1;
+    }
+}
+
+fn sessions_of(control: Control, sessions: &[u8]) {
+    let mut j: u32 = 1;
+    while j <= 16 {
+        session_line(control, sessions, j);
+        j += 1;
+    }
+}
+
+pub fn show(control: Control, library: &[u8], sessions: &[u8]) {
+    let mut page = io::buffer();
+    if control.studios == 0 {
+        let n = report::state::no_system(&mut page);
+        line::told(&page, n);
+        return;
+    }
+    let n = report::state::head_end(&mut page, control.commits, control.used);
+    line::told(&page, n);
+    carts_of(library, 0);
+    studios(control, library);
+    sessions_of(control, sessions);
+}
