@@ -14,7 +14,8 @@ use Rattle.replication.specs.Request.{Request, nothing, requestOf, isWaiting, n
 use Rattle.replication.specs.Call as Call
 use Rattle.replication.proofs.RowLaws.{unless-case}
 use Rattle.replication.proofs.ShownLaws.{Askable, length-shown, request-askable}
-use Rattle.replication.proofs.Accepted.{KnownSession, commit-passed, read-passed, collect-passed}
+use Rattle.replication.proofs.DecideLaws.{KnownSession}
+use Rattle.replication.proofs.Accepted.{commit-passed, read-passed, collect-passed}
 use Rattle.machine.specs.Machine.{Machine, session, Step, step, commits, libraryOf, sessionOf, refusedCommit, commit, send, refresh, answerFrom, block, wait, read, collect, call}
 use Rattle.machine.specs.Library.{Reply, request, at, shown, library, served, serve}
 use Rattle.machine.specs.OneCopy.{plainHistory, entry, commitEntry, readEntry, Kind, writes, reads, collects, neither, kindOf, entryOf, hasWaited, waitedAfter, entries}

@@ -13,7 +13,7 @@ use Rattle.replication.specs.Request.{Request, isWaiting}
 use Rattle.machine.specs.Machine.{Machine, Session, commits, libraryOf, sessionOf, withLog, withApplied, withSession}
 use Rattle.machine.proofs.Sort.{length-snoc}
 use Rattle.machine.proofs.Updates.{put, put-case, both-case, set-either, each-set}
-use Rattle.replication.proofs.Accepted.{KnownSession}
+use Rattle.replication.proofs.DecideLaws.{KnownSession}
 use Rattle.machine.proofs.Libraries.{L-before, L-after}
 
 -- what a session can have been shown: its own commits, and what its studio has applied

@@ -24,7 +24,7 @@ use Rattle.replication.specs.Memory.{Memory, copyAt, withCopy, sessionAt, withS
 use Rattle.replication.specs.Log.{firstRecord, chainForm, appended}
 use Rattle.replication.specs.Request.{requestOf}
 use Rattle.replication.specs.Layout.{replicaForm}
-use Rattle.replication.specs.Rows.{Row, stopped, sizeForm, commitRows}
+use Rattle.replication.specs.Rows.{Row, stopped, sizeForm, commitRows, commitStop}
 use Rattle.replication.specs.Calls as Bytes
 use Rattle.replication.specs.Calls.{After, committed}
 use Rattle.replication.specs.declared.control.Control.{Control}
@@ -33,7 +33,8 @@ use Rattle.replication.proofs.AppendLaws.{length-operations}
 use Rattle.replication.proofs.CommitLaws.{size-few}
 use Rattle.replication.proofs.Formed.{Formed, applied-known, counts-more, studio-copy, copy-in-use}
 use Rattle.replication.proofs.RowLaws.{memory-passes, unless-case, unless-both}
-use Rattle.replication.proofs.Accepted.{KnownSession, commit-passed}
+use Rattle.replication.proofs.DecideLaws.{KnownSession}
+use Rattle.replication.proofs.Accepted.{commit-passed}
 use Rattle.machine.specs.Machine as Plain
 use Rattle.machine.specs.Machine.{Session, session}
 use Rattle.machine.proofs.Libraries.{L-before, L-after}
@@ -171,7 +172,7 @@ module _ (c : Control) (m : Memory) (s : ℕ) (bytes : List ℕ) where
   rows = commitRows s (studioOf c s) (requestOf (sessionAt (m .sessions) s)) (c .used) (copyAt (m .library) 0) bytes
 
   pub commit-keeps : OfLayout c m → OfLayout (Bytes.commit c m s bytes .control) (Bytes.commit c m s bytes .memory)
-  unfolding Bytes.commit Bytes.refusedCommit rows
+  unfolding Bytes.commit commitStop Bytes.refusedCommit rows
   commit-keeps h =
       rw (memory-passes c m rows (h .lengths) (h .layout))
       (unless-case (λ (r : After). OfLayout (r .control) (r .memory)) (stopped rows) _ _ (λ _ _. h)
@@ -184,7 +185,7 @@ module _ (c : Control) (m : Memory) (s : ℕ) (bytes : List ℕ) where
 
   pub commit-simulates : (log : List Transaction) (sessions : List Session) → Represents c m (machineOf c log sessions)
       → Simulates (Bytes.commit c m s bytes) (Plain.commit (machineOf c log sessions) s bytes)
-  unfolding Bytes.commit Bytes.refusedCommit Plain.commit Plain.refusedCommit rows
+  unfolding Bytes.commit commitStop Bytes.refusedCommit Plain.commit Plain.refusedCommit rows
   commit-simulates log sessions h =
       rw (memory-passes c m rows (h .form .lengths) (h .form .layout), session-of c m _ h s, log-length c m _ h, ← h .primary, used)
       (unless-both Simulates (stopped rows) _ _ _ _

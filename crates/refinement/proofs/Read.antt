@@ -12,13 +12,14 @@ use Rattle.carts.proofs.TestLaws.{by-cond, cond-both}
 use Rattle.replication.specs.Answer.{answered}
 use Rattle.replication.specs.Memory.{Memory, copyAt, sessionAt, withSession, sequenceOf, withSequence, nth, studioOf}
 use Rattle.replication.specs.Request.{Request, nothing, requestOf, needed, foundIn, shownFrom}
-use Rattle.replication.specs.Rows.{Row, stopped, readRows, collectRows}
+use Rattle.replication.specs.Rows.{Row, stopped, readRows, readStop, collectRows, collectStop}
 use Rattle.replication.specs.Calls as Bytes
 use Rattle.replication.specs.Calls.{After, withSessions, numberAfter}
 use Rattle.replication.specs.declared.control.Control.{Control}
 use Rattle.replication.proofs.Formed.{Formed, few, studio-known}
 use Rattle.replication.proofs.RowLaws.{memory-passes, unless-case, unless-both}
-use Rattle.replication.proofs.Accepted.{KnownSession, read-passed, collect-passed}
+use Rattle.replication.proofs.DecideLaws.{KnownSession}
+use Rattle.replication.proofs.Accepted.{read-passed, collect-passed}
 use Rattle.machine.specs.Machine as Plain
 use Rattle.machine.specs.Machine.{Session, session, Step}
 use Rattle.refinement.specs.Represents.{OfLayout, Represents, Simulates}
@@ -92,7 +93,7 @@ module _ (c : Control) (m : Memory) (s : ℕ) (request out : List ℕ) where
   readRowsOf = readRows s (studioOf c s) (requestOf (sessionAt (m .sessions) s)) request (length out)
 
   pub read-keeps : OfLayout c m → OfLayout (Bytes.read c m s request out .control) (Bytes.read c m s request out .memory)
-  unfolding Bytes.read readRowsOf
+  unfolding Bytes.read readStop readRowsOf
   read-keeps h =
       rw (memory-passes c m readRowsOf (h .lengths) (h .layout))
       (unless-case (λ (r : After). OfLayout (r .control) (r .memory)) (stopped readRowsOf) _ _ (λ _ _. h)
@@ -106,7 +107,7 @@ module _ (c : Control) (m : Memory) (s : ℕ) (request out : List ℕ) where
 
   pub read-simulates : (log : List Transaction) (sessions : List Session) → Represents c m (machineOf c log sessions)
       → Simulates (Bytes.read c m s request out) (Plain.read (machineOf c log sessions) s request out)
-  unfolding Bytes.read Plain.read Plain.wait readRowsOf
+  unfolding Bytes.read readStop Plain.read Plain.wait readRowsOf
   read-simulates log sessions h =
       rw (memory-passes c m readRowsOf (h .form .lengths) (h .form .layout), session-of c m _ h s)
       (unless-both Simulates (stopped readRowsOf) _ _ _ _
@@ -128,7 +129,7 @@ module _ (c : Control) (m : Memory) (s : ℕ) (out : List ℕ) where
   collectRowsOf = collectRows s (studioOf c s) (requestOf (sessionAt (m .sessions) s)) (length out)
 
   pub collect-keeps : OfLayout c m → OfLayout (Bytes.collect c m s out .control) (Bytes.collect c m s out .memory)
-  unfolding Bytes.collect collectRowsOf
+  unfolding Bytes.collect collectStop collectRowsOf
   collect-keeps h =
       rw (memory-passes c m collectRowsOf (h .lengths) (h .layout))
       (unless-case (λ (r : After). OfLayout (r .control) (r .memory)) (stopped collectRowsOf) _ _ (λ _ _. h)
@@ -136,7 +137,7 @@ module _ (c : Control) (m : Memory) (s : ℕ) (out : List ℕ) where
 
   pub collect-simulates : (log : List Transaction) (sessions : List Session) → Represents c m (machineOf c log sessions)
       → Simulates (Bytes.collect c m s out) (Plain.collect (machineOf c log sessions) s out)
-  unfolding Bytes.collect Plain.collect Plain.wait collectRowsOf
+  unfolding Bytes.collect collectStop Plain.collect Plain.wait collectRowsOf
   collect-simulates log sessions h =
       rw (memory-passes c m collectRowsOf (h .form .lengths) (h .form .layout), session-of c m _ h s)
       (unless-both Simulates (stopped collectRowsOf) _ _ _ _

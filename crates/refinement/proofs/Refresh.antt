@@ -15,7 +15,7 @@ use Rattle.carts.proofs.KeepLaws.{Copy, actAll-copy}
 use Rattle.replication.specs.Memory.{Memory, copyAt, withCopy, nth, studioOf}
 use Rattle.replication.specs.Log.{firstRecord, transactionAt, walk}
 use Rattle.replication.specs.Layout.{replicaForm, sessionForm, countsForm}
-use Rattle.replication.specs.Rows.{Row, stopped, refreshRows}
+use Rattle.replication.specs.Rows.{Row, stopped, refreshRows, refreshStop}
 use Rattle.replication.specs.Calls as Bytes
 use Rattle.replication.specs.Calls.{After, withApplied, withLibrary, transactionAfter}
 use Rattle.replication.specs.declared.control.Control.{Control}
@@ -122,7 +122,7 @@ module _ (c : Control) (m : Memory) (i : ℕ) where
         ∙ sym (L-next log k n ∙ ap (actAll (L log k)) t ∙ handed-actAll (L log k) (transactionAfter c (m .log) k) (operations .sizes))
 
   pub refresh-keeps : OfLayout c m → OfLayout (Bytes.refresh c m i .control) (Bytes.refresh c m i .memory)
-  unfolding Bytes.refresh rows
+  unfolding Bytes.refresh refreshStop rows
   refresh-keeps h =
       rw (memory-passes c m rows (h .lengths) (h .layout))
       (unless-case (λ (r : After). OfLayout (r .control) (r .memory)) (stopped rows) _ _ (λ _ _. h)
@@ -130,7 +130,7 @@ module _ (c : Control) (m : Memory) (i : ℕ) where
 
   pub refresh-simulates : (log : List Transaction) (sessions : List Session) → Represents c m (machineOf c log sessions)
       → Simulates (Bytes.refresh c m i) (Plain.refresh (machineOf c log sessions) i)
-  unfolding Bytes.refresh Plain.refresh rows withApplied firstRecord studioOf
+  unfolding Bytes.refresh refreshStop Plain.refresh rows withApplied firstRecord studioOf
   refresh-simulates log sessions h =
       rw (memory-passes c m rows (h .form .lengths) (h .form .layout))
       (unless-both Simulates (stopped rows) _ _ _ _

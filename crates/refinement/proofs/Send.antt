@@ -11,7 +11,7 @@ use Rattle.carts.specs.Transaction.{Transaction}
 use Rattle.replication.specs.Memory.{Memory, nth, studioOf}
 use Rattle.replication.specs.Log.{firstRecord}
 use Rattle.replication.specs.Layout.{sessionForm, countsForm}
-use Rattle.replication.specs.Rows.{Row, stopped, sendRows}
+use Rattle.replication.specs.Rows.{Row, stopped, sendRows, sendStop}
 use Rattle.replication.specs.Calls as Bytes
 use Rattle.replication.specs.Calls.{After, withSent}
 use Rattle.replication.specs.declared.control.Control.{Control}
@@ -63,7 +63,7 @@ module _ (c : Control) (m : Memory) (i : ℕ) where
           rw other (f .counts j l g)
 
   pub send-keeps : OfLayout c m → OfLayout (Bytes.send c m i .control) (Bytes.send c m i .memory)
-  unfolding Bytes.send rows
+  unfolding Bytes.send sendStop rows
   send-keeps h =
       rw (memory-passes c m rows (h .lengths) (h .layout))
       (unless-case (λ (r : After). OfLayout (r .control) (r .memory)) (stopped rows) _ _ (λ _ _. h)
@@ -71,7 +71,7 @@ module _ (c : Control) (m : Memory) (i : ℕ) where
 
   pub send-simulates : (log : List Transaction) (sessions : List Session) → Represents c m (machineOf c log sessions)
       → Simulates (Bytes.send c m i) (Plain.send (machineOf c log sessions) i)
-  unfolding Bytes.send Plain.send rows withSent firstRecord studioOf
+  unfolding Bytes.send sendStop Plain.send rows withSent firstRecord studioOf
   send-simulates log sessions h =
       rw (memory-passes c m rows (h .form .lengths) (h .form .layout), log-length c m _ h)
       (unless-both Simulates (stopped rows) _ _ _ _

@@ -1,7 +1,7 @@
 -- Setup: it does what the plain machine's setup does. That fresh memory is zeros is used here only.
 use mathlib.Core.Path.{_≡_, refl, sym, ap, _∙_}
 use mathlib.Core.Bool.{Bool, true, false, cond, not}
-use mathlib.Core.List.{List, _∷_}
+use mathlib.Core.List.{List}
 use Prim.Native.Nat.{ℕ, zero, _*_, _-_, _≤_}
 use native.Mathlib.Omega.{arith}
 use borrow.Author.Tests.{le-leb}
@@ -16,7 +16,7 @@ use Rattle.replication.specs.Memory.{Memory, lengthsForm, copyAt, sessionAt, se
 use Rattle.replication.specs.Log.{firstRecord, freshLog}
 use Rattle.replication.specs.Request.{nothing, requestOf}
 use Rattle.replication.specs.Layout.{replicaForm, sessionForm, countsForm}
-use Rattle.replication.specs.Rows.{stopped, lengthsRow, setupRows}
+use Rattle.replication.specs.Rows.{stopped, lengthsRow, setupRows, setupStop}
 use Rattle.replication.specs.Calls as Bytes
 use Rattle.replication.specs.Calls.{After, controlOf, freshMemory}
 use Rattle.replication.specs.declared.control.Control.{Control}
@@ -113,7 +113,7 @@ Agrees r p = (r .answer ≡ p .answer) × (r .answer ≡ done 0 → Simulates r 
 
 module _ (before : Memory) (studios : ℕ) (bytes : List ℕ) where
   setup-agrees : lengthsForm before ≡ true → Agrees (Bytes.setup before studios bytes) (Plain.setup studios bytes)
-  unfolding Bytes.setup Plain.setup lengthsRow
+  unfolding Bytes.setup setupStop Plain.setup lengthsRow
   setup-agrees lengths =
       let right : not (lengthsForm before) ≡ false = rw lengths in
       let same = row-passes 1 (not (lengthsForm before)) (setupRows studios bytes) right in
@@ -130,7 +130,7 @@ module _ (before : Memory) (studios : ℕ) (bytes : List ℕ) where
   accepted-lengths : Bytes.setup before studios bytes .answer ≡ done 0 → lengthsForm before ≡ true
   unfolding Bytes.setup
   accepted-lengths =
-      unless-case (λ (r : After). r .answer ≡ done 0 → lengthsForm before ≡ true) (stopped (lengthsRow before ∷ setupRows studios bytes)) _ _
+      unless-case (λ (r : After). r .answer ≡ done 0 → lengthsForm before ≡ true) (setupStop before studios bytes) _ _
       (λ k _ e. let z : _≡_ {A = ℕ} 0 1 = cc in absurd (omega arith))
       (λ e _. setup-passed before studios bytes e .lengths)
 
