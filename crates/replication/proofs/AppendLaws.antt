@@ -1,22 +1,19 @@
 -- Laws of a commit's records: one operation more written, and the link to the new transaction.
 use mathlib.Core.Path.{_≡_, refl, sym, ap, _∙_}
-use mathlib.Core.Bool.{true}
 use mathlib.Core.List.{List}
-use Prim.Native.Nat.{ℕ, zero, suc, _+_, _-_, _*_, _/_, _≤_, _<_}
+use Prim.Native.Nat.{ℕ, _+_, _-_, _*_, _/_, _≤_, _<_}
 use native.Mathlib.Omega.{arith}
 use native.Mathlib.Nat.{add-sub-cancel-left}
 use lib.ListN.{length, take, drop}
 use borrow.Author.Tests.{eq-eqb, ne-eqb}
-use Rattle.carts.specs.Bytes.{part, over, u16Bytes, parts, within}
+use Rattle.carts.specs.Bytes.{part, over, u16Bytes, parts}
 use Rattle.carts.specs.Operation.{operationsOf}
 use Rattle.carts.proofs.RecordLaws.{left-suc, parts-next}
 use Rattle.carts.proofs.EachLaws.{length-parts}
-use Rattle.carts.proofs.TestLaws.{and-left, and-right, within-low, within-high}
 use Rattle.replication.specs.Memory.{recordAt, withRecord}
-use Rattle.replication.specs.Log.{nextTransaction, walk, firstRecord, upFrom, front, writeAll, linked, freeRecords, appended}
-use Rattle.replication.specs.Values.{walkable}
+use Rattle.replication.specs.Log.{walk, firstRecord, upFrom, front, writeAll, linked, freeRecords, appended}
 use Rattle.replication.specs.declared.control.Control.{Control}
-use Rattle.replication.proofs.Chains.{front-upFrom}
+use Rattle.replication.proofs.Placement.{front-upFrom}
 
 -- the index of the next operation, where n are left
 pub next-none : (r n : ℕ) → n ≡ 0 → 0 ≡ front (upFrom r n)
@@ -48,25 +45,6 @@ pub length-operations : (s : List ℕ) → length (operationsOf s) ≡ length s 
 unfolding operationsOf
 length-operations s = length-parts 80 (length s / 80) s
 
--- the last transaction before: the walk to it, and its record
-first-is : (c : Control) → (c .commits ≡ 0 → ⊥) → firstRecord c ≡ 1
-unfolding firstRecord
-first-is c h = rw (ne-eqb (c .commits) 0 h)
-
-walkable-last : (n : ℕ) (log : List ℕ) (r : ℕ) → walkable (suc n) log r ≡ true → (walkable n log r ≡ true) × ((1 ≤ walk n log r) × (walk n log r ≤ 512))
-unfolding walkable walk
-walkable-last zero log r w = let i = and-left (within 1 512 r) true w in (refl, (within-low 1 512 r i, within-high 1 512 r i))
-walkable-last (suc n) log r w =
-    let i = and-left (within 1 512 r) (walkable (suc n) log (nextTransaction log r)) w in
-    let l = walkable-last n log (nextTransaction log r) (and-right (within 1 512 r) (walkable (suc n) log (nextTransaction log r)) w) in
-    (rw (i, l .0), l .1)
-
-pub last-walkable : (c : Control) (log : List ℕ) → (c .commits ≡ 0 → ⊥) → walkable (c .commits) log (firstRecord c) ≡ true
-    → (walkable (c .commits - 1) log 1 ≡ true) × ((1 ≤ walk (c .commits - 1) log 1) × (walk (c .commits - 1) log 1 ≤ 512))
-last-walkable c log h w =
-    let q : c .commits ≡ suc (c .commits - 1) = omega arith in
-    walkable-last (c .commits - 1) log 1 (sym (ap (λ (k : ℕ). walkable k log 1) q) ∙ rw (first-is c h) at w)
-
 -- the whole log after a commit of the operations in s
 module _ (c : Control) (log s : List ℕ) where
   pub append-first : c .commits ≡ 0 → writeAll (upFrom (c .used + 1) (length s / 80)) (operationsOf s) log ≡ appended c log (operationsOf s)
@@ -74,9 +52,9 @@ module _ (c : Control) (log s : List ℕ) where
   append-first e = rw (eq-eqb (c .commits) 0 e, length-operations s)
 
   -- `written` is the log with the operations, `new` the log with the link too
-  pub append-later : (c .commits ≡ 0 → ⊥) → 1 ≤ length s / 80 → (last : ℕ) → last ≡ walk (c .commits - 1) log 1
+  pub append-later : (c .commits ≡ 0 → ⊥) → 1 ≤ length s / 80 → (last : ℕ) → last ≡ walk (c .commits - 1) log (firstRecord c)
       → (written : List ℕ) → written ≡ writeAll (upFrom (c .used + 1) (length s / 80)) (operationsOf s) log
       → (new : List ℕ) → new ≡ over written (80 * (last - 1)) 80 (over (part written (80 * (last - 1)) 80) 14 2 (u16Bytes (c .used + 1))) → new ≡ appended c log (operationsOf s)
   unfolding appended freeRecords linked withRecord recordAt
   append-later h l last e written w new q =
-      q ∙ rw (ne-eqb (c .commits) 0 h, length-operations s, first-is c h, front-upFrom (c .used + 1) (length s / 80) l, ← e, ← w)
+      q ∙ rw (ne-eqb (c .commits) 0 h, length-operations s, front-upFrom (c .used + 1) (length s / 80) l, ← e, ← w)

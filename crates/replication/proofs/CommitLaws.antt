@@ -23,8 +23,7 @@ use Rattle.replication.proofs.RowLaws.{row-stops, row-passes, session-n
 use Rattle.replication.proofs.DecideLaws.{by-rest, accepted}
 use Rattle.replication.proofs.Accepted.{commit-passed}
 use Rattle.replication.proofs.AppendLaws.{length-operations}
-use Rattle.replication.proofs.WalkLaws.{whole-walkable}
-use Rattle.replication.proofs.Chains.{few-commits}
+use Rattle.replication.proofs.Placement.{few-commits, log-walkable}
 use Rattle.replication.proofs.Formed.{Formed}
 
 -- the size
@@ -109,7 +108,7 @@ module _ (c : Control) (m : Memory) (s : ℕ) (bytes : List ℕ) (v : ℕ) (e : 
         some = size .0;
         room = rw (length-operations bytes) at (p .room);
         few = few-commits c m f;
-        walks = whole-walkable c m f (c .commits) (omega arith);
+        walks = log-walkable c m f (c .commits) (omega arith);
       }
 
   -- the head end's copy, the log and the sessions as the code leaves them

@@ -1,6 +1,6 @@
 -- WORKED EXAMPLES of the definitions, by computation: the rows of each call in their order, requests, sessions, the log's chains.
 use mathlib.Core.Path.{_≡_, refl}
-use mathlib.Core.Bool.{true, false}
+use mathlib.Core.Bool.{Bool, true, false, _&&_}
 use mathlib.Core.List.{List, [], _∷_, _++_}
 use Prim.Native.Nat.{ℕ}
 use lib.ListN.{set, replicate}
@@ -9,7 +9,7 @@ use Rattle.carts.specs.Cart.{cartAt, printable, titleForm, hasTitle, noTitle, h
 use Rattle.carts.specs.Operation.{operationFields, operationForm, operationsOf, made, meetsCart, effect, actedOn, meets, act, meetsAll}
 use Rattle.carts.proofs.Samples.{u32Bytes, operation, newCart, withdrawCart, topHourA, longTitle}
 use Rattle.replication.specs.Memory.{recordAt, withRecord, sequenceOf, studioOf}
-use Rattle.replication.specs.Log.{nextOperation, nextTransaction, chain, recordsOf, walk, firstRecord, upFrom, chainForm, freeRecords, noRoom, front, writeAll, linked, appended}
+use Rattle.replication.specs.Log.{nextOperation, nextTransaction, chain, recordsOf, walk, logRecords, ownForm, transactionsForm, firstRecord, upFrom, filledUpward, freeRecords, noRoom, front, writeAll, linked, appended}
 use Rattle.replication.specs.Request.{nothing, byNumbers, byTitle, numbersIn, requestOf, numbersForm, requestFields, requestForm, isWaiting, needed}
 use Rattle.replication.specs.Layout.{waitingForm, sessionForm, countsForm}
 use Rattle.replication.specs.Rows.{stopped, setupRows, sessionRow, studioRow, sizeForm, commitRows, sendRows, refreshRows, readRows, collectRows}
@@ -172,26 +172,30 @@ first = appended start (zeros 400) (A ∷ withdrawCart 7 ∷ [])
 unfoldable both : List ℕ
 both = appended (committed start 2) first (A ∷ [])
 
+-- n transactions, in the records 1 to `used`
+unfoldable onlyUpward : ℕ → List ℕ → ℕ → ℕ → Bool
+onlyUpward n log first used = transactionsForm n log first && filledUpward used (logRecords n log first)
+
 pub record Chains : Type 0 where
-  empty : chainForm 0 (zeros 400) 0 1 1 ≡ true
-  one-transaction : chainForm 1 first 1 1 3 ≡ true
-  two-transactions : chainForm 2 both 1 1 4 ≡ true
+  empty : onlyUpward 0 (zeros 400) 0 0 ≡ true
+  one-transaction : onlyUpward 1 first 1 2 ≡ true
+  two-transactions : onlyUpward 2 both 1 3 ≡ true
   records-1 : recordsOf both 1 ≡ 1 ∷ 2 ∷ []
   records-2 : recordsOf both 3 ≡ 3 ∷ []
   link : nextTransaction both 1 ≡ 3
   link-end : nextTransaction both 3 ≡ 0
   walk-1 : walk 1 both 1 ≡ 3
-  fewer-commits : chainForm 1 both 1 1 3 ≡ false
-  more-commits : chainForm 3 both 1 1 4 ≡ false
-  fewer-used : chainForm 2 both 1 1 3 ≡ false
-  more-used : chainForm 2 both 1 1 5 ≡ false
-  link-in-second : chainForm 2 (set both 94 3) 1 1 4 ≡ false
-  operation-back : chainForm 2 (set both 92 1) 1 1 4 ≡ false
-  operation-skips : chainForm 2 (set both 12 3) 1 1 4 ≡ false
-  transaction-skips : chainForm 2 (set both 14 4) 1 1 4 ≡ false
+  fewer-commits : onlyUpward 1 both 1 2 ≡ false
+  more-commits : onlyUpward 3 both 1 3 ≡ false
+  fewer-used : onlyUpward 2 both 1 2 ≡ false
+  more-used : onlyUpward 2 both 1 4 ≡ false
+  link-in-second : onlyUpward 2 (set both 94 3) 1 3 ≡ false
+  operation-back : onlyUpward 2 (set both 92 1) 1 3 ≡ false
+  operation-skips : onlyUpward 2 (set both 12 3) 1 3 ≡ false
+  transaction-skips : onlyUpward 2 (set both 14 4) 1 3 ≡ false
 
 pub chains : Chains
-unfolding start first both A zeros u16 u16Bytes within all every pairwise u32Bytes operation newCart withdrawCart topHourA recordAt withRecord nextOperation nextTransaction chain recordsOf walk firstRecord upFrom chainForm freeRecords front writeAll linked appended controlOf committed
+unfolding start first both A zeros u16 u16Bytes within all every pairwise u32Bytes operation newCart withdrawCart topHourA recordAt withRecord nextOperation nextTransaction chain recordsOf walk firstRecord logRecords ownForm transactionsForm upFrom filledUpward onlyUpward freeRecords front writeAll linked appended controlOf committed
 chains = record {
   empty = refl;
   one-transaction = refl;

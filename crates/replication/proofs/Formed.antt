@@ -11,11 +11,11 @@ use Rattle.carts.specs.Bytes.{within, all, every, allZero}
 use Rattle.carts.specs.Cart.{copyForm}
 use Rattle.carts.specs.Operation.{operationFields}
 use Rattle.replication.specs.Memory.{Memory, lengthsForm, copyAt, recordAt, sessionAt, nth, studioOf}
-use Rattle.replication.specs.Log.{firstRecord, chainForm}
+use Rattle.replication.specs.Log.{logRecords, transactionsForm, firstRecord, upFrom, filledUpward}
 use Rattle.replication.specs.Layout.{replicaForm, recordForm, sessionForm, countsForm, layoutTests, ofLayout}
 use Rattle.replication.specs.Calls.{committed}
 use Rattle.replication.specs.declared.control.Control.{Control}
-use Rattle.carts.proofs.TestLaws.{all-at, all-set, all-cons, all-nil, every-at, within-high}
+use Rattle.carts.proofs.TestLaws.{all-at, all-set, all-cons, all-nil, every-at, within-high, pairwise-eq, pairwise-refl}
 use Rattle.carts.proofs.EachLaws.{each-at, at-each, from-one, to-one}
 
 -- control: S, and the sessions' studios
@@ -37,7 +37,8 @@ LogFormed c log = record {
   used : c .used ≤ 512;
   records : (r : ℕ) → 1 ≤ r → r ≤ c .used → operationFields (recordAt log r) ≡ true;
   free : allZero (drop (80 * c .used) log) ≡ true;
-  chain : chainForm (c .commits) log (firstRecord c) 1 (c .used + 1) ≡ true;
+  form : transactionsForm (c .commits) log (firstRecord c) ≡ true;
+  upward : logRecords (c .commits) log (firstRecord c) ≡ upFrom 1 (c .used);
 }
 
 abbrev pub SessionsFormed : Control → List ℕ → Type 0
@@ -73,7 +74,7 @@ unfolding every
 four-studios p f = rw (f 1 (omega arith) (omega arith), f 2 (omega arith) (omega arith), f 3 (omega arith) (omega arith), f 4 (omega arith) (omega arith))
 
 pub formed : (c : Control) (m : Memory) → lengthsForm m ≡ true → ofLayout c m ≡ true → Formed c m
-unfolding lengthsForm ofLayout layoutTests recordForm copyAt recordAt sessionAt
+unfolding lengthsForm ofLayout layoutTests recordForm filledUpward copyAt recordAt sessionAt
 formed c m lengths layout = record {
   control = record { studios = test 0; places = test 1 };
   library = record {
@@ -85,10 +86,11 @@ formed c m lengths layout = record {
     used = leb-true _ _ (test 3);
     records = from-one recordForm 80 (c .used) (m .log) (test 4);
     free = test 5;
-    chain = test 6;
+    form = test 6;
+    upward = pairwise-eq _ _ (test 7);
   };
-  sessions = record { size = eqb-true _ _ (all-at 2 sizes lengths); forms = from-one (sessionForm c) 80 16 (m .sessions) (test 7) };
-  counts = studio-at (countsForm c) (test 8);
+  sessions = record { size = eqb-true _ _ (all-at 2 sizes lengths); forms = from-one (sessionForm c) 80 16 (m .sessions) (test 8) };
+  counts = studio-at (countsForm c) (test 9);
 }
   where
     test : (n : ℕ) → getD (layoutTests c m) n true ≡ true
@@ -98,7 +100,7 @@ formed c m lengths layout = record {
     sizes = eqb (length (m .library)) 51200 ∷ eqb (length (m .log)) 40960 ∷ eqb (length (m .sessions)) 1280 ∷ []
 
 pub of-layout : (c : Control) (m : Memory) → Formed c m → (lengthsForm m ≡ true) × (ofLayout c m ≡ true)
-unfolding lengthsForm ofLayout layoutTests recordForm copyAt recordAt sessionAt
+unfolding lengthsForm ofLayout layoutTests recordForm filledUpward copyAt recordAt sessionAt
 of-layout c m f = (
   all-cons _ _ (eq-eqb _ _ (f .library .size)) (all-cons _ _ (eq-eqb _ _ (f .log .size)) (all-cons _ _ (eq-eqb _ _ (f .sessions .size)) all-nil)),
   all-cons _ _ (f .control .studios)
@@ -107,9 +109,10 @@ of-layout c m f = (
       (all-cons _ _ (le-leb _ _ (f .log .used))
       (all-cons _ _ (to-one recordForm 80 (c .used) (m .log) (f .log .records))
       (all-cons _ _ (f .log .free)
-      (all-cons _ _ (f .log .chain)
+      (all-cons _ _ (f .log .form)
+      (all-cons _ _ (rw (f .log .upward) (pairwise-refl (upFrom 1 (c .used))))
       (all-cons _ _ (to-one (sessionForm c) 80 16 (m .sessions) (f .sessions .forms))
-      (all-cons _ _ (four-studios (countsForm c) (f .counts)) all-nil)))))))),
+      (all-cons _ _ (four-studios (countsForm c) (f .counts)) all-nil))))))))),
 )
 
 -- what a studio's counts say, where it is in use

@@ -9,8 +9,12 @@ pub mod CopyLaws
 pub mod DecideLaws
 pub mod Examples
 pub mod Formed
+pub mod GrowLaws
 pub mod LayoutLaws
+pub mod LinkLaws
+pub mod Occurrences
 pub mod OutputLaws
+pub mod Placement
 pub mod ReadLaws
 pub mod RefreshLaws
 pub mod RequestLaws
@@ -23,3 +27,4 @@ pub mod ShownLaws
 pub mod SpanLaws
 pub mod TransactionLaws
 pub mod WalkLaws
+pub mod WriteLaws

@@ -13,7 +13,7 @@ use Rattle.replication.proofs.RowLaws.{unless-stopped, unless-accepted}
 use Rattle.replication.proofs.DecideLaws.{KnownStudio, accepted}
 use Rattle.replication.proofs.Accepted.{send-passed}
 use Rattle.replication.proofs.Formed.{Formed, Counts, counts-of, few}
-use Rattle.replication.proofs.Chains.{few-commits}
+use Rattle.replication.proofs.Placement.{few-commits}
 
 -- rows 9 and 10
 module _ (sent applied commits : ℕ) where

@@ -17,7 +17,7 @@ use Rattle.replication.specs.declared.control.Control.{Control}
 use Rattle.replication.specs.declared.session.Session.{Session}
 use Rattle.replication.proofs.DecideLaws.{KnownSession}
 use Rattle.replication.proofs.Formed.{Formed, few, applied-known}
-use Rattle.replication.proofs.Chains.{few-commits}
+use Rattle.replication.proofs.Placement.{few-commits}
 use Rattle.replication.proofs.RequestLaws.{waiting-is, needed-is}
 use Rattle.replication.proofs.OutputLaws.{value-waiting}
 

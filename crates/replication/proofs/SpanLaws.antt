@@ -1,17 +1,19 @@
--- One transaction of the log's chain, record by record.
+-- The fast test of the log's chain: one transaction, record by record, then the transactions, and that it is the layout's test.
 use Prim.Native.Nat.{ℕ, zero, suc, _+_, _-_, _<_, _≤_}
 use mathlib.Core.Path.{_≡_, refl, sym, ap, _∙_}
-use mathlib.Core.Bool.{Bool, true, false, cond, _&&_, and-false, and-true}
-use mathlib.Core.List.{List, [], _∷_}
+use mathlib.Core.Bool.{Bool, true, false, cond, _&&_, and-false, and-assoc}
+use mathlib.Core.List.{List, [], _∷_, _++_}
 use native.Mathlib.Omega.{arith}
-use native.Mathlib.Decide.{ℕ-discrete}
+use native.Mathlib.Nat.{add-zero, sub-zero}
+use native.Mathlib.Decide.{ℕ-discrete, decLe}
 use lib.ListN.{length, drop}
-use lib.Dec.{leb, ltb, eqb, leb·suc-suc, eqb·suc-zero}
+use lib.Dec.{leb, ltb, eqb, leb·suc-suc}
 use borrow.Author.Tests.{eq-eqb, ne-eqb, lt-ltb, le-ltb, le-leb, lt-leb, eqb-true, eqb-false, leb-true, ltb-true, ltb-false}
 use Rattle.carts.specs.Bytes.{within, all, every, pairwise}
-use Rattle.replication.specs.Log.{nextOperation, nextTransaction, chain, recordsOf, upFrom, chainForm}
-use Rattle.replication.specs.Values.{ownForm, spanOf}
+use Rattle.replication.specs.Log.{nextOperation, nextTransaction, chain, recordsOf, logRecords, ownForm, transactionsForm, upFrom, filledUpward}
+use Rattle.replication.specs.Values.{consecutiveForm, spanOf}
 use Rattle.carts.proofs.TestLaws.{all-at}
+use Rattle.replication.proofs.Chains.{chain-cons, chain-zero}
 
 -- d records more, where there are any
 unfoldable pub raise : ℕ → ℕ → ℕ
@@ -32,26 +34,12 @@ pub raise-one : (d n : ℕ) → n ≡ 1 → raise d n ≡ d + 1
 unfolding raise
 raise-one d n e = rw e
 
-pub raise-of-none : (d n : ℕ) → n ≡ 0 → raise d n ≡ 0
-unfolding raise
-raise-of-none d n e = rw e
-
 -- the records from r on, at most k, counted one by one; 0 where the chain is not of the layout
 unfoldable pub spanFrom : ℕ → List ℕ → ℕ → ℕ → ℕ
 spanFrom zero log r end = 0
 spanFrom (suc k) log r end =
     cond (eqb (nextOperation log r) 0) 1
     (cond (eqb (nextOperation log r) (r + 1) && (ltb (r + 1) end && eqb (nextTransaction log (r + 1)) 0)) (raise 1 (spanFrom k log (r + 1) end)) 0)
-
--- the chain of a record that is not 0 begins with it
-pub chain-cons : (k : ℕ) (log : List ℕ) (r : ℕ) → 1 ≤ r → chain (suc k) log r ≡ r ∷ chain k log (nextOperation log r)
-unfolding chain
-chain-cons k log r h = let n : r ≡ 0 → ⊥ = λ e. omega arith in rw (ne-eqb r 0 n)
-
-pub chain-zero : (k : ℕ) (log : List ℕ) → chain k log 0 ≡ []
-unfolding chain
-chain-zero zero log = refl
-chain-zero (suc k) log = refl
 
 regroup : (w x p z e l : Bool) → (w && ((x && p) && ((z && e) && l))) ≡ (x && (z && (w && ((x && p) && (e && l)))))
 regroup true true p true e l = refl
@@ -62,9 +50,9 @@ regroup false true p false e l = refl
 regroup false false p z e l = refl
 
 -- a record before the others
-pub own-cons : (most : ℕ) (log : List ℕ) (r x end : ℕ) (xs : List ℕ) → ownForm (suc most) log (r ∷ x ∷ xs) r end
-    ≡ (eqb x (r + 1) && (eqb (nextTransaction log x) 0 && ownForm most log (x ∷ xs) (r + 1) end))
-unfolding ownForm all within pairwise upFrom every
+pub own-cons : (most : ℕ) (log : List ℕ) (r x end : ℕ) (xs : List ℕ) → consecutiveForm (suc most) log (r ∷ x ∷ xs) r end
+    ≡ (eqb x (r + 1) && (eqb (nextTransaction log x) 0 && consecutiveForm most log (x ∷ xs) (r + 1) end))
+unfolding consecutiveForm all within pairwise upFrom every
 own-cons most log r x end xs =
     let l : ℕ = length xs in
     let e : r + suc (suc l) ≡ r + 1 + suc l = omega arith in
@@ -72,17 +60,17 @@ own-cons most log r x end xs =
     (regroup (leb (suc l) most) (eqb x (r + 1)) (pairwise eqb xs (upFrom (r + 1 + 1) l)) (eqb (nextTransaction log x) 0) (every (λ q. eqb (nextTransaction log q) 0) xs) (leb (r + 1 + suc l) end && true))
 
 -- the last record
-pub own-last : (most : ℕ) (log : List ℕ) (r end : ℕ) → r < end → ownForm (suc most) log (r ∷ []) r end ≡ true
-unfolding ownForm all within pairwise upFrom every
+pub own-last : (most : ℕ) (log : List ℕ) (r end : ℕ) → r < end → consecutiveForm (suc most) log (r ∷ []) r end ≡ true
+unfolding consecutiveForm all within pairwise upFrom every
 own-last most log r end h = rw (le-leb 1 (suc most) (omega arith), eq-eqb r r refl, le-leb (r + 1) end (omega arith))
 
 -- there is no transaction of no operation, and none that ends after `end`
-pub own-none : (log : List ℕ) (r x end : ℕ) (xs : List ℕ) → ownForm 0 log (x ∷ xs) r end ≡ false
-unfolding ownForm all within
+pub own-none : (log : List ℕ) (r x end : ℕ) (xs : List ℕ) → consecutiveForm 0 log (x ∷ xs) r end ≡ false
+unfolding consecutiveForm all within
 own-none log r x end xs = rw (lt-leb (suc (length xs)) 0 (omega arith)) (simp and-false)
 
-pub own-beyond : (most : ℕ) (log : List ℕ) (r end : ℕ) (own : List ℕ) → end < r + length own → ownForm most log own r end ≡ false
-unfolding ownForm all
+pub own-beyond : (most : ℕ) (log : List ℕ) (r end : ℕ) (own : List ℕ) → end < r + length own → consecutiveForm most log own r end ≡ false
+unfolding consecutiveForm all
 own-beyond most log r end own h = rw (lt-leb (r + length own) end h) (simp and-false)
 
 raise-cond : (b : Bool) (n : ℕ) → raise 1 (cond b (suc n) 0) ≡ cond b (suc (suc n)) 0
@@ -92,17 +80,17 @@ raise-cond false n = refl
 
 -- what `span-is` says of at most k records from r on
 abbrev Same : ℕ → List ℕ → ℕ → ℕ → Type 0
-Same k log r end = spanFrom k log r end ≡ cond (ownForm k log (chain (suc k) log r) r end) (length (chain (suc k) log r)) 0
+Same k log r end = spanFrom k log r end ≡ cond (consecutiveForm k log (chain (suc k) log r) r end) (length (chain (suc k) log r)) 0
 
 module _ (k : ℕ) (log : List ℕ) (r end : ℕ) (h : 1 ≤ r) (l : r < end) (later : r + 1 < end → Same k log (r + 1) end) where
   -- the next operation is record r + 1
   span-on : (b z : Bool) → ltb (r + 1) end ≡ b → eqb (nextTransaction log (r + 1)) 0 ≡ z
-      → cond (b && z) (raise 1 (spanFrom k log (r + 1) end)) 0 ≡ cond (ownForm (suc k) log (r ∷ chain (suc k) log (r + 1)) r end) (length (r ∷ chain (suc k) log (r + 1))) 0
+      → cond (b && z) (raise 1 (spanFrom k log (r + 1) end)) 0 ≡ cond (consecutiveForm (suc k) log (r ∷ chain (suc k) log (r + 1)) r end) (length (r ∷ chain (suc k) log (r + 1))) 0
   span-on true true e f =
       let own : List ℕ = chain k log (nextOperation log (r + 1)) in
       let c : chain (suc k) log (r + 1) ≡ (r + 1) ∷ own = chain-cons k log (r + 1) (omega arith) in
       rw (later (ltb-true (r + 1) end e), c, own-cons k log r (r + 1) end own, f, eq-eqb (r + 1) (r + 1) refl)
-      (raise-cond (ownForm k log ((r + 1) ∷ own) (r + 1) end) (length own))
+      (raise-cond (consecutiveForm k log ((r + 1) ∷ own) (r + 1) end) (length own))
   span-on true false e f =
       rw (chain-cons k log (r + 1) (omega arith), own-cons k log r (r + 1) end (chain k log (nextOperation log (r + 1))), f, eq-eqb (r + 1) (r + 1) refl)
   span-on false z e f =
@@ -112,13 +100,13 @@ module _ (k : ℕ) (log : List ℕ) (r end : ℕ) (h : 1 ≤ r) (l : r < end) (l
 
   span-next : (x : ℕ) (b : Bool) → (x ≡ 0 → ⊥) → eqb x (r + 1) ≡ b
       → cond (b && (ltb (r + 1) end && eqb (nextTransaction log (r + 1)) 0)) (raise 1 (spanFrom k log (r + 1) end)) 0
-      ≡ cond (ownForm (suc k) log (r ∷ chain (suc k) log x) r end) (length (r ∷ chain (suc k) log x)) 0
+      ≡ cond (consecutiveForm (suc k) log (r ∷ chain (suc k) log x) r end) (length (r ∷ chain (suc k) log x)) 0
   span-next x true n e = rw (eqb-true x (r + 1) e) (span-on (ltb (r + 1) end) (eqb (nextTransaction log (r + 1)) 0) refl refl)
   span-next x false n e = rw (chain-cons k log x (omega arith), own-cons k log r x end (chain k log (nextOperation log x)), e)
 
   span-end : (x : ℕ) (b : Bool) → eqb x 0 ≡ b
       → cond b 1 (cond (eqb x (r + 1) && (ltb (r + 1) end && eqb (nextTransaction log (r + 1)) 0)) (raise 1 (spanFrom k log (r + 1) end)) 0)
-      ≡ cond (ownForm (suc k) log (r ∷ chain (suc k) log x) r end) (length (r ∷ chain (suc k) log x)) 0
+      ≡ cond (consecutiveForm (suc k) log (r ∷ chain (suc k) log x) r end) (length (r ∷ chain (suc k) log x)) 0
   span-end x true e = rw (eqb-true x 0 e, chain-zero (suc k) log, own-last k log r end l)
   span-end x false e = span-next x (eqb x (r + 1)) (eqb-false x 0 e) refl
 
@@ -165,14 +153,14 @@ pub span-of : (log : List ℕ) (r end : ℕ) → 1 ≤ r → r < end → spanOf 
 unfolding spanOf recordsOf
 span-of log r end h l = sym (span-is 8 log r end h l)
 
-own-ends : (most : ℕ) (log own : List ℕ) (r end : ℕ) → ownForm most log own r end ≡ true → leb (r + length own) end ≡ true
-unfolding ownForm
+own-ends : (most : ℕ) (log own : List ℕ) (r end : ℕ) → consecutiveForm most log own r end ≡ true → leb (r + length own) end ≡ true
+unfolding consecutiveForm
 own-ends most log own r end e =
     all-at 3 (within 1 most (length own) ∷ pairwise eqb own (upFrom r (length own)) ∷ every (λ q. eqb (nextTransaction log q) 0) (drop 1 own) ∷ leb (r + length own) end ∷ []) e
 
 -- records that do not begin with r are not those of a transaction at r
-own-gap : (log : List ℕ) (x r end : ℕ) → (x ≡ r → ⊥) → ownForm 8 log (recordsOf log x) r end ≡ false
-unfolding ownForm recordsOf all within pairwise upFrom
+own-gap : (log : List ℕ) (x r end : ℕ) → (x ≡ r → ⊥) → consecutiveForm 8 log (recordsOf log x) r end ≡ false
+unfolding consecutiveForm recordsOf all within pairwise upFrom
 own-gap log zero r end n = rw (chain-zero 9 log)
 own-gap log (suc x) r end n = rw (chain-cons 8 log (suc x) (omega arith), ne-eqb (suc x) r n) (simp and-false)
 
@@ -181,50 +169,84 @@ records-some : (log : List ℕ) (r : ℕ) → 1 ≤ r → 1 ≤ length (recordsO
 unfolding recordsOf
 records-some log r h = rw (chain-cons 8 log r h) (omega arith)
 
--- the whole chain, transaction by transaction
-chain-suc : (n : ℕ) (log : List ℕ) (first r end : ℕ) → chainForm (suc n) log first r end
-    ≡ (ownForm 8 log (recordsOf log first) r end && chainForm n log (nextTransaction log first) (r + length (recordsOf log first)) end)
-unfolding chainForm ownForm
-chain-suc n log first r end = refl
+-- records of which `own` come first are r, r + 1, .., n of them
+upward-append : (own rest : List ℕ) (r n : ℕ) → pairwise eqb (own ++ rest) (upFrom r n)
+    ≡ (pairwise eqb own (upFrom r (length own)) && (leb (length own) n && pairwise eqb rest (upFrom (r + length own) (n - length own))))
+unfolding pairwise upFrom
+upward-append [] rest r n = rw (le-leb 0 n (omega arith), add-zero r, sub-zero)
+upward-append (x ∷ own) rest r zero = rw (lt-leb (suc (length own)) 0 (omega arith)) (sym (and-false (eqb x r && pairwise eqb own (upFrom (r + 1) (length own)))))
+upward-append (x ∷ own) rest r (suc n) =
+    let e : r + suc (length own) ≡ r + 1 + length own = omega arith in
+    let f : suc n - suc (length own) ≡ n - length own = omega arith in
+    rw (upward-append own rest (r + 1) n, leb·suc-suc (length own) n, e, f) (sym (and-assoc (eqb x r) (pairwise eqb own (upFrom (r + 1) (length own))) _))
 
-module _ (log : List ℕ) (left first r end : ℕ) (h : 0 < left) where
-  pub chain-turn : chainForm left log first r end
-      ≡ (ownForm 8 log (recordsOf log first) r end && chainForm (left - 1) log (nextTransaction log first) (r + length (recordsOf log first)) end)
-  chain-turn = let q : left ≡ suc (left - 1) = omega arith in ap (λ n. chainForm n log first r end) q ∙ chain-suc (left - 1) log first r end
+-- n transactions from record `first` on, whose records are r, r + 1, .., before record `end`
+abbrev pub Upward : ℕ → List ℕ → ℕ → ℕ → ℕ → Bool
+Upward n log first r end = transactionsForm n log first && pairwise eqb (logRecords n log first) (upFrom r (end - r))
 
-  chain-false : ownForm 8 log (recordsOf log first) r end ≡ false → chainForm left log first r end ≡ false
+apart-join : (w p z l t q : Bool) → (((w && (z && true)) && t) && (p && (l && q))) ≡ ((w && (p && (z && (l && true)))) && (t && q))
+apart-join false p z l t q = refl
+apart-join true false true l t q = and-false t
+apart-join true false false l t q = refl
+apart-join true true false l t q = refl
+apart-join true true true false t q = and-false t
+apart-join true true true true t q = refl
+
+-- the layout's test and its placement, transaction by transaction
+chain-suc : (n : ℕ) (log : List ℕ) (first r end : ℕ) → r ≤ end → Upward (suc n) log first r end
+    ≡ (consecutiveForm 8 log (recordsOf log first) r end && Upward n log (nextTransaction log first) (r + length (recordsOf log first)) end)
+unfolding transactionsForm logRecords ownForm consecutiveForm all
+chain-suc n log first r end h =
+    let own = recordsOf log first in
+    let e : end - r - length own ≡ end - (r + length own) = omega arith in
+    rw (upward-append own (logRecords n log (nextTransaction log first)) r (end - r), e, fits (length own))
+    (apart-join (within 1 8 (length own)) (pairwise eqb own (upFrom r (length own))) (every (λ q. eqb (nextTransaction log q) 0) (drop 1 own)) (leb (r + length own) end) _ _)
+  where
+    fits : (k : ℕ) → leb k (end - r) ≡ leb (r + k) end
+    fits k = go (decLe (r + k) end)
+      where
+        go : Dec (r + k ≤ end) → leb k (end - r) ≡ leb (r + k) end
+        go (yes l) = rw (le-leb k (end - r) (omega arith), le-leb (r + k) end l)
+        go (no l) = rw (lt-leb k (end - r) (omega arith), lt-leb (r + k) end (omega arith))
+
+module _ (log : List ℕ) (left first r end : ℕ) (h : 0 < left) (b : r ≤ end) where
+  chain-turn : Upward left log first r end
+      ≡ (consecutiveForm 8 log (recordsOf log first) r end && Upward (left - 1) log (nextTransaction log first) (r + length (recordsOf log first)) end)
+  chain-turn = let q : left ≡ suc (left - 1) = omega arith in ap (λ n. Upward n log first r end) q ∙ chain-suc (left - 1) log first r end b
+
+  chain-false : consecutiveForm 8 log (recordsOf log first) r end ≡ false → Upward left log first r end ≡ false
   chain-false e = chain-turn ∙ rw e
 
   -- the link leads elsewhere
-  chain-gap : (first ≡ r → ⊥) → chainForm left log first r end ≡ false
+  chain-gap : (first ≡ r → ⊥) → Upward left log first r end ≡ false
   chain-gap n = chain-false (own-gap log first r end n)
 
   -- no transaction of the layout stands at r
-  chain-none : ownForm 8 log (recordsOf log r) r end ≡ false → chainForm left log first r end ≡ false
+  chain-none : consecutiveForm 8 log (recordsOf log r) r end ≡ false → Upward left log first r end ≡ false
   chain-none e = go (ℕ-discrete first r)
     where
-      go : Dec (first ≡ r) → chainForm left log first r end ≡ false
+      go : Dec (first ≡ r) → Upward left log first r end ≡ false
       go (yes q) = chain-false (rw q e)
       go (no n) = chain-gap n
 
   -- the log ends before
-  pub chain-past : 1 ≤ r → end ≤ r → chainForm left log first r end ≡ false
+  pub chain-past : 1 ≤ r → end ≤ r → Upward left log first r end ≡ false
   chain-past k l =
       let some : 1 ≤ length (recordsOf log r) = records-some log r k in
       chain-none (own-beyond 8 log r end (recordsOf log r) (omega arith))
 
 module _ (log : List ℕ) (r end v : ℕ) (k : 1 ≤ r) (s : v ≡ spanOf log r end) where
-  pub span-zero : v ≡ 0 → ownForm 8 log (recordsOf log r) r end ≡ false
+  pub span-zero : v ≡ 0 → consecutiveForm 8 log (recordsOf log r) r end ≡ false
   unfolding spanOf
-  span-zero z = go (ownForm 8 log (recordsOf log r) r end) (sym s ∙ z)
+  span-zero z = go (consecutiveForm 8 log (recordsOf log r) r end) (sym s ∙ z)
     where
       go : (b : Bool) → cond b (length (recordsOf log r)) 0 ≡ 0 → b ≡ false
       go true e = let some : 1 ≤ length (recordsOf log r) = records-some log r k in absurd (omega arith)
       go false e = refl
 
-  pub span-some : (v ≡ 0 → ⊥) → (ownForm 8 log (recordsOf log r) r end ≡ true) × (length (recordsOf log r) ≡ v)
+  pub span-some : (v ≡ 0 → ⊥) → (consecutiveForm 8 log (recordsOf log r) r end ≡ true) × (length (recordsOf log r) ≡ v)
   unfolding spanOf
-  span-some z = go (ownForm 8 log (recordsOf log r) r end) s
+  span-some z = go (consecutiveForm 8 log (recordsOf log r) r end) s
     where
       go : (b : Bool) → v ≡ cond b (length (recordsOf log r)) 0 → (b ≡ true) × (length (recordsOf log r) ≡ v)
       go true e = (refl, sym e)
@@ -236,31 +258,26 @@ module _ (log : List ℕ) (r end v : ℕ) (k : 1 ≤ r) (s : v ≡ spanOf log r 
       rw (← (f .1)) (leb-true (r + length (recordsOf log r)) end (own-ends 8 log (recordsOf log r) r end (f .0)))
 
 -- a turn of a loop over transactions: v is the span of the one at r
-module _ (log : List ℕ) (left first r end v : ℕ) (h : 0 < left) (k : 1 ≤ r) (s : v ≡ spanOf log r end) where
-  pub chain-bad : v ≡ 0 → chainForm left log first r end ≡ false
-  chain-bad z = chain-none log left first r end h (span-zero log r end v k s z)
+module _ (log : List ℕ) (left first r end v : ℕ) (h : 0 < left) (b : r ≤ end) (k : 1 ≤ r) (s : v ≡ spanOf log r end) where
+  pub chain-bad : v ≡ 0 → Upward left log first r end ≡ false
+  chain-bad z = chain-none log left first r end h b (span-zero log r end v k s z)
 
-  pub chain-step : (v ≡ 0 → ⊥) → chainForm left log first r end ≡ (eqb first r && chainForm (left - 1) log (nextTransaction log r) (r + v) end)
+  pub chain-step : (v ≡ 0 → ⊥) → Upward left log first r end ≡ (eqb first r && Upward (left - 1) log (nextTransaction log r) (r + v) end)
   chain-step z = go (ℕ-discrete first r)
     where
-      go : Dec (first ≡ r) → chainForm left log first r end ≡ (eqb first r && chainForm (left - 1) log (nextTransaction log r) (r + v) end)
-      go (yes q) = let f = span-some log r end v k s z in chain-turn log left first r end h ∙ rw (q, f .0, f .1, eq-eqb r r refl)
-      go (no n) = chain-gap log left first r end h n ∙ rw (ne-eqb first r n)
+      go : Dec (first ≡ r) → Upward left log first r end ≡ (eqb first r && Upward (left - 1) log (nextTransaction log r) (r + v) end)
+      go (yes q) = let f = span-some log r end v k s z in chain-turn log left first r end h b ∙ rw (q, f .0, f .1, eq-eqb r r refl)
+      go (no n) = chain-gap log left first r end h b n ∙ rw (ne-eqb first r n)
 
-pub chain-done : (log : List ℕ) (left first r end : ℕ) → left ≤ 0 → chainForm left log first r end ≡ (eqb first 0 && eqb r end)
-unfolding chainForm all
-chain-done log left first r end h = let e : left ≡ 0 = omega arith in rw (e, and-true)
-
--- the chain of a log from record 1 on
-abbrev pub Whole : List ℕ → ℕ → ℕ → Bool
-Whole log commits used = chainForm commits log (cond (eqb commits 0) 0 1) 1 (used + 1)
-
-pub chain-empty : (log : List ℕ) (commits used : ℕ) → commits ≡ 0 → eqb used 0 ≡ Whole log commits used
-chain-empty log commits used e = rw e (same used ∙ sym (chain-done log 0 0 1 (used + 1) (omega arith)))
+pub chain-done : (log : List ℕ) (left first r end : ℕ) → left ≤ 0 → r ≤ end → Upward left log first r end ≡ (eqb first 0 && eqb r end)
+unfolding transactionsForm logRecords pairwise upFrom
+chain-done log left first r end h b = let e : left ≡ 0 = omega arith in rw (e, none (end - r) refl)
   where
-    same : (n : ℕ) → eqb n 0 ≡ eqb 1 (n + 1)
-    same zero = refl
-    same (suc n) = let z : 1 ≡ suc n + 1 → ⊥ = λ q. omega arith in rw (ne-eqb 1 (suc n + 1) z, eqb·suc-zero)
+    none : (n : ℕ) → end - r ≡ n → pairwise eqb [] (upFrom r n) ≡ eqb r end
+    none zero e = let q : r ≡ end = omega arith in sym (eq-eqb r end q)
+    none (suc n) e = sym (ne-eqb r end (λ q. omega arith))
 
-pub chain-begins : (log : List ℕ) (commits used : ℕ) → (commits ≡ 0 → ⊥) → Whole log commits used ≡ chainForm commits log 1 1 (used + 1)
-chain-begins log commits used n = rw (ne-eqb commits 0 n)
+-- from record 1 on, before the record after the `used` ones, that is the layout's test
+pub upward-whole : (log : List ℕ) (n first used : ℕ) → Upward n log first 1 (used + 1) ≡ (transactionsForm n log first && filledUpward used (logRecords n log first))
+unfolding filledUpward
+upward-whole log n first used = let e : used + 1 - 1 ≡ used = omega arith in rw e

@@ -1,16 +1,22 @@
--- Laws of a transaction that acts on a copy, record by record.
-use Prim.Native.Nat.{ℕ, suc, _-_, _<_, _≤_}
-use mathlib.Core.Path.{_≡_, ap, _∙_}
+-- The log's transactions: one acts on a copy, record by record; all of them as they were handed in.
+use Prim.Native.Nat.{ℕ, zero, suc, _-_, _<_, _≤_}
+use mathlib.Core.Path.{_≡_, refl, ap, _∙_}
 use mathlib.Core.Bool.{Bool, true, _&&_}
 use mathlib.Core.List.{List, [], _∷_, map}
 use native.Mathlib.Omega.{arith}
-use Rattle.carts.specs.Bytes.{u16, within, every}
+use borrow.Author.Tests.{eqb-true}
+use lib.Dec.{eqb}
+use lib.ListN.{length, getD}
+use Rattle.carts.specs.Bytes.{zeros, over, u16, within, every}
 use Rattle.carts.specs.Operation.{act, actAll}
 use Rattle.carts.proofs.TestLaws.{and-left, and-right, all-at, within-low, within-high}
+use Rattle.carts.proofs.PartLaws.{take-over, drop-over-after}
+use Rattle.carts.proofs.ZeroLaws.{length-zeros}
+use Rattle.carts.proofs.OperationLaws.{act-links}
 use Rattle.replication.specs.Memory.{recordAt}
-use Rattle.replication.specs.Log.{nextOperation, chain}
+use Rattle.replication.specs.Log.{nextOperation, nextTransaction, chain, transactionAt, handedIn, transactionsFrom, walk}
 use Rattle.replication.specs.Values.{usable}
-use Rattle.replication.proofs.SpanLaws.{chain-cons, chain-zero}
+use Rattle.replication.proofs.Chains.{chain-cons, chain-zero}
 
 -- what a usable record gives
 pub record Usable (log : List ℕ) (r : ℕ) : Type 0 where
@@ -55,3 +61,30 @@ acts-ends log left r copy e = rw (e, chain-zero left log)
 pub acts-stops : (log : List ℕ) (left r : ℕ) (copy : List ℕ) → left ≤ 0 → actAll copy (map (recordAt log) (chain left log r)) ≡ copy
 unfolding actAll chain
 acts-stops log left r copy h = let e : left ≡ 0 = omega arith in rw e
+
+-- the transactions read off the log: how many
+pub length-transactions : (n : ℕ) (log : List ℕ) (r : ℕ) → length (transactionsFrom n log r) ≡ n
+unfolding transactionsFrom
+length-transactions zero log r = refl
+length-transactions (suc n) log r = ap suc (length-transactions n log _)
+
+-- transaction k is the one that the walk comes to
+pub transactions-at : (n : ℕ) (log : List ℕ) (r k : ℕ) → k < n → getD (transactionsFrom n log r) k [] ≡ map handedIn (transactionAt log (walk k log r))
+unfolding transactionsFrom walk
+transactions-at zero log r k h = let z : ⊥ = omega arith in absurd z
+transactions-at (suc n) log r zero h = refl
+transactions-at (suc n) log r (suc k) h = transactions-at n log (nextTransaction log r) k (omega arith)
+
+-- an operation's links are not read when it acts
+handed-act : (copy op : List ℕ) → length op ≡ 80 → act copy (handedIn op) ≡ act copy op
+unfolding handedIn
+handed-act copy op h =
+    act-links (over op 12 4 (zeros 4)) op (take-over op 12 4 (zeros 4) 12 (omega arith) (omega arith)) (drop-over-after op 12 4 (zeros 4) 16 (omega arith) (length-zeros 4) (omega arith)) copy
+
+pub handed-actAll : (copy : List ℕ) (ops : List (List ℕ)) → every (λ op. eqb (length op) 80) ops ≡ true → actAll copy (map handedIn ops) ≡ actAll copy ops
+unfolding actAll every
+handed-actAll copy [] h = refl
+handed-actAll copy (op ∷ ops) h =
+    let n = eqb-true (length op) 80 (and-left (eqb (length op) 80) (every (λ o. eqb (length o) 80) ops) h) in
+    let r = and-right (eqb (length op) 80) (every (λ o. eqb (length o) 80) ops) h in
+    ap (λ (z : List ℕ). actAll z (map handedIn ops)) (handed-act copy op n) ∙ handed-actAll (act copy op) ops r

@@ -1,14 +1,14 @@
 -- Document 01, "Of this layout": a test of control and the three memories, for any bytes and any control.
 use mathlib.Core.Bool.{Bool, cond}
 use mathlib.Core.List.{List, [], _∷_}
-use Prim.Native.Nat.{ℕ, _+_, _*_, _-_}
+use Prim.Native.Nat.{ℕ, _*_, _-_}
 use lib.ListN.{drop}
 use lib.Dec.{leb, eqb}
 use Rattle.carts.specs.Bytes.{part, byte, within, all, every, allZero, eachPart}
 use Rattle.carts.specs.Cart.{titleSize, copySize, copyForm}
 use Rattle.carts.specs.Operation.{operationFields}
 use Rattle.replication.specs.Memory.{Memory, copyCount, recordSize, recordCount, sessionSize, sessionCount, studioCount, window, unusedAt, payloadAt, sequenceOf, nth, studioOf}
-use Rattle.replication.specs.Log.{firstRecord, chainForm}
+use Rattle.replication.specs.Log.{logRecords, transactionsForm, firstRecord, filledUpward}
 use Rattle.replication.specs.Request.{requestFields}
 use Rattle.replication.specs.declared.control.Control.{Control}
 
@@ -48,7 +48,8 @@ layoutTests c m =
     ∷ leb (c .used) recordCount
     ∷ eachPart recordForm recordSize (c .used) 1 (m .log)
     ∷ allZero (drop (recordSize * c .used) (m .log))
-    ∷ chainForm (c .commits) (m .log) (firstRecord c) 1 (c .used + 1)
+    ∷ transactionsForm (c .commits) (m .log) (firstRecord c)
+    ∷ filledUpward (c .used) (logRecords (c .commits) (m .log) (firstRecord c))
     ∷ eachPart (sessionForm c) sessionSize sessionCount 1 (m .sessions)
     ∷ every (countsForm c) (1 ∷ 2 ∷ 3 ∷ 4 ∷ [])
     ∷ []

@@ -1,20 +1,20 @@
--- Document 01, "Log": the two chains of records, the walk along them, and what a commit writes.
+-- Document 01, "Log": the two chains of records, the walk along them, their form and their place, and what a commit writes.
 use mathlib.Core.Bool.{Bool, cond, _&&_}
-use mathlib.Core.List.{List, [], _∷_, map}
+use mathlib.Core.List.{List, [], _∷_, _++_, map}
 use Prim.Native.Nat.{ℕ, zero, suc, _+_, _-_}
 use lib.ListN.{length, drop}
-use lib.Dec.{leb, ltb, eqb}
+use lib.Dec.{ltb, eqb}
 use Rattle.carts.specs.Bytes.{over, u16, u16Bytes, within, all, every, pairwise, zeros}
-use Rattle.replication.specs.Memory.{recordCount, logSize, recordAt, withRecord}
+use Rattle.replication.specs.Memory.{recordCount, logSize, nextOperationAt, nextTransactionAt, mostOperations, tooManyOperations, recordAt, withRecord}
 use Rattle.replication.specs.declared.control.Control.{Control}
 
 -- "bytes 12–13 are the index of the next operation of its transaction"
 unfoldable pub nextOperation : List ℕ → ℕ → ℕ
-nextOperation log r = u16 (recordAt log r) 12
+nextOperation log r = u16 (recordAt log r) nextOperationAt
 
 -- "bytes 14–15, in a transaction's first record only, are the first record of the next transaction"
 unfoldable pub nextTransaction : List ℕ → ℕ → ℕ
-nextTransaction log r = u16 (recordAt log r) 14
+nextTransaction log r = u16 (recordAt log r) nextTransactionAt
 
 -- "Zero ends either chain": the records from r on along bytes 12–13, at most n
 unfoldable pub chain : ℕ → List ℕ → ℕ → List ℕ
@@ -23,13 +23,38 @@ chain (suc n) log r =
     let more = r ∷ chain n log (nextOperation log r) in
     cond (eqb r 0) [] more
 
--- the records of the transaction whose first record is r; one more than the 8 it may have, so that a longer one shows
+-- the records of the transaction whose first record is r; one more than it may have, so that a longer one shows
 unfoldable pub recordsOf : List ℕ → ℕ → List ℕ
-recordsOf log r = chain 9 log r
+recordsOf log r = chain tooManyOperations log r
 
 -- the operations of that transaction, each with its links in bytes 12–15
 unfoldable pub transactionAt : List ℕ → ℕ → List (List ℕ)
 transactionAt log r = map (recordAt log) (recordsOf log r)
+
+-- a record's operation as it was handed in: its links, bytes 12–15, are zero again
+unfoldable pub handedIn : List ℕ → List ℕ
+handedIn x = over x nextOperationAt 4 (zeros 4)
+
+-- n transactions along the chain, the first at record r: their operations as they were handed in
+unfoldable pub transactionsFrom : ℕ → List ℕ → ℕ → List (List (List ℕ))
+transactionsFrom zero log r = []
+transactionsFrom (suc n) log r = map handedIn (transactionAt log r) ∷ transactionsFrom n log (nextTransaction log r)
+
+-- the records that the chain of n transactions passes, in its order
+unfoldable pub logRecords : ℕ → List ℕ → ℕ → List ℕ
+logRecords zero log r = []
+logRecords (suc n) log r = recordsOf log r ++ logRecords n log (nextTransaction log r)
+
+-- "transactions of 1 to 8 operations"; bytes 14–15 "in a transaction's first record only"
+unfoldable pub ownForm : List ℕ → List ℕ → Bool
+ownForm log own = all (within 1 mostOperations (length own) ∷ every (λ q. eqb (nextTransaction log q) 0) (drop 1 own) ∷ [])
+
+-- "the log's chain has exactly commits transactions": n of that form, the first at record r, and none after them
+unfoldable pub transactionsForm : ℕ → List ℕ → ℕ → Bool
+transactionsForm zero log r = eqb r 0
+transactionsForm (suc n) log r =
+    let rest = transactionsForm n log (nextTransaction log r) in
+    ownForm log (recordsOf log r) && rest
 
 -- "The walk to the n-th transaction": the first record of the transaction n further on than the one at r
 unfoldable pub walk : ℕ → List ℕ → ℕ → ℕ
@@ -46,18 +71,9 @@ upFrom r zero = []
 upFrom r (suc n) = r ∷ upFrom (r + 1) n
 
 -- "Records are filled from 1 upward: a next operation is the index one higher, a next transaction begins just after the last
--- operation": n transactions, the first where `first` says and at record r, the last ending before record `end`
-unfoldable pub chainForm : ℕ → List ℕ → ℕ → ℕ → ℕ → Bool
-chainForm zero log first r end = all (eqb first 0 ∷ eqb r end ∷ [])
-chainForm (suc n) log first r end =
-    let own = recordsOf log first in
-    let next = r + length own in
-    let rest = chainForm n log (nextTransaction log first) next end in
-    all (within 1 8 (length own)
-    ∷ pairwise eqb own (upFrom r (length own))
-    ∷ every (λ q. eqb (nextTransaction log q) 0) (drop 1 own)
-    ∷ leb next end
-    ∷ []) && rest
+-- operation"; "and used records": those that the chain passes are 1, 2, .., used
+unfoldable pub filledUpward : ℕ → List ℕ → Bool
+filledUpward used records = pairwise eqb records (upFrom 1 used)
 
 -- the log that setup leaves: "Unused records are zero"
 unfoldable pub freshLog : List ℕ
@@ -80,11 +96,11 @@ front (r ∷ rs) = r
 unfoldable pub writeAll : List ℕ → List (List ℕ) → List ℕ → List ℕ
 writeAll [] ops log = log
 writeAll (r ∷ rs) [] log = log
-writeAll (r ∷ rs) (op ∷ ops) log = writeAll rs ops (withRecord log r (over op 12 2 (u16Bytes (front rs))))
+writeAll (r ∷ rs) (op ∷ ops) log = writeAll rs ops (withRecord log r (over op nextOperationAt 2 (u16Bytes (front rs))))
 
 -- the record of the transaction before, with the first record of the new transaction in bytes 14–15
 unfoldable pub linked : List ℕ → ℕ → ℕ → List ℕ
-linked log r first = withRecord log r (over (recordAt log r) 14 2 (u16Bytes first))
+linked log r first = withRecord log r (over (recordAt log r) nextTransactionAt 2 (u16Bytes first))
 
 -- the log after a commit: its operations appended, and the last transaction before linked to them
 unfoldable pub appended : Control → List ℕ → List (List ℕ) → List ℕ

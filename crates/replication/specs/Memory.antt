@@ -33,6 +33,20 @@ recordCount = 512
 abbrev pub logSize : ℕ
 logSize = 40960
 
+-- "bytes 12–13 are the index of the next operation"; "bytes 14–15 .. are the first record of the next transaction"
+abbrev pub nextOperationAt : ℕ
+nextOperationAt = 12
+
+abbrev pub nextTransactionAt : ℕ
+nextTransactionAt = 14
+
+-- "transactions of 1 to 8 operations"; a chain of one record more shows a longer one
+abbrev pub mostOperations : ℕ
+mostOperations = 8
+
+abbrev pub tooManyOperations : ℕ
+tooManyOperations = 9
+
 -- "Session memory, 1,280 bytes: 16 sessions of 80 bytes, counted from 1"
 abbrev pub sessionSize : ℕ
 sessionSize = 80
@@ -59,10 +73,6 @@ numbersMost = 32
 -- "S (studios, 1 to 4)"
 abbrev pub studioCount : ℕ
 studioCount = 4
-
--- "transactions of 1 to 8 operations"
-abbrev pub transactionMost : ℕ
-transactionMost = 8
 
 -- "sent − applied ≤ 32"
 abbrev pub window : ℕ

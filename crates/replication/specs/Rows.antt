@@ -8,7 +8,7 @@ use lib.Dec.{leb, ltb, eqb}
 use Rattle.carts.specs.Bytes.{within, all, every}
 use Rattle.carts.specs.Cart.{cartSize}
 use Rattle.carts.specs.Operation.{operationForm, operationsOf, meetsAll}
-use Rattle.replication.specs.Memory.{Memory, transactionMost, sessionCount, studioCount, window, lengthsForm, copyAt, nth, studioOf}
+use Rattle.replication.specs.Memory.{Memory, mostOperations, sessionCount, studioCount, window, lengthsForm, copyAt, nth, studioOf}
 use Rattle.replication.specs.Log.{noRoom}
 use Rattle.replication.specs.Request.{Request, requestOf, requestForm, isWaiting, needed, waitingIn}
 use Rattle.replication.specs.Layout.{ofLayout}
@@ -54,7 +54,7 @@ studioRow studios i = row 3 (not (within 1 studios i))
 
 -- "length not 80 to 640 in steps of 80"
 unfoldable pub sizeForm : List ℕ → Bool
-sizeForm bytes = all (within cartSize (cartSize * transactionMost) (length bytes) ∷ eqb (length bytes % cartSize) 0 ∷ [])
+sizeForm bytes = all (within cartSize (cartSize * mostOperations) (length bytes) ∷ eqb (length bytes % cartSize) 0 ∷ [])
 
 -- rows 5 to 7: `used` records; the operations' bytes
 abbrev pub formRows : ℕ → List ℕ → List Row

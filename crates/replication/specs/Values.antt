@@ -5,9 +5,9 @@ use Prim.Native.Nat.{ℕ, zero, suc, _+_, _*_, _-_}
 use lib.ListN.{length, drop}
 use lib.Dec.{leb, eqb}
 use Rattle.carts.specs.Bytes.{part, byte, u16, within, all, every, allZero, pairwise}
-use Rattle.carts.specs.Cart.{cartSize}
+use Rattle.carts.specs.Cart.{cartSize, cartCount}
 use Rattle.replication.specs.Log.{nextOperation, nextTransaction, recordsOf, upFrom}
-use Rattle.replication.specs.Memory.{unusedAt, payloadAt, recordAt, sessionAt, sequenceOf, nth, studioOf}
+use Rattle.replication.specs.Memory.{recordCount, mostOperations, unusedAt, payloadAt, recordAt, sessionAt, sequenceOf, nth, studioOf}
 use Rattle.replication.specs.Layout.{waitingForm}
 use Rattle.replication.specs.declared.session.Session.{Session}
 use Rattle.replication.specs.declared.session.Waiting.{Waiting}
@@ -43,27 +43,28 @@ sessionFormOf studio commits x =
 abbrev pub linksOf : List ℕ → ℕ → Record
 linksOf log r = record { «next_operation» = nextOperation log r; «next_transaction» = nextTransaction log r }
 
--- the records `own` of a transaction of at most `most` operations: r, r + 1, .., before record `end`; only the first has a link to the next transaction
-unfoldable pub ownForm : ℕ → List ℕ → List ℕ → ℕ → ℕ → Bool
-ownForm most log own r end =
+-- the records `own` of a transaction of at most `most` operations are r, r + 1, .., before record `end`; only the first has a link to
+-- the next transaction
+unfoldable pub consecutiveForm : ℕ → List ℕ → List ℕ → ℕ → ℕ → Bool
+consecutiveForm most log own r end =
     all (within 1 most (length own)
     ∷ pairwise eqb own (upFrom r (length own))
     ∷ every (λ q. eqb (nextTransaction log q) 0) (drop 1 own)
     ∷ leb (r + length own) end
     ∷ [])
 
--- how many records the transaction at record r has; 0 where they are not of the layout
+-- how many records the transaction at record r has; 0 where they are not of that form
 unfoldable pub spanOf : List ℕ → ℕ → ℕ → ℕ
-spanOf log r end = cond (ownForm 8 log (recordsOf log r) r end) (length (recordsOf log r)) 0
+spanOf log r end = cond (consecutiveForm mostOperations log (recordsOf log r) r end) (length (recordsOf log r)) 0
 
 -- a record of the log whose operation can act on a copy: its index and its cart's number are in range
 unfoldable pub usable : List ℕ → ℕ → Bool
-usable log r = all (within 1 512 r ∷ within 1 128 (u16 (recordAt log r) 2) ∷ [])
+usable log r = all (within 1 recordCount r ∷ within 1 cartCount (u16 (recordAt log r) 2) ∷ [])
 
 -- the n records that a walk from record r reads are records of the log
 unfoldable pub walkable : ℕ → List ℕ → ℕ → Bool
 walkable zero log r = true
-walkable (suc n) log r = let rest = walkable n log (nextTransaction log r) in within 1 512 r && rest
+walkable (suc n) log r = let rest = walkable n log (nextTransaction log r) in within 1 recordCount r && rest
 
 -- what an accepted read goes by: the session's number, its studio, and what that has applied
 abbrev pub dueOf : Control → List ℕ → ℕ → Due

@@ -5,6 +5,7 @@ ghost use Rattle.carts.specs.Bytes.{every};
 ghost use lib.Dec.{leb};
 ghost use lib.ListN.{length};
 ghost use Rattle.replication.specs.Memory.{recordCount, sessionCount, studioCount, studioOf, nth};
+ghost use Rattle.replication.specs.Log.{firstRecord};
 ghost use Rattle.replication.specs.Layout.{countsForm};
 ghost use Rattle.replication.specs.Calls.{controlOf, committed, withSent, withApplied};
 
@@ -52,6 +53,16 @@ impl Control {
     {
         let j = session as usize - 1;
         self.session_studios[j]
+    }
+
+    // The first record of the first transaction; 0 where there is none.
+    pub fn first_record(self) -> u32
+        ensures { λ r. ⌜ r ≡ firstRecord self ⌝ }
+    {
+        if self.commits == 0 {
+            return 0;
+        }
+        1
     }
 
     // Each session's studio is one of the system's, or 0.

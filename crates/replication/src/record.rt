@@ -3,7 +3,7 @@ use carts::bytes;
 ghost use mathlib.Core.Path.{_≡_};
 ghost use Prim.Native.Nat.{ℕ, _+_, _*_, _-_, _<_, _≤_};
 ghost use lib.ListN.{length};
-ghost use Rattle.replication.specs.Memory.{recordAt};
+ghost use Rattle.replication.specs.Memory.{recordSize, recordCount, logSize, recordAt};
 ghost use Rattle.replication.specs.Log.{nextOperation, nextTransaction};
 ghost use Rattle.replication.specs.Values.{linksOf};
 
@@ -20,23 +20,33 @@ impl Record {
 
     pub const LOG_SIZE: usize = 40960;
 
+    // The places of the two links.
+    pub const NEXT_OPERATION: usize = 12;
+
+    pub const NEXT_TRANSACTION: usize = 14;
+
+    // The operations of a transaction, at most; one more, so that a longer one shows.
+    pub const MOST: u32 = 8;
+
+    pub const TOO_MANY: u32 = 9;
+
     // The links of record r.
     pub fn at(log: &[u8], r: u32) -> Record
-        requires { ⌜ (length (now log) ≡ 40960) × ((1 ≤ r) × (r ≤ 512)) ⌝ }
+        requires { ⌜ (length (now log) ≡ logSize) × ((1 ≤ r) × (r ≤ recordCount)) ⌝ }
         ensures { λ v. ⌜ (v ≡ linksOf (now (log .entry)) r) × ((v .«next_operation» < 65536) × (v .«next_transaction» < 65536)) ⌝ }
     {
         let bytes = record_at(log, r);
         Record {
-            next_operation: bytes::u16_at(bytes, 12),
-            next_transaction: bytes::u16_at(bytes, 14),
+            next_operation: bytes::u16_at(bytes, Record::NEXT_OPERATION),
+            next_transaction: bytes::u16_at(bytes, Record::NEXT_TRANSACTION),
         }
     }
 }
 
-// The 80 bytes of record r.
+// The bytes of record r.
 pub fn record_at(log: &[u8], r: u32) -> &[u8]
-    requires { ⌜ (length (now log) ≡ 40960) × ((1 ≤ r) × (r ≤ 512)) ⌝ }
-    ensures { λ v. ⌜ (now v ≡ recordAt (now (log .entry)) r) × (length (now v) ≡ 80) ⌝ }
+    requires { ⌜ (length (now log) ≡ logSize) × ((1 ≤ r) × (r ≤ recordCount)) ⌝ }
+    ensures { λ v. ⌜ (now v ≡ recordAt (now (log .entry)) r) × (length (now v) ≡ recordSize) ⌝ }
 {
     let start = Record::SIZE * (r as usize - 1);
     &log[start..start + Record::SIZE]

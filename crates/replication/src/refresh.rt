@@ -53,7 +53,7 @@ pub fn refresh(
         };
     }
     let applied = control.applied_by(studio);
-    let first = walk::walk_far(log, applied, 1);
+    let first = walk::transaction_after(control, log, applied);
     let start = Cart::COPY_SIZE * (studio as usize);
     let end = start + Cart::COPY_SIZE;
     transaction::apply_transaction(&mut library[start..end], log, first);

@@ -7,17 +7,19 @@ ghost use mathlib.Core.Bool.{true};
 ghost use Prim.Native.Nat.{ℕ, _+_, _*_, _-_, _<_, _≤_};
 ghost use lib.ListN.{length};
 ghost use Rattle.carts.specs.Bytes.{every};
+ghost use Rattle.carts.specs.Cart.{copySize};
 ghost use Rattle.carts.specs.Operation.{actAll};
+ghost use Rattle.replication.specs.Memory.{logSize};
 ghost use Rattle.replication.specs.Log.{recordsOf, transactionAt};
 ghost use Rattle.replication.specs.Values.{usable};
 
 // The operations of the transaction whose first record is `first`, one after the other along the chain.
 pub fn apply_transaction(copy: &mut [u8], log: &[u8], first: u32)
-    requires { ⌜ (length (now copy) ≡ 10240) × ((length (now log) ≡ 40960) × (every (usable (now log)) (recordsOf (now log) first) ≡ true)) ⌝ }
+    requires { ⌜ (length (now copy) ≡ copySize) × ((length (now log) ≡ logSize) × (every (usable (now log)) (recordsOf (now log) first) ≡ true)) ⌝ }
     ensures { λ _. ⌜ now (copy .exit) ≡ actAll (now (copy .entry)) (transactionAt (now (log .entry)) first) ⌝ }
 {
     let mut r = first;
-    let mut left: u32 = 9;
+    let mut left = Record::TOO_MANY;
     while 0 < left {
         if r == 0 {
             return;

@@ -1,6 +1,7 @@
 use mathlib.Core.Path.{_≡_, _∙_}
 use native.Mathlib.Omega.{arith}
-use Rattle.replication.proofs.AppendLaws.{last-walkable, append-first, append-later}
+use Rattle.replication.proofs.WalkLaws.{last-walkable}
+use Rattle.replication.proofs.AppendLaws.{append-first, append-later}
 use borrow.Author.Needs.{needs}
 use Rattle.replication.proofs.append.append_transaction.Statement.{statement}
 use Rattle.replication.proofs.append.append_transaction.Tie as tie
@@ -22,12 +23,12 @@ returns c = let u = c .before .before in
 later : (c : tie.Else1) → c .before .before .before .before .before .args .control .commits ≡ 0 → ⊥
 later c e = omega (arith, c .if1 .left)
 
-sub-walk-far : tie.Need-sub-walk-far
-sub-walk-far c = search needs
+sub-transaction-after : tie.Need-sub-transaction-after
+sub-transaction-after c = search needs
 
-walk-far-requires : tie.Need-walk-far-requires
-walk-far-requires c κs = let s = c .before .before .before .before .before .before .before in
-    (s .pre .0 .0, last-walkable (s .args .control) _ (later (c .before .before)) (s .pre .1) .0)
+transaction-after-requires : tie.Need-transaction-after-requires
+transaction-after-requires c κs = let s = c .before .before .before .before .before .before .before in
+    (s .pre .0 .0, last-walkable (s .args .control .commits) _ _ (later (c .before .before)) (s .pre .1) .0)
 
 write-all-requires-2 : tie.Need-write-all-requires-2
 write-all-requires-2 c κs = search needs
@@ -36,8 +37,8 @@ put-requires : tie.Need-put-requires
 put-requires c κs = let w = c .before .before .before in
     let a = w .before .before in
     let s = a .before .before .before .before .before .before .before .before in
-    let k = last-walkable (s .args .control) _ (later (a .before .before .before)) (s .pre .1) .1 in
-    let e = a .walk-far .ensures in
+    let k = last-walkable (s .args .control .commits) _ _ (later (a .before .before .before)) (s .pre .1) .1 in
+    let e = a .transaction-after .ensures in
     ((rw e (k .0), omega (arith, k .1, w .write-all2 .kept .0)), (omega arith, omega arith))
 
 same-length-2 : tie.Need-same-length-2
@@ -48,7 +49,7 @@ returns-2 c = let l = c .before .before in
     let w = l .before .before .before .before in
     let a = w .before .before in
     let s = a .before .before .before .before .before .before .before .before in
-    append-later (s .args .control) _ _ (later (a .before .before .before)) (s .pre .0 .1 .0) _ (a .walk-far .ensures) _ (w .write-all2 .ensures) _ (l .put .ensures)
+    append-later (s .args .control) _ _ (later (a .before .before .before)) (s .pre .0 .1 .0) _ (a .transaction-after .ensures) _ (w .write-all2 .ensures) _ (l .put .ensures)
 
 pub append-transaction-spec : {M : Type 1} → statement M
 append-transaction-spec =
@@ -58,8 +59,8 @@ append-transaction-spec =
     write-all-requires
     same-length
     returns
-    sub-walk-far
-    walk-far-requires
+    sub-transaction-after
+    transaction-after-requires
     write-all-requires-2
     put-requires
     same-length-2

@@ -23,8 +23,8 @@ known c = refresh-known _ _ _ _ (c .before .decide-refresh .ensures) (c .if1 .le
 applied-by-requires : tie.Need-applied-by-requires
 applied-by-requires c κs = let k = known c in (k .low, k .high)
 
-walk-far-requires : tie.Need-walk-far-requires
-walk-far-requires c κs = let k = known (c .before) in (k .log, rw (c .applied-by .ensures) (k .walks))
+transaction-after-requires : tie.Need-transaction-after-requires
+transaction-after-requires c κs = let k = known (c .before) in (k .log, rw (c .applied-by .ensures) (k .walks))
 
 mul-start : tie.Need-mul-start
 mul-start c = search needs
@@ -45,7 +45,7 @@ apply-transaction-requires : tie.Need-apply-transaction-requires
 apply-transaction-requires c κs = let w = c .before in
     let k = known (w .before .before) in
     let g = c .before .before .before .before .before .before .before .before .before .args in
-    (length-lent 10240 (g .studio) (g .library .now) (omega (arith, k .library, k .high)), (k .log, rw (w .walk-far .ensures, w .before .applied-by .ensures) (k .acts)))
+    (length-lent 10240 (g .studio) (g .library .now) (omega (arith, k .library, k .high)), (k .log, rw (w .transaction-after .ensures, w .before .applied-by .ensures) (k .acts)))
 
 add-n : tie.Need-add-n
 add-n c = let k = known (c .before .before .before .before .before .before) in omega (arith, k .few, c .before .before .before .before .before .applied-by .ensures)
@@ -63,7 +63,7 @@ returns-2 c = let t = c .before .before .before in
     let e = a .before in
     let g = c .before .before .before .before .before .before .before .before .before .before .before .before .before .args in
     refresh-accepted _ _ _ _ (e .before .decide-refresh .ensures) (e .if1 .left) _ (ap (λ (n : ℕ). n + 1) (a .applied-by .ensures)) _ (c .with-applied .ensures) _
-    (library-after (g .library .now) (g .log .now) (g .studio) _ _ _ _ (t .apply-transaction .ensures) (w .walk-far .ensures) (a .applied-by .ensures))
+    (library-after (g .library .now) (g .log .now) (g .studio) _ _ _ _ _ (t .apply-transaction .ensures) (w .transaction-after .ensures) (a .applied-by .ensures))
 
 pub refresh-spec : {M : Type 1} → statement M
 refresh-spec =
@@ -73,7 +73,7 @@ refresh-spec =
     same-length
     returns
     applied-by-requires
-    walk-far-requires
+    transaction-after-requires
     mul-start
     add-end
     sub-apply-transaction

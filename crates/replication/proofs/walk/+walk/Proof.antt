@@ -12,14 +12,14 @@ use Rattle.replication.proofs.record.Record.at.Reads as at-reads
 use Rattle.replication.proofs.walk.+walk.{statement}
 use Rattle.replication.proofs.walk.+walk.Tie.{close}
 
-abbrev μ-walk : Measures 1 walk-kinds.ps ℕ
+abbrev μ-walk : Measures 2 walk-kinds.ps ℕ
 μ-walk κs a = a .1 .0
 
-abbrev walk-at : ℕ → In 1 walk-kinds.ps
-walk-at t = and 1 walk-kinds.ps (is 1 walk-kinds.ps μ-walk t) walk.Pre
+abbrev walk-at : ℕ → In 2 walk-kinds.ps
+walk-at t = and 2 walk-kinds.ps (is 2 walk-kinds.ps μ-walk t) walk.Pre
 
-abbrev walk-below : ℕ → In 1 walk-kinds.ps
-walk-below t = and 1 walk-kinds.ps (falls 1 walk-kinds.ps _<_ μ-walk t) walk.Pre
+abbrev walk-below : ℕ → In 2 walk-kinds.ps
+walk-below t = and 2 walk-kinds.ps (falls 2 walk-kinds.ps _<_ μ-walk t) walk.Pre
 
 walk-returns : (t : ℕ) → walk-lts.Need-returns (
   at-reads.Asked,
@@ -36,7 +36,7 @@ walk-at-requires : (t : ℕ) → walk-lts.Need-at-requires (
   walk.Post,
 ) (walk-at t) walk.Post
 walk-at-requires t c κs = let s = c .before .before in
-    (s .pre .1 .0, walk-here _ _ _ (c .if1 .left) (s .pre .1 .1))
+    (s .pre .1 .0, walk-here _ _ _ (c .before .if1 .left) (s .pre .1 .1))
 
 walk-sub-walk : (t : ℕ) → walk-lts.Need-sub-walk (
   at-reads.Asked,
@@ -44,7 +44,7 @@ walk-sub-walk : (t : ℕ) → walk-lts.Need-sub-walk (
   walk-below t,
   walk.Post,
 ) (walk-at t) walk.Post
-walk-sub-walk t c = some (c .before .before .before .args .left) (c .before .if1 .left)
+walk-sub-walk t c = some (c .before .before .before .args .left) (c .before .before .if1 .left)
 
 walk-walk-requires : (t : ℕ) → walk-lts.Need-walk-requires (
   at-reads.Asked,
@@ -53,7 +53,7 @@ walk-walk-requires : (t : ℕ) → walk-lts.Need-walk-requires (
   walk.Post,
 ) (walk-at t) walk.Post
 walk-walk-requires t c κs = let s = c .before .before .before in
-    let n = c .before .if1 .left in
+    let n = c .before .before .if1 .left in
     let h : 1 ≤ s .args .left = some (s .args .left) n in
     (omega (arith, s .pre .0), (s .pre .1 .0, walk-later _ _ _ n (s .pre .1 .1) (c .at .result) (c .at .ensures .0)))
 
@@ -64,7 +64,7 @@ walk-returns-2 : (t : ℕ) → walk-lts.Need-returns-2 (
   walk.Post,
 ) (walk-at t) walk.Post
 walk-returns-2 t c = let a = c .before in
-    c .walk .ensures ∙ walk-on _ _ _ (a .before .if1 .left) (a .at .result) (a .at .ensures .0)
+    c .walk .ensures ∙ walk-on _ _ _ (a .before .before .if1 .left) (a .at .result) (a .at .ensures .0)
 
 pub +walk-spec : {M : Type 1} → statement M
 +walk-spec = close μ-walk λ t. walk-lts.spec (
