@@ -1,27 +1,24 @@
 -- Commit: it keeps the layout, and does what the plain machine's commit does.
 use mathlib.Core.Path.{_≡_, refl, sym, ap, _∙_, subst}
 use mathlib.Core.Logic.{_≢_}
-use mathlib.Core.Bool.{true, false, cond}
+use mathlib.Core.Bool.{true}
 use mathlib.Core.List.{List, [], _∷_, _++_}
 use Prim.Native.Nat.{ℕ, _+_, _*_, _-_, _≤_, _<_, _/_}
 use native.Mathlib.Omega.{arith}
-use native.Mathlib.Numerals.{add-one}
 use native.Mathlib.Decide.{ℕ-discrete}
-use borrow.Author.Tests.{eq-eqb, ne-eqb}
+use borrow.Author.Tests.{eq-eqb}
 use lib.Dec.{eqb}
-use lib.ListN.{length, drop, getD, set, length-set}
-use lib.Seq.{drop-drop}
+use lib.ListN.{length, getD, set, length-set}
 use Rattle.carts.specs.Bytes.{part, all, every, allZero}
 use Rattle.carts.specs.Operation.{operationFields, operationForm, operationsOf, actAll}
 use Rattle.carts.specs.Transaction.{Transaction, L, recordsUsed}
 use Rattle.carts.proofs.TestLaws.{all-at, every-at, at-every}
 use Rattle.carts.proofs.PartLaws.{length-part}
 use Rattle.carts.proofs.EachLaws.{length-parts, parts-at}
-use Rattle.carts.proofs.ZeroLaws.{zero-drop}
 use Rattle.carts.proofs.OperationLaws.{Operations}
 use Rattle.carts.proofs.KeepLaws.{Copy, actAll-copy}
 use Rattle.replication.specs.Memory.{Memory, copyAt, withCopy, sessionAt, withSession, withSequence, nth, studioOf}
-use Rattle.replication.specs.Log.{firstRecord, chainForm, appended}
+use Rattle.replication.specs.Log.{firstRecord, appended}
 use Rattle.replication.specs.Request.{requestOf}
 use Rattle.replication.specs.Layout.{replicaForm}
 use Rattle.replication.specs.Rows.{Row, stopped, sizeForm, commitRows, commitStop}
@@ -31,6 +28,8 @@ use Rattle.replication.specs.declared.control.Control.{Control}
 use Rattle.replication.proofs.CopyLaws.{length-copyAt, length-withCopy, copy-same, copy-other}
 use Rattle.replication.proofs.AppendLaws.{length-operations}
 use Rattle.replication.proofs.CommitLaws.{size-few}
+use Rattle.replication.proofs.WriteLaws.{Givens}
+use Rattle.replication.proofs.Placement.{log-used, committed-log, committed-transactions}
 use Rattle.replication.proofs.Formed.{Formed, applied-known, counts-more, studio-copy, copy-in-use}
 use Rattle.replication.proofs.RowLaws.{memory-passes, unless-case, unless-both}
 use Rattle.replication.proofs.DecideLaws.{KnownSession}
@@ -38,9 +37,7 @@ use Rattle.replication.proofs.Accepted.{commit-passed}
 use Rattle.machine.specs.Machine as Plain
 use Rattle.machine.specs.Machine.{Session, session}
 use Rattle.machine.proofs.Libraries.{L-before, L-after}
-use Rattle.refinement.specs.Represents.{OfLayout, transactionsFrom, Represents, Simulates}
-use Rattle.refinement.proofs.Append.{Givens}
-use Rattle.refinement.proofs.Grown.{Grown, grown}
+use Rattle.refinement.specs.Represents.{OfLayout, Represents, Simulates}
 use Rattle.refinement.proofs.Transactions.{records-used}
 use Rattle.refinement.proofs.Represented.{machineOf, log-length}
 use Rattle.refinement.proofs.Sessions.{SessionBytes, session-more, own-bytes, length-sessions, sessions-form, sessions-shown, session-of}
@@ -80,9 +77,6 @@ left c m s ops = record {
 -- a commit that no row stops
 module _ (c : Control) (m : Memory) (s : ℕ) (ops : List (List ℕ)) (a : Arrays c) (f : Formed c m) (w : KnownSession s (studioOf c s)) (g : Givens ops)
     (k1 : 1 ≤ length ops) (k8 : length ops ≤ 8) (room : c .used + length ops ≤ 512) where
-  log-grown : Grown (c .commits) (c .used) (firstRecord c) (m .log) (appended c (m .log) ops) ops
-  log-grown = grown c (m .log) ops (f .log .size) g k1 k8 room (f .log .records) (f .log .chain)
-
   primary : Copy (actAll (copyAt (m .library) 0) ops)
   primary =
       actAll-copy _ ops
@@ -106,14 +100,14 @@ module _ (c : Control) (m : Memory) (s : ℕ) (ops : List (List ℕ)) (a : Array
   commit-arrays = record { sessionStudios = a .sessionStudios; sent = a .sent; applied = a .applied }
 
   commit-formed : Formed (committed c (length ops)) (left c m s ops)
-  unfolding committed firstRecord studioOf
+  unfolding committed studioOf
   commit-formed = record {
     control = f .control;
     library = record {
       size = length-withCopy (m .library) (f .library .size) 0 (omega arith) _ (primary .size);
       copies = λ j l. copies j l (ℕ-discrete j 0);
     };
-    log = record { size = log-grown .size; used = room; records = log-grown .records; free = free; chain = chain };
+    log = committed-log c m f ops g k1 k8 room;
     sessions = record {
       size = length-sessions c (m .sessions) (f .sessions .size) s w _ _ own;
       forms = sessions-form (committed c (length ops)) (m .sessions) (f .sessions .size) s w _ _ own (omega arith)
@@ -126,27 +120,15 @@ module _ (c : Control) (m : Memory) (s : ℕ) (ops : List (List ℕ)) (a : Array
       copies j l (yes e) = rw (e, same-copy) (studio-copy (c .studios) 0 _ (omega arith) (primary .form))
       copies j l (no ne) = rw (other-copy j ne) (f .library .copies j l)
 
-      free : allZero (drop (80 * (c .used + length ops)) (appended c (m .log) ops)) ≡ true
-      free =
-          let d : 80 * c .used + 80 * length ops ≡ 80 * (c .used + length ops) = omega arith in
-          ap allZero (log-grown .past ∙ sym (drop-drop (80 * length ops) (80 * c .used) (m .log) ∙ ap (λ (z : ℕ). drop z (m .log)) d))
-          ∙ zero-drop (80 * length ops) (drop (80 * c .used) (m .log)) (f .log .free)
-
-      chain : chainForm (c .commits + 1) (appended c (m .log) ops) (cond (eqb (c .commits + 1) 0) 0 1) 1 (c .used + length ops + 1) ≡ true
-      chain =
-          let nz : eqb (c .commits + 1) 0 ≡ false = ne-eqb (c .commits + 1) 0 (omega arith) in
-          let u : c .used + length ops + 1 ≡ c .used + 1 + length ops = omega arith in
-          rw (nz, u, add-one (c .commits)) (log-grown .form)
-
   -- the head end's copy has reached one transaction more, and the replicas stand for what they stood for
   commit-represents : (log : List Transaction) (sessions : List Session) → Represents c m (machineOf c log sessions)
       → Represents (committed c (length ops)) (left c m s ops)
       (machineOf c (log ++ (ops ∷ [])) (set sessions (s - 1) (session (studioOf c s) (c .commits + 1) (requestOf (sessionAt (m .sessions) s)))))
-  unfolding committed firstRecord studioOf
+  unfolding committed studioOf
   commit-represents log sessions h = record {
     form = of-layout _ _ commit-arrays commit-formed;
     studios = refl;
-    log = grown-log;
+    log = ap (λ (z : List Transaction). z ++ (ops ∷ [])) (h .log) ∙ sym (committed-transactions c m f ops g k1 k8 room);
     sent = refl;
     applied = refl;
     count = length-set sessions (s - 1) _ ∙ h .count;
@@ -158,11 +140,6 @@ module _ (c : Control) (m : Memory) (s : ℕ) (ops : List (List ℕ)) (a : Array
     where
       n : length log ≡ c .commits
       n = log-length c m _ h
-
-      grown-log : log ++ (ops ∷ []) ≡ transactionsFrom (c .commits + 1) (appended c (m .log) ops) (cond (eqb (c .commits + 1) 0) 0 1)
-      grown-log =
-          let nz : eqb (c .commits + 1) 0 ≡ false = ne-eqb (c .commits + 1) 0 (omega arith) in
-          rw (nz, add-one (c .commits)) (ap (λ (z : List Transaction). z ++ (ops ∷ [])) (h .log) ∙ sym (log-grown .shown))
 
       level : actAll (L log (c .commits)) ops ≡ L (log ++ (ops ∷ [])) (c .commits + 1)
       level = subst (λ k. actAll (L log k) ops ≡ L (log ++ (ops ∷ [])) (k + 1)) n (sym (L-after log ops))
@@ -199,6 +176,4 @@ module _ (c : Control) (m : Memory) (s : ℕ) (bytes : List ℕ) where
       }))
     where
       used : recordsUsed log ≡ c .used
-      used =
-          let e = records-used (c .commits) (m .log) (firstRecord c) 1 (c .used + 1) (formed c m (h .form) .log .chain) in
-          ap recordsUsed (h .log) ∙ omega arith
+      used = ap recordsUsed (h .log) ∙ records-used (c .commits) (m .log) (firstRecord c) ∙ log-used c m (formed c m (h .form))

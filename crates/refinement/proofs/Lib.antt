@@ -2,10 +2,6 @@
 pub mod Arrays
 -- the log
 pub mod Transactions
-pub mod Links
-pub mod Append
-pub mod Grow
-pub mod Grown
 -- the calls, one by one
 pub mod Represented
 pub mod Sessions

@@ -13,22 +13,22 @@ use Rattle.carts.specs.Transaction.{Transaction, L}
 use Rattle.carts.proofs.OperationLaws.{Operations}
 use Rattle.carts.proofs.KeepLaws.{Copy, actAll-copy}
 use Rattle.replication.specs.Memory.{Memory, copyAt, withCopy, nth, studioOf}
-use Rattle.replication.specs.Log.{firstRecord, transactionAt, walk}
+use Rattle.replication.specs.Log.{firstRecord, transactionAt, handedIn, transactionsFrom, walk}
 use Rattle.replication.specs.Layout.{replicaForm, sessionForm, countsForm}
 use Rattle.replication.specs.Rows.{Row, stopped, refreshRows, refreshStop}
 use Rattle.replication.specs.Calls as Bytes
 use Rattle.replication.specs.Calls.{After, withApplied, withLibrary, transactionAfter}
 use Rattle.replication.specs.declared.control.Control.{Control}
 use Rattle.replication.proofs.CopyLaws.{length-copyAt, length-withCopy, copy-same, copy-other}
-use Rattle.replication.proofs.Chains.{placed, placed-operations}
+use Rattle.replication.proofs.Placement.{transaction-operations}
 use Rattle.replication.proofs.Formed.{Formed, Counts, counts-of, of-counts, few, studio-copy, copy-in-use}
 use Rattle.replication.proofs.RowLaws.{memory-passes, unless-case, unless-both}
 use Rattle.replication.proofs.Accepted.{RefreshAccepted, refresh-passed}
+use Rattle.replication.proofs.TransactionLaws.{length-transactions, transactions-at, handed-actAll}
 use Rattle.machine.specs.Machine as Plain
 use Rattle.machine.specs.Machine.{Session}
 use Rattle.machine.proofs.Libraries.{L-next}
-use Rattle.refinement.specs.Represents.{OfLayout, handedIn, transactionsFrom, Represents, Simulates}
-use Rattle.refinement.proofs.Transactions.{length-transactions, transactions-at, handed-actAll}
+use Rattle.refinement.specs.Represents.{OfLayout, Represents, Simulates}
 use Rattle.refinement.proofs.Represented.{machineOf}
 use Rattle.refinement.proofs.Arrays.{Arrays, arrays, formed, of-layout}
 
@@ -56,9 +56,7 @@ module _ (c : Control) (m : Memory) (i : ℕ) where
 
     operations : Operations (transactionAfter c (m .log) (nth (c .applied) i))
     unfolding transactionAfter
-    operations =
-        placed-operations (m .log) (c .used) _ (f .log .size) (f .log .used) (f .log .records)
-        (placed (c .commits) (m .log) (firstRecord c) 1 (c .used + 1) (f .log .chain) _ ready)
+    operations = transaction-operations c m f _ ready
 
     copy : Copy (refreshedCopy c m i)
     copy =

@@ -5,10 +5,10 @@ use lib.ListN.{length}
 use Rattle.carts.specs.Transaction.{Transaction}
 use Rattle.replication.specs.Memory.{Memory}
 use Rattle.replication.specs.Log.{firstRecord}
+use Rattle.replication.proofs.TransactionLaws.{length-transactions}
 use Rattle.replication.specs.declared.control.Control.{Control}
 use Rattle.machine.specs.Machine.{Session, Machine, machine, commits}
 use Rattle.refinement.specs.Represents.{Represents}
-use Rattle.refinement.proofs.Transactions.{length-transactions}
 
 abbrev pub machineOf : Control → List Transaction → List Session → Machine
 machineOf c log sessions = machine (c .studios) log (c .sent) (c .applied) sessions

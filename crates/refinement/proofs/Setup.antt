@@ -13,7 +13,7 @@ use Rattle.carts.proofs.ZeroLaws.{length-zeros, zero-zeros, part-zeros, zeros-a
 use Rattle.carts.proofs.KeepLaws.{copy-empty}
 use Rattle.replication.specs.Answer.{done}
 use Rattle.replication.specs.Memory.{Memory, lengthsForm, copyAt, sessionAt, sequenceOf, studioOf}
-use Rattle.replication.specs.Log.{firstRecord, freshLog}
+use Rattle.replication.specs.Log.{transactionsFrom, logRecords, transactionsForm, firstRecord, upFrom, freshLog}
 use Rattle.replication.specs.Request.{nothing, requestOf}
 use Rattle.replication.specs.Layout.{replicaForm, sessionForm, countsForm}
 use Rattle.replication.specs.Rows.{stopped, lengthsRow, setupRows, setupStop}
@@ -23,10 +23,9 @@ use Rattle.replication.specs.declared.control.Control.{Control}
 use Rattle.replication.proofs.Formed.{Formed}
 use Rattle.replication.proofs.RowLaws.{row-passes, unless-case, unless-both}
 use Rattle.replication.proofs.Accepted.{setup-passed}
-use Rattle.replication.proofs.Chains.{end-chain}
 use Rattle.machine.specs.Machine as Plain
 use Rattle.machine.specs.Machine.{Step, session, fresh}
-use Rattle.refinement.specs.Represents.{transactionsFrom, Represents, Simulates}
+use Rattle.refinement.specs.Represents.{Represents, Simulates}
 use Rattle.refinement.proofs.Transactions.{L-nil}
 use Rattle.refinement.proofs.Sessions.{empty-bytes, empty-request}
 use Rattle.refinement.proofs.Arrays.{Arrays, of-layout}
@@ -74,7 +73,7 @@ module _ (studios : ℕ) (bytes : List ℕ) (few : within 1 4 studios ≡ true) 
   fresh-arrays = record { sessionStudios = n; sent = length-zeros 4; applied = length-zeros 4 }
 
   fresh-formed : Formed (controlOf studios bytes) freshMemory
-  unfolding controlOf freshMemory freshLog firstRecord
+  unfolding controlOf freshMemory freshLog firstRecord transactionsForm logRecords upFrom
   fresh-formed = record {
     control = record { studios = few; places = places };
     library = record { size = length-zeros 51200; copies = copies };
@@ -83,7 +82,8 @@ module _ (studios : ℕ) (bytes : List ℕ) (few : within 1 4 studios ≡ true) 
       used = omega arith;
       records = λ r a b. let z : ⊥ = omega arith in absurd z;
       free = zero-drop (80 * 0) (zeros 40960) (zero-zeros 40960);
-      chain = end-chain (zeros 40960) 0 1 refl;
+      form = refl;
+      upward = refl;
     };
     sessions = record { size = length-zeros 1280; forms = λ s a b. ap (sessionForm _ s) (zeros-sessionAt s a b) ∙ zeros-session _ s };
     counts = λ i a b. zeros-counts studios bytes i;

@@ -1,13 +1,11 @@
 -- What control and memory stand for: a state of document 01's plain machine.
 use mathlib.Core.Path.{_≡_}
 use mathlib.Core.Bool.{true}
-use mathlib.Core.List.{List, [], _∷_, map}
-use Prim.Native.Nat.{ℕ, zero, suc, _≤_}
+use Prim.Native.Nat.{ℕ, _≤_}
 use lib.ListN.{length}
-use Rattle.carts.specs.Bytes.{zeros, over}
-use Rattle.carts.specs.Transaction.{Transaction, L}
+use Rattle.carts.specs.Transaction.{L}
 use Rattle.replication.specs.Memory.{Memory, sessionCount, studioCount, lengthsForm, copyAt, sessionAt, sequenceOf, nth, studioOf}
-use Rattle.replication.specs.Log.{nextTransaction, transactionAt, firstRecord}
+use Rattle.replication.specs.Log.{firstRecord, transactionsFrom}
 use Rattle.replication.specs.Request.{requestOf}
 use Rattle.replication.specs.Layout.{ofLayout}
 use Rattle.replication.specs.Calls.{After}
@@ -22,15 +20,6 @@ pub record OfLayout (c : Control) (m : Memory) : Type 0 where
   pub applied : length (c .applied) ≡ studioCount
   pub lengths : lengthsForm m ≡ true
   pub layout : ofLayout c m ≡ true
-
--- a record's operation as it was handed in: its links, bytes 12–15, are zero again
-unfoldable pub handedIn : List ℕ → List ℕ
-handedIn x = over x 12 4 (zeros 4)
-
--- n transactions of the log along its chains, from the one whose first record is r
-unfoldable pub transactionsFrom : ℕ → List ℕ → ℕ → List Transaction
-transactionsFrom zero log r = []
-transactionsFrom (suc n) log r = map handedIn (transactionAt log r) ∷ transactionsFrom n log (nextTransaction log r)
 
 -- the bytes of control c and memory m stand for the plain machine's state M
 pub record Represents (c : Control) (m : Memory) (M : Machine) : Type 0 where
