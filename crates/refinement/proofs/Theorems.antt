@@ -17,7 +17,8 @@ use Rattle.machine.specs.Machine.{Machine, libraryOf}
 use Rattle.machine.specs.OneCopy.{history, plainHistory, Demand3}
 use Rattle.machine.proofs.OneCopyOrder.{one-copy}
 use Rattle.machine.proofs.Table.{start, started, morning, Table, table}
-use Rattle.refinement.specs.Represents.{OfLayout, transactionsFrom, Represents, Simulates}
+use Rattle.replication.specs.Log.{transactionsFrom}
+use Rattle.refinement.specs.Represents.{OfLayout, Represents, Simulates}
 use Rattle.refinement.proofs.Represented.{log-length}
 use Rattle.refinement.proofs.Setup as Setup
 use Rattle.refinement.proofs.Simulation as Simulation

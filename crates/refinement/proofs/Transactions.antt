@@ -1,7 +1,7 @@
 -- The records that the log's transactions take, and the library that no transaction makes.
-use mathlib.Core.Path.{_≡_, refl, sym, ap, _∙_}
-use mathlib.Core.List.{List, [], _∷_, map}
-use Prim.Native.Nat.{ℕ, zero, suc, _+_}
+use mathlib.Core.Path.{_≡_, refl, sym, ap}
+use mathlib.Core.List.{List, [], map}
+use Prim.Native.Nat.{ℕ, zero, suc}
 use lib.ListN.{length, length-map, length-append}
 use lib.Seq.{take-nil}
 use Rattle.carts.specs.Bytes.{zeros}

@@ -17,7 +17,7 @@ use Rattle.replication.specs.Log.{nextOperation, nextTransaction, chain,
 use Rattle.replication.proofs.Occurrences.{count, Distinct, count-here, count-more, count-drop, count-front, count-append, every-of, every-in, every-both, every-first, every-last}
 use Rattle.replication.proofs.Chains.{chain-same, Chained, chained, of-chained, begins-count, last-in}
 use Rattle.replication.proofs.LinkLaws.{followedBy, length-followed, followed-next, followed-last, followed-fields, followed-handed}
-use Rattle.replication.proofs.WriteLaws.{length-record, length-written, record-same, record-other, records-past, Givens, Written, written-kept, Wrote, wrote, New, new-of}
+use Rattle.replication.proofs.WriteLaws.{length-record, length-written, record-same, record-other, records-past, Givens, Written, written-kept, Wrote, wrote, new-of}
 
 -- a record that was in use: only the link of the last transaction's first record differs
 record Kept (log log′ : List ℕ) (last q : ℕ) : Type 0 where

@@ -7,7 +7,7 @@ use mathlib.Core.List.{List, [], _∷_, map}
 use native.Mathlib.Omega.{arith}
 use lib.ListN.{length, drop, getD}
 use lib.Dec.{leb, eqb}
-use borrow.Author.Tests.{eq-eqb, leb-true}
+use borrow.Author.Tests.{leb-true}
 use Rattle.carts.specs.Bytes.{part, within, every, allZero}
 use Rattle.carts.specs.Operation.{operationFields}
 use Rattle.carts.proofs.TestLaws.{and-left, and-right, within-low, within-high}

@@ -1,4 +1,3 @@
-use mathlib.Core.Path.{sym}
 use Rattle.replication.specs.Log.{firstRecord}
 use borrow.Author.Tests.{eq-eqb, ne-eqb}
 use Rattle.replication.proofs.control.Control.first_record.Statement.{statement}
