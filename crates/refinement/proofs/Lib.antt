@@ -10,6 +10,7 @@ pub mod Refresh
 pub mod Read
 pub mod Commit
 pub mod Setup
+pub mod Refused
 -- all calls, and lists of them
 pub mod Simulation
 pub mod Theorems

@@ -2,15 +2,15 @@
 -- any S, any studio bytes and any memory before it. What "stand for" means is the record Represents; "of the layout" is the record OfLayout.
 use mathlib.Core.Path.{_≡_, sym, _∙_, fun-ext, subst₂}
 use mathlib.Core.Bool.{true}
-use mathlib.Core.List.{List, _∷_}
+use mathlib.Core.List.{List, [], _∷_}
 use Prim.Native.Nat.{ℕ, _≤_}
 use Rattle.carts.specs.Bytes.{zeros}
-use Rattle.replication.specs.Answer.{done}
+use Rattle.replication.specs.Answer.{refused, done}
 use Rattle.replication.specs.Memory.{Memory, lengthsForm, copyAt, nth}
 use Rattle.replication.specs.Log.{firstRecord}
 use Rattle.replication.specs.Call.{Call}
 use Rattle.replication.specs.Calls as Bytes
-use Rattle.replication.specs.Calls.{After, setup, afterCalls}
+use Rattle.replication.specs.Calls.{After, after, controlOf, setup, afterCalls}
 use Rattle.replication.specs.declared.control.Control.{Control}
 use Rattle.machine.specs.Machine as Plain
 use Rattle.machine.specs.Machine.{Machine, libraryOf}
@@ -19,8 +19,10 @@ use Rattle.machine.proofs.OneCopyOrder.{one-copy}
 use Rattle.machine.proofs.Table.{start, started, morning, Table, table}
 use Rattle.replication.specs.Log.{transactionsFrom}
 use Rattle.refinement.specs.Represents.{OfLayout, Represents, Simulates}
+use Rattle.refinement.specs.Asked.{lent}
 use Rattle.refinement.proofs.Represented.{log-length}
 use Rattle.refinement.proofs.Setup as Setup
+use Rattle.refinement.proofs.Refused as Refused
 use Rattle.refinement.proofs.Simulation as Simulation
 
 -- LAYOUT. Every call, accepted, waiting or refused, keeps the layout, from any control and memory of it, also where a copy is no L(n); so does every list.
@@ -34,6 +36,16 @@ list-keeps-layout = Simulation.layout-after
 -- what the call leaves of the plain machine.
 pub simulates : (c : Control) (m : Memory) (M : Machine) → Represents c m M → (x : Call) → Simulates (Bytes.call c m x) (Plain.call M x)
 simulates = Simulation.simulates
+
+-- REFUSALS. From any control and memory, also not of the layout, a refused call hands back control as it was passed and leaves every lent byte as it
+-- was. A refused setup hands back the all-zero control.
+pub refused-changes-nothing : (n : ℕ) (c : Control) (m : Memory) (x : Call) → Bytes.call c m x .answer ≡ refused n
+    → Bytes.call c m x ≡ after (refused n) c m (lent x)
+refused-changes-nothing = Refused.call-refused
+
+pub refused-setup : (n : ℕ) (before : Memory) (studios : ℕ) (bytes : List ℕ) → setup before studios bytes .answer ≡ refused n
+    → setup before studios bytes ≡ after (refused n) (controlOf 0 (zeros 16)) before []
+refused-setup = Refused.setup-refused
 
 module _ (before : Memory) (studios : ℕ) (bytes : List ℕ) where
   -- SETUP. Lent memories of the right lengths, setup gives the plain machine's answer.

@@ -1,0 +1,12 @@
+-- What a call is lent for output, and what it asks for.
+use mathlib.Core.List.{List, []}
+use Prim.Native.Nat.{ℕ}
+use Rattle.replication.specs.Call.{Call, commit, send, refresh, read, collect}
+
+-- "Output, lent to read and collect only": [] where none is lent
+unfoldable pub lent : Call → List ℕ
+lent (commit s bytes) = []
+lent (send i) = []
+lent (refresh i) = []
+lent (read s request out) = out
+lent (collect s out) = out
