@@ -1,7 +1,7 @@
 -- Every call, whatever its arguments, keeps the machine sound.
 use Prim.Native.Nat.{ℕ, _-_, _≤_, max}
 use native.Mathlib.Omega.{arith}
-use mathlib.Core.List.{List}
+use mathlib.Core.List.{List, [], _∷_}
 use lib.ListN.{length}
 use Rattle.carts.specs.Operation.{operationsOf}
 use Rattle.carts.specs.Transaction.{recordsUsed}
@@ -13,7 +13,7 @@ use Rattle.replication.specs.Calls.{numberAfter}
 use Rattle.replication.proofs.RowLaws.{unless-case}
 use Rattle.replication.proofs.ShownLaws.{Askable, request-askable}
 use Rattle.replication.proofs.Accepted.{commit-passed, send-passed, refresh-passed, read-passed}
-use Rattle.machine.specs.Machine.{Machine, Step, commits, libraryOf, sessionOf, refusedCommit, commit, send, refresh, answerFrom, block, wait, read, collect, call}
+use Rattle.machine.specs.Machine.{Machine, Step, commits, libraryOf, sessionOf, refusedCommit, commit, send, refresh, answerFrom, block, wait, read, collect, call, afterCalls}
 use Rattle.machine.proofs.Sort.{length-snoc}
 use Rattle.machine.proofs.Cases.{stateFor, block-case}
 use Rattle.machine.proofs.Sound.{Sound, applied-commits, with-session, with-transaction, with-sent, with-applied}
@@ -77,3 +77,8 @@ module _ (m : Machine) (f : Sound m) where
   keeps (Call.refresh i) = keeps-refresh i
   keeps (Call.read s request out) = keeps-read s request out
   keeps (Call.collect s out) = keeps-collect s out
+
+pub after-sound : (H : List Call.Call) (r : Step) → Sound (r .next) → Sound (afterCalls r H .next)
+unfolding Call.run Call.final
+after-sound [] r f = f
+after-sound (x ∷ H) r f = after-sound H (call (r .next) x) (keeps (r .next) f x)

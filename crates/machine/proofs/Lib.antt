@@ -10,6 +10,9 @@ pub mod Libraries
 pub mod Follows
 pub mod Entries
 pub mod OneCopyOrder
+pub mod Grows
+pub mod Shown
+pub mod Titles
 pub mod Places
 pub mod Table
 pub mod NotEmpty

@@ -108,3 +108,6 @@ setup-case P studios bytes accepted go =
     (λ k e a. let z : _≡_ {A = ℕ} 0 1 = cc in absurd (omega arith))
     (λ e a. go (eqb-true _ _ (all-at 1 tests (not-false _ (passed 14 (not (all tests)) [] e .0)))))
     accepted
+
+pub setup-sound : (studios : ℕ) (bytes : List ℕ) → setup studios bytes .answer ≡ done 0 → Sound (setup studios bytes .next)
+setup-sound studios bytes accepted = setup-case (λ (r : Step). Sound (r .next)) studios bytes accepted (fresh-sound studios bytes)

@@ -1,4 +1,5 @@
--- Document 01, "The plain machine", and the single library of "The one-copy order".
+-- Document 01, "The plain machine", the single library of "The one-copy order", and the words of demand 2 about titles.
 pub mod Machine
 pub mod Library
 pub mod OneCopy
+pub mod Titles

@@ -13,4 +13,5 @@ pub mod Setup
 pub mod Refused
 -- all calls, and lists of them
 pub mod Simulation
+pub mod Titles
 pub mod Theorems

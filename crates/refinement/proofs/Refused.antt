@@ -15,7 +15,7 @@ use Rattle.replication.specs.Calls as Bytes
 use Rattle.replication.specs.Calls.{After, refusal, controlOf}
 use Rattle.replication.specs.declared.control.Control.{Control}
 use Rattle.replication.proofs.RowLaws.{unless-case}
-use Rattle.refinement.specs.Asked.{lent}
+use Rattle.refinement.specs.Lent.{lent}
 
 not-done : (n : ℕ) {k : ℕ} → done k ≡ refused n → ⊥
 not-done n e = let z : _≡_ {A = ℕ} 0 1 = cc in omega arith

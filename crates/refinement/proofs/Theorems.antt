@@ -1,13 +1,20 @@
 -- THEOREMS about the calls on bytes, in the words of document 01. H is any list of the five calls. A fresh system is what an accepted setup leaves, for
 -- any S, any studio bytes and any memory before it. What "stand for" means is the record Represents; "of the layout" is the record OfLayout.
 use mathlib.Core.Path.{_≡_, sym, _∙_, fun-ext, subst₂}
-use mathlib.Core.Bool.{true}
-use mathlib.Core.List.{List, [], _∷_}
-use Prim.Native.Nat.{ℕ, _≤_}
-use Rattle.carts.specs.Bytes.{zeros}
-use Rattle.replication.specs.Answer.{refused, done}
-use Rattle.replication.specs.Memory.{Memory, lengthsForm, copyAt, nth}
+use mathlib.Core.Bool.{true, false, not}
+use mathlib.Core.List.{List, [], _∷_, _++_}
+use Prim.Native.Nat.{ℕ, _*_, _≤_, _<_}
+use lib.ListN.{length, getD}
+use Rattle.carts.specs.Bytes.{zeros, part, u16}
+use Rattle.carts.specs.Cart.{cartAt, hasTitle}
+use Rattle.carts.specs.Operation.{operationsOf}
+use Rattle.carts.proofs.TitleKept.{SameTitle}
+use Rattle.replication.specs.Answer.{refused, done, answered}
+use Rattle.replication.specs.Memory.{Memory, lengthsForm, copyAt, sessionAt, nth, studioOf}
 use Rattle.replication.specs.Log.{firstRecord}
+use Rattle.replication.specs.Request.{byNumbers, requestOf, isWaiting}
+use Rattle.replication.specs.Rows.{row, stopped, memoryRows, sessionRow, sizeForm}
+use Rattle.replication.specs.Call as Call
 use Rattle.replication.specs.Call.{Call}
 use Rattle.replication.specs.Calls as Bytes
 use Rattle.replication.specs.Calls.{After, after, controlOf, setup, afterCalls}
@@ -15,15 +22,19 @@ use Rattle.replication.specs.declared.control.Control.{Control}
 use Rattle.machine.specs.Machine as Plain
 use Rattle.machine.specs.Machine.{Machine, libraryOf}
 use Rattle.machine.specs.OneCopy.{history, plainHistory, Demand3}
+use Rattle.machine.specs.Titles.{writesTitle, spares, Writes, asked}
+use Rattle.machine.proofs.Sound.{setup-sound}
+use Rattle.machine.proofs.Kept.{after-sound}
 use Rattle.machine.proofs.OneCopyOrder.{one-copy}
 use Rattle.machine.proofs.Table.{start, started, morning, Table, table}
 use Rattle.replication.specs.Log.{transactionsFrom}
 use Rattle.refinement.specs.Represents.{OfLayout, Represents, Simulates}
-use Rattle.refinement.specs.Asked.{lent}
+use Rattle.refinement.specs.Lent.{lent}
 use Rattle.refinement.proofs.Represented.{log-length}
 use Rattle.refinement.proofs.Setup as Setup
 use Rattle.refinement.proofs.Refused as Refused
 use Rattle.refinement.proofs.Simulation as Simulation
+use Rattle.refinement.proofs.Titles as Titles
 
 -- LAYOUT. Every call, accepted, waiting or refused, keeps the layout, from any control and memory of it, also where a copy is no L(n); so does every list.
 pub keeps-layout : (c : Control) (m : Memory) → OfLayout c m → (x : Call) → OfLayout (Bytes.call c m x .control) (Bytes.call c m x .memory)
@@ -47,6 +58,19 @@ pub refused-setup : (n : ℕ) (before : Memory) (studios : ℕ) (bytes : List �
     → setup before studios bytes ≡ after (refused n) (controlOf 0 (zeros 16)) before []
 refused-setup = Refused.setup-refused
 
+-- TITLES. "A title is kept whole or refused." From any control and memory, an accepted commit whose last operation on a cart is a new or a retitle
+-- leaves that title in the head end's copy: its length and its 64 bytes.
+pub title-kept : (c : Control) (m : Memory) (s : ℕ) (bytes op : List ℕ) (n : ℕ) → Writes bytes op → Bytes.commit c m s bytes .answer ≡ done n
+    → SameTitle op (cartAt (copyAt (Bytes.commit c m s bytes .memory .library) 0) (u16 op 2))
+title-kept = Titles.primary-title
+
+-- A commit that rows 1 to 5 let pass, with a new or a retitle whose title is of another form, is answered 6.
+pub title-refused : (c : Control) (m : Memory) (s : ℕ) (bytes : List ℕ)
+    → stopped (memoryRows c m ++ (sessionRow s (studioOf c s) ∷ row 4 (isWaiting (requestOf (sessionAt (m .sessions) s))) ∷ row 5 (not (sizeForm bytes)) ∷ [])) ≡ 0
+    → (i : ℕ) → i < length (operationsOf bytes) → writesTitle (getD (operationsOf bytes) i []) ≡ true → hasTitle (getD (operationsOf bytes) i []) ≡ false
+    → Bytes.commit c m s bytes .answer ≡ refused 6
+title-refused = Titles.title-refused
+
 module _ (before : Memory) (studios : ℕ) (bytes : List ℕ) where
   -- SETUP. Lent memories of the right lengths, setup gives the plain machine's answer.
   pub setup-answer : lengthsForm before ≡ true → setup before studios bytes .answer ≡ Plain.setup studios bytes .answer
@@ -56,6 +80,9 @@ module _ (before : Memory) (studios : ℕ) (bytes : List ℕ) where
     -- A fresh system stands for what setup leaves of the plain machine.
     pub setup-simulates : Simulates (setup before studios bytes) (Plain.setup studios bytes)
     setup-simulates = Setup.setup-simulates before studios bytes accepted
+
+    plain-accepted : Plain.setup studios bytes .answer ≡ done 0
+    plain-accepted = sym (setup-simulates .answer) ∙ accepted
 
     module _ (H : List Call) where
       -- ANSWERS. Every answer and every output of H from a fresh system is the plain machine's.
@@ -78,11 +105,31 @@ module _ (before : Memory) (studios : ℕ) (bytes : List ℕ) where
       pub commits : Plain.commits (Plain.afterCalls (Plain.setup studios bytes) H .next) ≡ afterCalls (setup before studios bytes) H .control .commits
       commits = log-length _ _ _ (simulates-after .next)
 
+      -- TITLES. After H from a fresh system a commit with number n writes a title, the list goes on, and a read or collect is answered at state k. Each
+      -- place that asks for the cart shows that title, unless one of the transactions n + 1 to k has an operation on the cart.
+      module _ (s : ℕ) (ops op : List ℕ) (n : ℕ) (writes : Writes ops op) (later : List Call) (x : Call) (k found : ℕ) (cs : List ℕ) (i : ℕ) where
+        abbrev committed : After
+        committed = Bytes.callAfter (afterCalls (setup before studios bytes) H) (Call.commit s ops)
+
+        abbrev shown : After
+        shown = Bytes.callAfter (afterCalls committed later) x
+
+        -- the plain machine that the read is a read of
+        abbrev M : Machine
+        M = Plain.afterCalls (Plain.call (Plain.afterCalls (Plain.setup studios bytes) H .next) (Call.commit s ops)) later .next
+
+        pub title-shown : committed .answer ≡ done n → shown .answer ≡ answered k found → n ≤ k
+            → ((j : ℕ) → n ≤ j → j < k → spares (u16 op 2) (getD (M .log) j []) ≡ true)
+            → asked M x ≡ byNumbers cs → i < length cs → getD cs i 0 ≡ u16 op 2
+            → SameTitle op (part (shown .output) (80 * i) 80)
+        title-shown accepted answer u v q g e =
+            Titles.title-shown _ _ simulates-after (after-sound H _ (setup-sound studios bytes plain-accepted)) s ops op n writes accepted later x k found answer u v cs i q g e
+
 -- DEMAND 3. Every list of calls from a fresh system has a one-copy order.
 pub demand3 : Demand3
 demand3 before studios bytes accepted H none =
     rw (answers before studios bytes accepted H)
-    (one-copy studios bytes (sym (setup-simulates before studios bytes accepted .answer) ∙ accepted) H none)
+    (one-copy studios bytes (plain-accepted before studios bytes accepted) H none)
 
 -- TABLE. The twelve cases hold of the calls on bytes, with their outputs, whatever three memories of the right lengths setup is lent: from the plain
 -- machine's table, with no byte computed.

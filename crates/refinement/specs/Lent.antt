@@ -1,4 +1,4 @@
--- What a call is lent for output, and what it asks for.
+-- The output that a call is lent.
 use mathlib.Core.List.{List, []}
 use Prim.Native.Nat.{ℕ}
 use Rattle.replication.specs.Call.{Call, commit, send, refresh, read, collect}

@@ -1,0 +1,37 @@
+-- Demand 2, "A title is kept whole or refused": the operations that write a title, the transactions that leave a cart as it is, and the reads that
+-- show it.
+use mathlib.Core.Path.{_≡_}
+use mathlib.Core.Bool.{Bool, true, _||_, not}
+use mathlib.Core.List.{List, _∷_, _++_}
+use Prim.Native.Nat.{ℕ}
+use lib.Dec.{eqb}
+use Rattle.carts.specs.Bytes.{byte, u16, every}
+use Rattle.carts.specs.Operation.{isNew, isRetitle, operationsOf}
+use Rattle.carts.specs.Transaction.{Transaction}
+use Rattle.replication.specs.Request.{Request, nothing, requestOf}
+use Rattle.replication.specs.Call.{Call, commit, send, refresh, read, collect}
+use Rattle.machine.specs.Machine.{Machine, sessionOf}
+
+-- a new or a retitle
+unfoldable pub writesTitle : List ℕ → Bool
+writesTitle op = isNew (byte op 0) || isRetitle (byte op 0)
+
+-- no operation of the transaction has cart number c
+unfoldable pub spares : ℕ → Transaction → Bool
+spares c t = every (λ op. not (eqb (u16 op 2) c)) t
+
+-- the bytes of a commit whose last operation on its cart is op, a new or a retitle
+pub record Writes (bytes op : List ℕ) : Type 0 where
+  pub before : Transaction
+  pub later : Transaction
+  pub operations : operationsOf bytes ≡ before ++ (op ∷ later)
+  pub last : spares (u16 op 2) later ≡ true
+  pub title : writesTitle op ≡ true
+
+-- what a call asks for: "Read (session, request)"; "Collect (session): .. the stored request"
+unfoldable pub asked : Machine → Call → Request
+asked m (commit s bytes) = nothing
+asked m (send i) = nothing
+asked m (refresh i) = nothing
+asked m (read s request out) = requestOf request
+asked m (collect s out) = sessionOf m s .waiting

@@ -1,0 +1,99 @@
+-- "A title is kept whole or refused", on bytes: in the head end's copy, in the reads that show it, and row 6.
+use mathlib.Core.Path.{_≡_, refl, sym, _∙_}
+use mathlib.Core.Bool.{Bool, true, false, not, false≢true}
+use mathlib.Core.List.{List, [], _∷_, _++_}
+use Prim.Native.Nat.{ℕ, _*_, _≤_, _<_}
+use native.Mathlib.Omega.{arith}
+use lib.ListN.{length, drop, getD}
+use Rattle.carts.specs.Bytes.{part, u16, every, allZero}
+use Rattle.carts.specs.Cart.{cartAt, hasTitle}
+use Rattle.carts.specs.Operation.{operationFields, operationForm, operationsOf}
+use Rattle.carts.proofs.TestLaws.{all-at, every-at}
+use Rattle.carts.proofs.OperationLaws.{operationTests, operations-of, length-actAll}
+use Rattle.carts.proofs.TitleKept.{SameTitle}
+use Rattle.replication.specs.Answer.{refused, done, answered}
+use Rattle.replication.specs.Memory.{Memory, copyAt, sessionAt, studioOf}
+use Rattle.replication.specs.Request.{Request, byNumbers, requestOf, isWaiting}
+use Rattle.replication.specs.Rows.{Row, row, stopped, unless, lengthsRow, memoryRows, sessionRow, sizeForm, commitRows}
+use Rattle.replication.specs.Call as Call
+use Rattle.replication.specs.Call.{Call}
+use Rattle.replication.specs.Calls as Bytes
+use Rattle.replication.specs.Calls.{After}
+use Rattle.replication.specs.declared.control.Control.{Control}
+use Rattle.replication.proofs.CopyLaws.{length-copyAt, copy-same}
+use Rattle.replication.proofs.RowLaws.{numbered, row-stops, passes-on, unless-case, none-stops, memory-numbered, right-memory, lengths-are}
+use Rattle.replication.proofs.Accepted.{commit-passed}
+use Rattle.machine.specs.Machine as Plain
+use Rattle.machine.specs.Machine.{Step}
+use Rattle.machine.specs.Titles.{writesTitle, spares, Writes, asked}
+use Rattle.machine.proofs.Sound.{Sound}
+use Rattle.machine.proofs.Kept.{keeps, after-sound}
+use Rattle.machine.proofs.Grows.{after-grows}
+use Rattle.machine.proofs.Titles as Machine
+use Rattle.machine.proofs.Titles.{title-written, commit-writes}
+use Rattle.refinement.specs.Represents.{Simulates}
+use Rattle.refinement.proofs.Simulation.{simulates, simulates-after}
+
+-- an accepted commit, from any control and memory
+pub primary-title : (c : Control) (m : Memory) (s : ℕ) (bytes op : List ℕ) (n : ℕ) → Writes bytes op → Bytes.commit c m s bytes .answer ≡ done n
+    → SameTitle op (cartAt (copyAt (Bytes.commit c m s bytes .memory .library) 0) (u16 op 2))
+unfolding Bytes.commit Bytes.refusedCommit
+primary-title c m s bytes op n w accepted =
+    unless-case (λ (r : After). r .answer ≡ done n → SameTitle op (cartAt (copyAt (r .memory .library) 0) (u16 op 2))) _ _ _
+    (λ k _ q. let z : _≡_ {A = ℕ} 0 1 = cc in absurd (omega arith))
+    (λ e _. let rows = none-stops (memoryRows c m) _ (memory-numbered c m) e in
+    let size = lengths-are m (right-memory c m (rows .0) .0) .0 in
+    let a = commit-passed _ _ _ _ _ _ (rows .1) in
+    let ops = operations-of bytes (a .form) in
+    let copy = length-copyAt (m .library) size 0 (omega arith) in
+    rw (copy-same (m .library) size 0 (omega arith) _ (length-actAll (operationsOf bytes) _ copy (ops .sizes) (ops .fields)))
+    (title-written bytes op w _ copy ops (a .meets) .0))
+    accepted
+
+-- a commit with a title of another form that rows 1 to 5 let pass
+module _ (c : Control) (m : Memory) (s : ℕ) (bytes : List ℕ) where
+  form-wrong : (i : ℕ) → i < length (operationsOf bytes) → writesTitle (getD (operationsOf bytes) i []) ≡ true → hasTitle (getD (operationsOf bytes) i []) ≡ false
+      → every operationForm (operationsOf bytes) ≡ false
+  unfolding writesTitle operationForm operationFields
+  form-wrong i u w e = go (every operationForm (operationsOf bytes)) refl
+    where
+      go : (b : Bool) → every operationForm (operationsOf bytes) ≡ b → b ≡ false
+      go false h = refl
+      go true h =
+          let op : List ℕ = getD (operationsOf bytes) i [] in
+          let f : operationFields op ≡ true = all-at 0 (operationFields op ∷ allZero (part op 12 4) ∷ []) (every-at operationForm (operationsOf bytes) [] i h u) in
+          let t : hasTitle op ≡ true = rw w at (all-at 2 (operationTests op) f) in
+          absurd (false≢true (sym e ∙ t))
+
+  pub title-refused : stopped (memoryRows c m ++ (sessionRow s (studioOf c s) ∷ row 4 (isWaiting (requestOf (sessionAt (m .sessions) s))) ∷ row 5 (not (sizeForm bytes)) ∷ [])) ≡ 0
+      → (i : ℕ) → i < length (operationsOf bytes) → writesTitle (getD (operationsOf bytes) i []) ≡ true → hasTitle (getD (operationsOf bytes) i []) ≡ false
+      → Bytes.commit c m s bytes .answer ≡ refused 6
+  unfolding Bytes.commit Bytes.refusedCommit commitRows memoryRows lengthsRow sessionRow numbered every unless
+  title-refused passes i u w e =
+      let x : Request = requestOf (sessionAt (m .sessions) s) in
+      let rows : List Row = commitRows s (studioOf c s) x (c .used) (copyAt (m .library) 0) bytes in
+      let stops : not (every operationForm (operationsOf bytes)) ≡ true = rw (form-wrong i u w e) in
+      let sixth = sym (row-stops 6 (not (every operationForm (operationsOf bytes))) (drop 4 rows) stops) in
+      let first = passes-on (memoryRows c m ++ (sessionRow s (studioOf c s) ∷ row 4 (isWaiting x) ∷ row 5 (not (sizeForm bytes)) ∷ [])) (drop 3 rows) 0 refl (sym passes) refl in
+      rw (first ∙ sixth)
+
+-- a title in the reads of a list of calls: from what stands for a sound machine, after an accepted commit, as long as no transaction has an operation on
+-- its cart
+pub title-shown : (r : After) (p : Step) → Simulates r p → Sound (p .next) → (s : ℕ) (bytes op : List ℕ) (n : ℕ) → Writes bytes op
+    → let t = Bytes.callAfter r (Call.commit s bytes) in t .answer ≡ done n
+    → (H : List Call) (x : Call) (k found : ℕ) → let M = Plain.afterCalls (Plain.call (p .next) (Call.commit s bytes)) H .next in
+    let u = Bytes.callAfter (Bytes.afterCalls t H) x in
+    u .answer ≡ answered k found → n ≤ k → ((j : ℕ) → n ≤ j → j < k → spares (u16 op 2) (getD (M .log) j []) ≡ true)
+    → (cs : List ℕ) (i : ℕ) → asked M x ≡ byNumbers cs → i < length cs → getD cs i 0 ≡ u16 op 2
+    → SameTitle op (part (u .output) (80 * i) 80)
+unfolding Plain.call
+title-shown r p h f s bytes op n w accepted H x k found shown u v cs i q g e =
+    let x0 : Call = Call.commit s bytes in
+    let one = simulates (r .control) (r .memory) (p .next) (h .next) x0 in
+    let p2 : Step = Plain.call (p .next) x0 in
+    let more = simulates-after H _ p2 one in
+    let M = Plain.afterCalls p2 H .next in
+    let last = simulates (Bytes.afterCalls (Bytes.callAfter r x0) H .control) (Bytes.afterCalls (Bytes.callAfter r x0) H .memory) M (more .next) x in
+    let written = commit-writes (p .next) f s bytes op n w (sym (one .answer) ∙ accepted) in
+    rw (last .output)
+    (Machine.title-shown op n k M (p2 .next .log) (after-sound H p2 (keeps (p .next) f x0)) written (after-grows H p2) u v x found (sym (last .answer) ∙ shown) cs i q g e)
