@@ -6,8 +6,8 @@ use Prim.Native.Nat.{ℕ, zero, _*_, _-_, _≤_}
 use native.Mathlib.Omega.{arith}
 use borrow.Author.Tests.{le-leb}
 use lib.Dec.{leb, eqb}
-use lib.ListN.{length, length-map, List·getD-map}
-use Rattle.carts.specs.Bytes.{zeros, u16, within, every}
+use lib.ListN.{length-map, List·getD-map}
+use Rattle.carts.specs.Bytes.{zeros, u16}
 use Rattle.carts.proofs.TestLaws.{by-cond, all-cons, all-nil}
 use Rattle.carts.proofs.ZeroLaws.{length-zeros, zero-zeros, part-zeros, zeros-at, zero-drop}
 use Rattle.carts.proofs.KeepLaws.{copy-empty}
@@ -22,7 +22,7 @@ use Rattle.replication.specs.Calls.{After, controlOf, freshMemory}
 use Rattle.replication.specs.declared.control.Control.{Control}
 use Rattle.replication.proofs.Formed.{Formed}
 use Rattle.replication.proofs.RowLaws.{row-passes, unless-case, unless-both}
-use Rattle.replication.proofs.Accepted.{setup-passed}
+use Rattle.replication.proofs.Accepted.{SetupAccepted, setup-passed}
 use Rattle.machine.specs.Machine as Plain
 use Rattle.machine.specs.Machine.{Step, session, fresh}
 use Rattle.refinement.specs.Represents.{Represents, Simulates}
@@ -67,15 +67,15 @@ zeros-session c s =
     sequence : leb (sequenceOf (zeros 80)) (c .commits) ≡ true
     sequence = rw zeros-sequence (le-leb 0 (c .commits) (omega arith))
 
-module _ (studios : ℕ) (bytes : List ℕ) (few : within 1 4 studios ≡ true) (n : length bytes ≡ 16) (places : every (λ b. leb b studios) bytes ≡ true) where
+module _ (before : Memory) (studios : ℕ) (bytes : List ℕ) (p : SetupAccepted before studios bytes) where
   fresh-arrays : Arrays (controlOf studios bytes)
   unfolding controlOf
-  fresh-arrays = record { sessionStudios = n; sent = length-zeros 4; applied = length-zeros 4 }
+  fresh-arrays = record { sessionStudios = p .count; sent = length-zeros 4; applied = length-zeros 4 }
 
   fresh-formed : Formed (controlOf studios bytes) freshMemory
   unfolding controlOf freshMemory freshLog firstRecord transactionsForm logRecords upFrom
   fresh-formed = record {
-    control = record { studios = few; places = places };
+    control = record { studios = p .few; places = p .places };
     library = record { size = length-zeros 51200; copies = copies };
     log = record {
       size = length-zeros 40960;
@@ -100,7 +100,7 @@ module _ (studios : ℕ) (bytes : List ℕ) (few : within 1 4 studios ≡ true) 
     log = refl;
     sent = refl;
     applied = refl;
-    count = length-map bytes (λ i. session i 0 nothing) ∙ n;
+    count = length-map bytes (λ i. session i 0 nothing) ∙ p .count;
     sessions = λ s a b. List·getD-map (λ i. session i 0 nothing) bytes (s - 1) 0 ∙ sym (zeros-shown _)
         ∙ ap (λ (x : List ℕ). session (studioOf (controlOf studios bytes) s) (sequenceOf x) (requestOf x)) (sym (zeros-sessionAt s a b));
     primary = zeros-copyAt 0 (omega arith) ∙ sym (L-nil 0);
@@ -120,8 +120,7 @@ module _ (before : Memory) (studios : ℕ) (bytes : List ℕ) where
       rw same
       (unless-both Agrees (stopped (setupRows studios bytes)) _ _ _ _
       (λ k. (refl, λ e. let z : _≡_ {A = ℕ} 0 1 = cc in absurd (omega arith)))
-      (λ e. let p = setup-passed before studios bytes (same ∙ e) in
-      (refl, λ _. record { answer = refl; output = refl; next = fresh-represents studios bytes (p .few) (p .count) (p .places) })))
+      (λ e. (refl, λ _. record { answer = refl; output = refl; next = fresh-represents before studios bytes (setup-passed before studios bytes (same ∙ e)) })))
 
   pub setup-answer : lengthsForm before ≡ true → Bytes.setup before studios bytes .answer ≡ Plain.setup studios bytes .answer
   setup-answer lengths = setup-agrees lengths .0

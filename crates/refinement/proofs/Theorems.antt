@@ -20,7 +20,7 @@ use Rattle.replication.specs.Calls as Bytes
 use Rattle.replication.specs.Calls.{After, after, controlOf, setup, afterCalls}
 use Rattle.replication.specs.declared.control.Control.{Control}
 use Rattle.machine.specs.Machine as Plain
-use Rattle.machine.specs.Machine.{Machine, libraryOf}
+use Rattle.machine.specs.Machine.{Machine, Step, libraryOf}
 use Rattle.machine.specs.OneCopy.{history, plainHistory, Demand3}
 use Rattle.machine.specs.Titles.{writesTitle, spares, Writes, asked}
 use Rattle.machine.proofs.Sound.{setup-sound}
@@ -85,42 +85,47 @@ module _ (before : Memory) (studios : ℕ) (bytes : List ℕ) where
     plain-accepted = sym (setup-simulates .answer) ∙ accepted
 
     module _ (H : List Call) where
+      -- what H leaves, on bytes and of the plain machine
+      abbrev left : After
+      left = afterCalls (setup before studios bytes) H
+
+      abbrev plain : Step
+      plain = Plain.afterCalls (Plain.setup studios bytes) H
+
       -- ANSWERS. Every answer and every output of H from a fresh system is the plain machine's.
       pub answers : history (setup before studios bytes) H ≡ plainHistory (Plain.setup studios bytes) H
       answers = Simulation.same-history H _ _ setup-simulates
 
       -- COPIES. After H from a fresh system the bytes stand for the plain machine's state: the head end's copy is L(commits) and studio i's copy is
       -- L(applied of i), of the plain machine's committed transactions, of which there are `commits`.
-      pub simulates-after : Simulates (afterCalls (setup before studios bytes) H) (Plain.afterCalls (Plain.setup studios bytes) H)
+      pub simulates-after : Simulates left plain
       simulates-after = Simulation.simulates-after H _ _ setup-simulates
 
-      pub primary : copyAt (afterCalls (setup before studios bytes) H .memory .library) 0
-          ≡ libraryOf (Plain.afterCalls (Plain.setup studios bytes) H .next) (afterCalls (setup before studios bytes) H .control .commits)
+      pub primary : copyAt (left .memory .library) 0 ≡ libraryOf (plain .next) (left .control .commits)
       primary = simulates-after .next .primary
 
-      pub replica : (i : ℕ) → 1 ≤ i → i ≤ 4 → copyAt (afterCalls (setup before studios bytes) H .memory .library) i
-          ≡ libraryOf (Plain.afterCalls (Plain.setup studios bytes) H .next) (nth (afterCalls (setup before studios bytes) H .control .applied) i)
+      pub replica : (i : ℕ) → 1 ≤ i → i ≤ 4 → copyAt (left .memory .library) i ≡ libraryOf (plain .next) (nth (left .control .applied) i)
       replica = simulates-after .next .replicas
 
-      pub commits : Plain.commits (Plain.afterCalls (Plain.setup studios bytes) H .next) ≡ afterCalls (setup before studios bytes) H .control .commits
+      pub commits : Plain.commits (plain .next) ≡ left .control .commits
       commits = log-length _ _ _ (simulates-after .next)
 
-      -- TITLES. After H from a fresh system a commit with number n writes a title, the list goes on, and a read or collect is answered at state k. Each
-      -- place that asks for the cart shows that title, unless one of the transactions n + 1 to k has an operation on the cart.
+      -- TITLES. After H from a fresh system a commit with number n writes a title, the list goes on with `later`, and then a read or collect is answered at
+      -- state k. Each place that asks for the cart shows that title, unless one of the transactions n + 1 to k has an operation on the cart.
       module _ (s : ℕ) (ops op : List ℕ) (n : ℕ) (writes : Writes ops op) (later : List Call) (x : Call) (k found : ℕ) (cs : List ℕ) (i : ℕ) where
         abbrev committed : After
-        committed = Bytes.callAfter (afterCalls (setup before studios bytes) H) (Call.commit s ops)
+        committed = Bytes.callAfter left (Call.commit s ops)
 
         abbrev shown : After
         shown = Bytes.callAfter (afterCalls committed later) x
 
-        -- the plain machine that the read is a read of
-        abbrev M : Machine
-        M = Plain.afterCalls (Plain.call (Plain.afterCalls (Plain.setup studios bytes) H .next) (Call.commit s ops)) later .next
+        -- the plain machine that answers
+        abbrev machine : Machine
+        machine = Plain.afterCalls (Plain.call (plain .next) (Call.commit s ops)) later .next
 
         pub title-shown : committed .answer ≡ done n → shown .answer ≡ answered k found → n ≤ k
-            → ((j : ℕ) → n ≤ j → j < k → spares (u16 op 2) (getD (M .log) j []) ≡ true)
-            → asked M x ≡ byNumbers cs → i < length cs → getD cs i 0 ≡ u16 op 2
+            → ((j : ℕ) → n ≤ j → j < k → spares (u16 op 2) (getD (machine .log) j []) ≡ true)
+            → asked machine x ≡ byNumbers cs → i < length cs → getD cs i 0 ≡ u16 op 2
             → SameTitle op (part (shown .output) (80 * i) 80)
         title-shown accepted answer u v q g e =
             Titles.title-shown _ _ simulates-after (after-sound H _ (setup-sound studios bytes plain-accepted)) s ops op n writes accepted later x k found answer u v cs i q g e

@@ -14,7 +14,7 @@ use Rattle.carts.proofs.TitleKept.{SameTitle}
 use Rattle.replication.specs.Answer.{refused, done, answered}
 use Rattle.replication.specs.Memory.{Memory, copyAt, sessionAt, studioOf}
 use Rattle.replication.specs.Request.{Request, byNumbers, requestOf, isWaiting}
-use Rattle.replication.specs.Rows.{Row, row, stopped, unless, lengthsRow, memoryRows, sessionRow, sizeForm, commitRows}
+use Rattle.replication.specs.Rows.{Row, row, stopped, unless, lengthsRow, memoryRows, sessionRow, sizeForm, commitRows, commitStop}
 use Rattle.replication.specs.Call as Call
 use Rattle.replication.specs.Call.{Call}
 use Rattle.replication.specs.Calls as Bytes
@@ -37,7 +37,7 @@ use Rattle.refinement.proofs.Simulation.{simulates, simulates-after}
 -- an accepted commit, from any control and memory
 pub primary-title : (c : Control) (m : Memory) (s : ℕ) (bytes op : List ℕ) (n : ℕ) → Writes bytes op → Bytes.commit c m s bytes .answer ≡ done n
     → SameTitle op (cartAt (copyAt (Bytes.commit c m s bytes .memory .library) 0) (u16 op 2))
-unfolding Bytes.commit Bytes.refusedCommit
+unfolding Bytes.commit commitStop Bytes.refusedCommit
 primary-title c m s bytes op n w accepted =
     unless-case (λ (r : After). r .answer ≡ done n → SameTitle op (cartAt (copyAt (r .memory .library) 0) (u16 op 2))) _ _ _
     (λ k _ q. let z : _≡_ {A = ℕ} 0 1 = cc in absurd (omega arith))
@@ -68,7 +68,7 @@ module _ (c : Control) (m : Memory) (s : ℕ) (bytes : List ℕ) where
   pub title-refused : stopped (memoryRows c m ++ (sessionRow s (studioOf c s) ∷ row 4 (isWaiting (requestOf (sessionAt (m .sessions) s))) ∷ row 5 (not (sizeForm bytes)) ∷ [])) ≡ 0
       → (i : ℕ) → i < length (operationsOf bytes) → writesTitle (getD (operationsOf bytes) i []) ≡ true → hasTitle (getD (operationsOf bytes) i []) ≡ false
       → Bytes.commit c m s bytes .answer ≡ refused 6
-  unfolding Bytes.commit Bytes.refusedCommit commitRows memoryRows lengthsRow sessionRow numbered every unless
+  unfolding Bytes.commit commitStop Bytes.refusedCommit commitRows memoryRows lengthsRow sessionRow numbered every unless
   title-refused passes i u w e =
       let x : Request = requestOf (sessionAt (m .sessions) s) in
       let rows : List Row = commitRows s (studioOf c s) x (c .used) (copyAt (m .library) 0) bytes in
