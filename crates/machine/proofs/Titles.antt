@@ -17,7 +17,7 @@ use Rattle.carts.specs.Transaction.{Transaction, L, recordsUsed}
 use Rattle.carts.proofs.TestLaws.{and-left, and-right}
 use Rattle.carts.proofs.OperationLaws.{Operations, operations-of, fields-cart, length-act}
 use Rattle.carts.proofs.KeepLaws.{act-other}
-use Rattle.carts.proofs.TitleKept.{SameTitle, title-kept}
+use Rattle.carts.proofs.TitleKept.{title-kept}
 use Rattle.replication.specs.Answer.{done, answered}
 use Rattle.replication.specs.Request.{byNumbers, shownFrom}
 use Rattle.replication.specs.Call as Call
@@ -25,7 +25,7 @@ use Rattle.replication.proofs.RowLaws.{unless-case}
 use Rattle.replication.proofs.ShownLaws.{Askable}
 use Rattle.replication.proofs.Accepted.{commit-passed}
 use Rattle.machine.specs.Machine.{Machine, Step, commits, libraryOf, sessionOf, refusedCommit, commit, call}
-use Rattle.machine.specs.Titles.{writesTitle, spares, Writes, asked}
+use Rattle.machine.specs.Titles.{titleIn, writesTitle, spares, Writes, asked}
 use Rattle.machine.proofs.Sort.{All, all-getD, length-snoc}
 use Rattle.machine.proofs.Libraries.{length-L, L-next, L-after}
 use Rattle.machine.proofs.Sound.{Sound}
@@ -59,18 +59,18 @@ spared (op ∷ ops) copy c l h low e =
 -- the last operation on a cart, where it is a new or a retitle, leaves its title there
 written : (before : Transaction) (op : List ℕ) (later : Transaction) (copy : List ℕ) → length copy ≡ copySize → Operations (before ++ (op ∷ later))
     → meetsAll copy (before ++ (op ∷ later)) ≡ true → writesTitle op ≡ true → spares (u16 op 2) later ≡ true
-    → SameTitle op (cartAt (actAll copy (before ++ (op ∷ later))) (u16 op 2)) × (1 ≤ u16 op 2)
+    → (titleIn (cartAt (actAll copy (before ++ (op ∷ later))) (u16 op 2)) ≡ titleIn op) × (1 ≤ u16 op 2)
 unfolding writesTitle meetsAll actAll
 written [] op later copy l h m w e =
     let (o, rest) = operations-first op later h in
-    rw (spared later (act copy op) (u16 op 2) (length-act copy op l (o .size) (o .high)) rest (o .low) e)
-    (title-kept copy op l (o .size) (o .low) (o .high) (and-left (meets copy op) (meetsAll (act copy op) later) m) w, o .low)
+    let t = title-kept copy op l (o .size) (o .low) (o .high) (and-left (meets copy op) (meetsAll (act copy op) later) m) w in
+    (ap titleIn (spared later (act copy op) (u16 op 2) (length-act copy op l (o .size) (o .high)) rest (o .low) e) ∙ rw (t .length-kept, t .letters-kept), o .low)
 written (b ∷ before) op later copy l h m w e =
     let (o, rest) = operations-first b (before ++ (op ∷ later)) h in
     written before op later (act copy b) (length-act copy b l (o .size) (o .high)) rest (and-right (meets copy b) (meetsAll (act copy b) (before ++ (op ∷ later))) m) w e
 
 pub title-written : (bytes op : List ℕ) → Writes bytes op → (copy : List ℕ) → length copy ≡ copySize → Operations (operationsOf bytes) → meetsAll copy (operationsOf bytes) ≡ true
-    → SameTitle op (cartAt (actAll copy (operationsOf bytes)) (u16 op 2)) × (1 ≤ u16 op 2)
+    → (titleIn (cartAt (actAll copy (operationsOf bytes)) (u16 op 2)) ≡ titleIn op) × (1 ≤ u16 op 2)
 title-written bytes op w copy l h m =
     rw (w .operations) (written (w .before) op (w .later) copy l (rw (w .operations) at h) (rw (w .operations) at m) (w .title) (w .last))
 
@@ -93,7 +93,7 @@ L-spared log c f low n (suc k) u v h = go (ℕ-discrete n (suc k)) (λ w. L-spar
 pub record Written (op : List ℕ) (n : ℕ) (log : List Transaction) : Type 0 where
   pub known : n ≤ length log
   pub number : 1 ≤ u16 op 2
-  pub title : SameTitle op (cartAt (L log n) (u16 op 2))
+  pub title : titleIn (cartAt (L log n) (u16 op 2)) ≡ titleIn op
 
 -- an accepted commit, whose last operation on a cart is a new or a retitle
 pub commit-writes : (m : Machine) → Sound m → (s : ℕ) (bytes op : List ℕ) (n : ℕ) → Writes bytes op → commit m s bytes .answer ≡ done n
@@ -113,7 +113,7 @@ commit-writes m f s bytes op n w accepted = unless-case (λ (r : Step). r .answe
 
 -- a title stays with its cart
 still-written : (op : List ℕ) (n k : ℕ) (log next : List Transaction) → Written op n log → Grown log next → All Operations next → n ≤ k → k ≤ length next
-    → ((j : ℕ) → n ≤ j → j < k → spares (u16 op 2) (getD next j []) ≡ true) → SameTitle op (cartAt (L next k) (u16 op 2))
+    → ((j : ℕ) → n ≤ j → j < k → spares (u16 op 2) (getD next j []) ≡ true) → titleIn (cartAt (L next k) (u16 op 2)) ≡ titleIn op
 still-written op n k log next w g f u v h =
     rw (L-spared next (u16 op 2) f (w .number) n k u v h, g .same n (w .known)) (w .title)
 
@@ -122,7 +122,7 @@ pub title-shown : (op : List ℕ) (n k : ℕ) (m : Machine) (log : List Transact
     → ((j : ℕ) → n ≤ j → j < k → spares (u16 op 2) (getD (m .log) j []) ≡ true)
     → (x : Call.Call) (found : ℕ) → call m x .answer ≡ answered k found
     → (cs : List ℕ) (i : ℕ) → asked m x ≡ byNumbers cs → i < length cs → getD cs i 0 ≡ u16 op 2
-    → SameTitle op (part (call m x .output) (80 * i) 80)
+    → titleIn (part (call m x .output) (80 * i) 80) ≡ titleIn op
 unfolding shownFrom
 title-shown op n k m log f w g u h x found e cs i q v c =
     let r = call-shows m f k found x e in

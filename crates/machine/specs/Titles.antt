@@ -5,12 +5,17 @@ use mathlib.Core.Bool.{Bool, true, _||_, not}
 use mathlib.Core.List.{List, _∷_, _++_}
 use Prim.Native.Nat.{ℕ}
 use lib.Dec.{eqb}
-use Rattle.carts.specs.Bytes.{byte, u16, every}
+use Rattle.carts.specs.Bytes.{part, byte, u16, every}
+use Rattle.carts.specs.Cart.{titleSize}
 use Rattle.carts.specs.Operation.{isNew, isRetitle, operationsOf}
 use Rattle.carts.specs.Transaction.{Transaction}
 use Rattle.replication.specs.Request.{Request, nothing, requestOf}
 use Rattle.replication.specs.Call.{Call, commit, send, refresh, read, collect}
 use Rattle.machine.specs.Machine.{Machine, sessionOf}
+
+-- the title in a cart or an operation: "byte 1 title length"; "16–79 the title"
+abbrev pub titleIn : List ℕ → List ℕ
+titleIn s = byte s 1 ∷ part s 16 titleSize
 
 -- a new or a retitle
 unfoldable pub writesTitle : List ℕ → Bool

@@ -8,7 +8,6 @@ use lib.ListN.{length, getD}
 use Rattle.carts.specs.Bytes.{zeros, part, u16}
 use Rattle.carts.specs.Cart.{cartAt, hasTitle}
 use Rattle.carts.specs.Operation.{operationsOf}
-use Rattle.carts.proofs.TitleKept.{SameTitle}
 use Rattle.replication.specs.Answer.{refused, done, answered}
 use Rattle.replication.specs.Memory.{Memory, lengthsForm, copyAt, sessionAt, nth, studioOf}
 use Rattle.replication.specs.Log.{firstRecord}
@@ -22,7 +21,7 @@ use Rattle.replication.specs.declared.control.Control.{Control}
 use Rattle.machine.specs.Machine as Plain
 use Rattle.machine.specs.Machine.{Machine, Step, libraryOf}
 use Rattle.machine.specs.OneCopy.{history, plainHistory, Demand3}
-use Rattle.machine.specs.Titles.{writesTitle, spares, Writes, asked}
+use Rattle.machine.specs.Titles.{titleIn, writesTitle, spares, Writes, asked}
 use Rattle.machine.proofs.Sound.{setup-sound}
 use Rattle.machine.proofs.Kept.{after-sound}
 use Rattle.machine.proofs.OneCopyOrder.{one-copy}
@@ -61,7 +60,7 @@ refused-setup = Refused.setup-refused
 -- TITLES. "A title is kept whole or refused." From any control and memory, an accepted commit whose last operation on a cart is a new or a retitle
 -- leaves that title in the head end's copy: its length and its 64 bytes.
 pub title-kept : (c : Control) (m : Memory) (s : ℕ) (bytes op : List ℕ) (n : ℕ) → Writes bytes op → Bytes.commit c m s bytes .answer ≡ done n
-    → SameTitle op (cartAt (copyAt (Bytes.commit c m s bytes .memory .library) 0) (u16 op 2))
+    → titleIn (cartAt (copyAt (Bytes.commit c m s bytes .memory .library) 0) (u16 op 2)) ≡ titleIn op
 title-kept = Titles.primary-title
 
 -- A commit that rows 1 to 5 let pass, with a new or a retitle whose title is of another form, is answered 6.
@@ -126,7 +125,7 @@ module _ (before : Memory) (studios : ℕ) (bytes : List ℕ) where
         pub title-shown : committed .answer ≡ done n → shown .answer ≡ answered k found → n ≤ k
             → ((j : ℕ) → n ≤ j → j < k → spares (u16 op 2) (getD (machine .log) j []) ≡ true)
             → asked machine x ≡ byNumbers cs → i < length cs → getD cs i 0 ≡ u16 op 2
-            → SameTitle op (part (shown .output) (80 * i) 80)
+            → titleIn (part (shown .output) (80 * i) 80) ≡ titleIn op
         title-shown accepted answer u v q g e =
             Titles.title-shown _ _ simulates-after (after-sound H _ (setup-sound studios bytes plain-accepted)) s ops op n writes accepted later x k found answer u v cs i q g e
 

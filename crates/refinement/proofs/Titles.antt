@@ -1,5 +1,5 @@
 -- "A title is kept whole or refused", on bytes: in the head end's copy, in the reads that show it, and row 6.
-use mathlib.Core.Path.{_≡_, refl, sym, _∙_}
+use mathlib.Core.Path.{_≡_, refl, sym, ap, _∙_}
 use mathlib.Core.Bool.{Bool, true, false, not, false≢true}
 use mathlib.Core.List.{List, [], _∷_, _++_}
 use Prim.Native.Nat.{ℕ, _*_, _≤_, _<_}
@@ -10,7 +10,6 @@ use Rattle.carts.specs.Cart.{cartAt, hasTitle}
 use Rattle.carts.specs.Operation.{operationFields, operationForm, operationsOf}
 use Rattle.carts.proofs.TestLaws.{all-at, every-at}
 use Rattle.carts.proofs.OperationLaws.{operationTests, operations-of, length-actAll}
-use Rattle.carts.proofs.TitleKept.{SameTitle}
 use Rattle.replication.specs.Answer.{refused, done, answered}
 use Rattle.replication.specs.Memory.{Memory, copyAt, sessionAt, studioOf}
 use Rattle.replication.specs.Request.{Request, byNumbers, requestOf, isWaiting}
@@ -25,7 +24,7 @@ use Rattle.replication.proofs.RowLaws.{numbered, row-stops, passes-on, unless-c
 use Rattle.replication.proofs.Accepted.{commit-passed}
 use Rattle.machine.specs.Machine as Plain
 use Rattle.machine.specs.Machine.{Step}
-use Rattle.machine.specs.Titles.{writesTitle, spares, Writes, asked}
+use Rattle.machine.specs.Titles.{titleIn, writesTitle, spares, Writes, asked}
 use Rattle.machine.proofs.Sound.{Sound}
 use Rattle.machine.proofs.Kept.{keeps, after-sound}
 use Rattle.machine.proofs.Grows.{after-grows}
@@ -36,18 +35,18 @@ use Rattle.refinement.proofs.Simulation.{simulates, simulates-after}
 
 -- an accepted commit, from any control and memory
 pub primary-title : (c : Control) (m : Memory) (s : ℕ) (bytes op : List ℕ) (n : ℕ) → Writes bytes op → Bytes.commit c m s bytes .answer ≡ done n
-    → SameTitle op (cartAt (copyAt (Bytes.commit c m s bytes .memory .library) 0) (u16 op 2))
+    → titleIn (cartAt (copyAt (Bytes.commit c m s bytes .memory .library) 0) (u16 op 2)) ≡ titleIn op
 unfolding Bytes.commit commitStop Bytes.refusedCommit
 primary-title c m s bytes op n w accepted =
-    unless-case (λ (r : After). r .answer ≡ done n → SameTitle op (cartAt (copyAt (r .memory .library) 0) (u16 op 2))) _ _ _
+    unless-case (λ (r : After). r .answer ≡ done n → titleIn (cartAt (copyAt (r .memory .library) 0) (u16 op 2)) ≡ titleIn op) _ _ _
     (λ k _ q. let z : _≡_ {A = ℕ} 0 1 = cc in absurd (omega arith))
     (λ e _. let rows = none-stops (memoryRows c m) _ (memory-numbered c m) e in
     let size = lengths-are m (right-memory c m (rows .0) .0) .0 in
     let a = commit-passed _ _ _ _ _ _ (rows .1) in
     let ops = operations-of bytes (a .form) in
     let copy = length-copyAt (m .library) size 0 (omega arith) in
-    rw (copy-same (m .library) size 0 (omega arith) _ (length-actAll (operationsOf bytes) _ copy (ops .sizes) (ops .fields)))
-    (title-written bytes op w _ copy ops (a .meets) .0))
+    let same = copy-same (m .library) size 0 (omega arith) _ (length-actAll (operationsOf bytes) _ copy (ops .sizes) (ops .fields)) in
+    ap (λ (z : List ℕ). titleIn (cartAt z (u16 op 2))) same ∙ title-written bytes op w _ copy ops (a .meets) .0)
     accepted
 
 -- a commit with a title of another form that rows 1 to 5 let pass
@@ -85,7 +84,7 @@ pub title-shown : (r : After) (p : Step) → Simulates r p → Sound (p .next) �
     let u = Bytes.callAfter (Bytes.afterCalls t H) x in
     u .answer ≡ answered k found → n ≤ k → ((j : ℕ) → n ≤ j → j < k → spares (u16 op 2) (getD (M .log) j []) ≡ true)
     → (cs : List ℕ) (i : ℕ) → asked M x ≡ byNumbers cs → i < length cs → getD cs i 0 ≡ u16 op 2
-    → SameTitle op (part (u .output) (80 * i) 80)
+    → titleIn (part (u .output) (80 * i) 80) ≡ titleIn op
 unfolding Plain.call
 title-shown r p h f s bytes op n w accepted H x k found shown u v cs i q g e =
     let x0 : Call = Call.commit s bytes in
