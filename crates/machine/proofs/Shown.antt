@@ -18,7 +18,8 @@ use Rattle.replication.proofs.RowLaws.{unless-case}
 use Rattle.replication.proofs.ShownLaws.{Askable, request-askable}
 use Rattle.replication.proofs.Accepted.{read-passed}
 use Rattle.machine.specs.Machine.{Machine, Step, commits, libraryOf, sessionOf, refusedCommit, commit, send, refresh, answerFrom, block, wait, read, collect, call}
-use Rattle.machine.specs.Titles.{asked}
+use Rattle.machine.specs.OneCopy.{kindOf}
+use Rattle.machine.specs.Titles.{askedBy, asked}
 use Rattle.machine.proofs.Cases.{stateFor, block-case}
 use Rattle.machine.proofs.Sound.{Sound, applied-commits}
 
@@ -49,7 +50,7 @@ module _ (m : Machine) (f : Sound m) (k found : ℕ) where
       record { known = rw (← same) (applied-commits m f _); askable = a; rest = drop (needed (asked m x)) out; output = rw same }) (λ u. holds-back)
 
   pub call-shows : (x : Call.Call) → Shows x (call m x)
-  unfolding call commit refusedCommit send refresh read collect asked
+  unfolding call commit refusedCommit send refresh read collect askedBy kindOf
   call-shows (Call.commit s bytes) = unless-case (Shows (Call.commit s bytes)) _ _ _ (λ n e. refuses) (λ e. counts)
   call-shows (Call.send i) = unless-case (Shows (Call.send i)) _ _ _ (λ n e. refuses) (λ e. counts)
   call-shows (Call.refresh i) = unless-case (Shows (Call.refresh i)) _ _ _ (λ n e. refuses) (λ e. counts)

@@ -10,8 +10,9 @@ use Rattle.carts.specs.Cart.{titleSize}
 use Rattle.carts.specs.Operation.{isNew, isRetitle, operationsOf}
 use Rattle.carts.specs.Transaction.{Transaction}
 use Rattle.replication.specs.Request.{Request, nothing, requestOf}
-use Rattle.replication.specs.Call.{Call, commit, send, refresh, read, collect}
+use Rattle.replication.specs.Call.{Call}
 use Rattle.machine.specs.Machine.{Machine, sessionOf}
+use Rattle.machine.specs.OneCopy.{Kind, writes, reads, collects, neither, kindOf}
 
 -- the title in a cart or an operation: "byte 1 title length"; "16–79 the title"
 abbrev pub titleIn : List ℕ → List ℕ
@@ -34,9 +35,11 @@ pub record Writes (bytes op : List ℕ) : Type 0 where
   pub title : writesTitle op ≡ true
 
 -- what a call asks for: "Read (session, request)"; "Collect (session): .. the stored request"
-unfoldable pub asked : Machine → Call → Request
-asked m (commit s bytes) = nothing
-asked m (send i) = nothing
-asked m (refresh i) = nothing
-asked m (read s request out) = requestOf request
-asked m (collect s out) = sessionOf m s .waiting
+unfoldable pub askedBy : Machine → Kind → Request
+askedBy m (writes s bytes) = nothing
+askedBy m (reads s bytes) = requestOf bytes
+askedBy m (collects s) = sessionOf m s .waiting
+askedBy m neither = nothing
+
+abbrev pub asked : Machine → Call → Request
+asked m x = askedBy m (kindOf x)
