@@ -1,6 +1,5 @@
 -- Laws of parts of one size: one of them replaced, and tests of each of them.
 use mathlib.Core.Path.{_≡_, refl, ap, _∙_}
-use mathlib.Core.Logic.{_≢_}
 use mathlib.Core.Bool.{Bool, true}
 use mathlib.Core.List.{List, []}
 use Prim.Native.Nat.{ℕ, zero, suc, _+_, _-_, _*_, _≤_, _<_}
@@ -23,10 +22,6 @@ record-other s ys size i k h e ne = go (decLe i k)
     go : Dec (i ≤ k) → part (over s (size * i) size ys) (size * k) size ≡ part s (size * k) size
     go (yes l) = over-after s (size * i) size ys (size * k) size h e (apart size i k (omega arith))
     go (no l) = over-before s (size * i) size ys (size * k) size h (apart size k i (omega arith))
-
-module _ (size : ℕ) (s : List ℕ) (k : ℕ) (x : List ℕ) (e : length x ≡ size) (h : size * k + size ≤ length s) where
-  pub part-other : (j : ℕ) → j ≢ k → part (over s (size * k) size x) (size * j) size ≡ part s (size * j) size
-  part-other j ne = record-other s x size k j (omega arith) e ne
 
 -- the parts of one size, and what stands at each
 pub next-part : (size i : ℕ) (s : List ℕ) → part (drop size s) (size * i) size ≡ part s (size * suc i) size

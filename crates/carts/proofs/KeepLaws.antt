@@ -16,7 +16,8 @@ use Rattle.carts.proofs.OperationLaws.{operationTests, length-acted, le
 use Rattle.carts.proofs.PartLaws.{length-part, length-over, part-over, over-before, over-after, part-in, byte-in, u16-in, u32-in}
 use Rattle.carts.proofs.EachLaws.{from-one, to-one}
 pub use Rattle.carts.proofs.EachLaws.{record-other}
-use Rattle.carts.proofs.ScanLaws.{and-left, and-right, all-at, zero-part, zero-zeros}
+use Rattle.carts.proofs.ScanLaws.{and-left, and-right, zero-part, zero-zeros}
+use Rattle.carts.proofs.TestLaws.{all-at}
 
 -- the carts of a copy after an operation
 module _ (copy op : List ℕ) (l : length copy ≡ 10240) (o : length op ≡ 80) (low : 1 ≤ u16 op 2) (high : u16 op 2 ≤ 128) where
@@ -48,7 +49,7 @@ module _ (c : ℕ) (s : List ℕ) where
 
   held-test : (i : ℕ) → heldForm c s ≡ true → getD heldTests i true ≡ true
   unfolding heldForm
-  held-test i e = all-at heldTests i e
+  held-test i e = all-at i heldTests e
 
 -- state, title and audio are told by their bytes
 held-by : (s t : List ℕ) → byte s 0 ≡ byte t 0 → held s ≡ held t
@@ -127,11 +128,11 @@ module _ (op cart : List ℕ) (o : length op ≡ 80) (l : length cart ≡ 80) wh
   -- what the operation's kind asks for is there
   title-there : operationFields op ≡ true → (isNew (byte op 0) || isRetitle (byte op 0)) ≡ true → hasTitle op ≡ true
   unfolding operationFields
-  title-there e k = rw k at (all-at (operationTests op) 2 e)
+  title-there e k = rw k at (all-at 2 (operationTests op) e)
 
   audio-there : operationFields op ≡ true → (isNew (byte op 0) || isRecut (byte op 0)) ≡ true → hasAudio op ≡ true
   unfolding operationFields
-  audio-there e k = rw k at (all-at (operationTests op) 3 e)
+  audio-there e k = rw k at (all-at 3 (operationTests op) e)
 
   module _ (fields : operationFields op ≡ true) (form : cartForm (u16 op 2) cart ≡ true) where
     new-kept : held cart ≡ false → isNew (byte op 0) ≡ true → cartForm (u16 op 2) (made op cart) ≡ true

@@ -6,7 +6,6 @@ pub mod Examples
 pub mod FieldLaws
 pub mod KeepLaws
 pub mod OperationLaws
-pub mod OverLaws
 pub mod PartLaws
 pub mod RecordLaws
 pub mod Samples

@@ -11,8 +11,8 @@ use borrow.Author.Tests.{eqb-true}
 use Rattle.carts.specs.Bytes.{byte, u16, zeros, part, over, parts, within, every, allZero}
 use Rattle.carts.specs.Cart.{cartAt, hasTitle, noTitle, hasAudio, noAudio}
 use Rattle.carts.specs.Operation.{isNew, isRetitle, isRecut, isWithdraw, operationFields, operationForm, operationsOf, made, retitled, recut, withdrawn, meetsCart, effect, actedOn, meets, act, meetsAll, actAll}
-use Rattle.carts.proofs.TestLaws.{by-cond}
-use Rattle.carts.proofs.ScanLaws.{and-left, and-right, all-at, within-true, every-implied}
+use Rattle.carts.proofs.TestLaws.{by-cond, all-at}
+use Rattle.carts.proofs.ScanLaws.{and-left, and-right, within-true, every-implied}
 use Rattle.carts.proofs.CartLaws.{length-cart}
 use Rattle.carts.proofs.PartLaws.{length-part, length-over, part-in, byte-in, u16-in, u32-in}
 use Rattle.carts.proofs.RecordLaws.{parts-next, parts-end, sized-parts}
@@ -26,7 +26,7 @@ operationTests op =
 -- an operation of its fields names a cart of the copy
 pub fields-cart : (op : List ℕ) → operationFields op ≡ true → (1 ≤ u16 op 2) × (u16 op 2 ≤ 128)
 unfolding operationFields
-fields-cart op e = within-true 1 128 (u16 op 2) (all-at (operationTests op) 1 e)
+fields-cart op e = within-true 1 128 (u16 op 2) (all-at 1 (operationTests op) e)
 
 -- the operations left of n, of which i have been passed: the first, and the others
 module _ (n i : ℕ) (s : List ℕ) (h : i < n) where
@@ -76,10 +76,6 @@ module _ (a b : List ℕ) (front : take 12 a ≡ take 12 b) (back : drop 16 a �
 
   title-same : part a 16 64 ≡ part b 16 64
   title-same = ap (λ l. take 64 l) back
-
-  pub meets-links : (copy : List ℕ) → meets copy a ≡ meets copy b
-  unfolding meets meetsCart
-  meets-links copy = rw (number-same, kind-same)
 
   acted-same : (cart : List ℕ) → actedOn a cart ≡ actedOn b cart
   unfolding actedOn meetsCart effect made retitled recut
@@ -135,13 +131,10 @@ sized-operations : (bytes : List ℕ) → every (λ op. eqb (length op) 80) (ope
 unfolding operationsOf
 sized-operations bytes = sized-parts 80 (length bytes / 80) bytes (mul-div-le (length bytes) 80)
 
-pub length-actAll-of : (bytes copy : List ℕ) → length copy ≡ 10240 → every operationFields (operationsOf bytes) ≡ true → length (actAll copy (operationsOf bytes)) ≡ 10240
-length-actAll-of bytes copy p f = length-actAll (operationsOf bytes) copy p (sized-operations bytes) f
-
 -- operations that are of their form are of their fields
 pub forms-fields : (ops : List (List ℕ)) → every operationForm ops ≡ true → every operationFields ops ≡ true
 unfolding operationForm
-forms-fields ops e = every-implied operationForm operationFields ops (λ op h. all-at (operationFields op ∷ allZero (part op 12 4) ∷ []) 0 h) e
+forms-fields ops e = every-implied operationForm operationFields ops (λ op h. all-at 0 (operationFields op ∷ allZero (part op 12 4) ∷ []) h) e
 
 -- operations of 80 bytes each, of their fields; those of a commit that are of their form
 pub record Operations (ops : List (List ℕ)) : Type 0 where

@@ -11,7 +11,7 @@ use lib.Bits.{bitOr, or-zero-l, or-add-and, and-le-r}
 use borrow.Author.Tests.{ne-eqb}
 use lib.Dec.{eqb, eqb·suc-zero}
 use Rattle.carts.specs.Bytes.{within, all, every, pairwise}
-use Rattle.carts.proofs.TestLaws.{all-at as test-at, within-low, within-high}
+use Rattle.carts.proofs.TestLaws.{within-low, within-high}
 pub use Rattle.carts.proofs.TestLaws.{and-left, and-right, within-of, pairwise-eq as pairwise-equal}
 pub use Rattle.carts.proofs.ZeroLaws.{zero-part, zero-zeros, zeros-of}
 
@@ -23,9 +23,6 @@ pub test-end : (ok : Bool) {whole left : Bool} → whole ≡ (ok && left) → le
 test-end ok p q = sym (p ∙ ap (λ b. ok && b) q ∙ and-true ok)
 
 -- from a joint test to its parts
-pub all-at : (bs : List Bool) (i : ℕ) → all bs ≡ true → getD bs i true ≡ true
-all-at bs i e = test-at i bs e
-
 pub within-true : (low high n : ℕ) → within low high n ≡ true → (low ≤ n) × (n ≤ high)
 within-true low high n e = (within-low low high n e, within-high low high n e)
 

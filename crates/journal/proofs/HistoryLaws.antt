@@ -8,7 +8,7 @@ use lib.ListN.{length, set, drop-of-length-le}
 use lib.Seq.{sets-eq}
 use lib.Dec.{leb, ltb}
 use borrow.Author.Tests.{leb-true, ltb-true}
-use Rattle.carts.proofs.ScanLaws.{all-at}
+use Rattle.carts.proofs.TestLaws.{all-at}
 use Rattle.journal.specs.declared.history.History.{History}
 use Rattle.journal.specs.History.{hasRoom}
 
@@ -26,4 +26,4 @@ pub room-facts : (h : History) (cells store size : ℕ) → hasRoom h cells stor
 unfolding hasRoom
 room-facts h cells store size e =
     let tests = leb size 2640 ∷ leb (8 * h .entries + 8) cells ∷ leb (80 * h .slots + 2640) store ∷ ltb (h .entries) 65535 ∷ ltb (h .slots) 65535 ∷ [] in
-    (leb-true size 2640 (all-at tests 0 e), (leb-true (8 * h .entries + 8) cells (all-at tests 1 e), (leb-true (80 * h .slots + 2640) store (all-at tests 2 e), (ltb-true (h .entries) 65535 (all-at tests 3 e), ltb-true (h .slots) 65535 (all-at tests 4 e)))))
+    (leb-true size 2640 (all-at 0 tests e), (leb-true (8 * h .entries + 8) cells (all-at 1 tests e), (leb-true (80 * h .slots + 2640) store (all-at 2 tests e), (ltb-true (h .entries) 65535 (all-at 3 tests e), ltb-true (h .slots) 65535 (all-at 4 tests e)))))

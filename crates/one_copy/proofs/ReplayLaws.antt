@@ -1,26 +1,16 @@
 -- Laws of the single library's answers.
 use Prim.Native.Nat.{ℕ, suc, _+_, _-_, _*_, _<_, _≤_}
 use mathlib.Core.Path.{_≡_, refl}
-use mathlib.Core.Bool.{Bool, true, _&&_}
-use mathlib.Core.List.{List, [], _∷_}
+use mathlib.Core.Bool.{Bool, _&&_}
+use mathlib.Core.List.{List}
 use native.Mathlib.Omega.{arith}
 use lib.Dec.{eqb}
 use borrow.Author.Tests.{le-leb}
-use Rattle.carts.specs.Bytes.{byte, part, every, allZero}
-use Rattle.carts.specs.Operation.{operationFields, operationForm}
-use Rattle.carts.proofs.ScanLaws.{test-end, and-left, and-right, all-at}
+use Rattle.carts.specs.Bytes.{byte}
+use Rattle.carts.proofs.ScanLaws.{test-end}
 use Rattle.lines.specs.Text.{partIn}
 use Rattle.lines.specs.Build.{askedAt}
 use Rattle.one_copy.specs.Replay.{placeAgrees, heldAt, placesAgree, heldPlaces, numbersAgree}
-
--- operations of their form have the fields of their kinds
-pub forms-fields : (ops : List (List ℕ)) → every operationForm ops ≡ true → every operationFields ops ≡ true
-unfolding every operationForm
-forms-fields [] e = refl
-forms-fields (op ∷ ops) e =
-    let tests = operationFields op ∷ allZero (part op 12 4) ∷ [] in
-    let f : operationFields op ≡ true = all-at tests 0 (and-left (operationForm op) (every operationForm ops) e) in
-    rw f (forms-fields ops (and-right (operationForm op) (every operationForm ops) e))
 
 -- the places left of n, of which i have been passed
 module _ (copy request shown : List ℕ) (n i : ℕ) where

@@ -3,32 +3,25 @@ use mathlib.Core.Path.{_≡_, refl, sym, ap, _∙_, subst}
 use mathlib.Core.Logic.{_≢_}
 use mathlib.Core.Bool.{true}
 use mathlib.Core.List.{List, [], _∷_, _++_}
-use Prim.Native.Nat.{ℕ, _+_, _*_, _-_, _≤_, _<_, _/_}
+use Prim.Native.Nat.{ℕ, _+_, _-_, _≤_}
 use native.Mathlib.Omega.{arith}
 use native.Mathlib.Decide.{ℕ-discrete}
-use borrow.Author.Tests.{eq-eqb}
-use lib.Dec.{eqb}
-use lib.ListN.{length, getD, set, length-set}
-use Rattle.carts.specs.Bytes.{part, all, every, allZero}
-use Rattle.carts.specs.Operation.{operationFields, operationForm, operationsOf, actAll}
+use lib.ListN.{length, set, length-set}
+use Rattle.carts.specs.Operation.{operationsOf, actAll}
 use Rattle.carts.specs.Transaction.{Transaction, L, recordsUsed}
-use Rattle.carts.proofs.TestLaws.{all-at, every-at, at-every}
-use Rattle.carts.proofs.PartLaws.{length-part}
-use Rattle.carts.proofs.EachLaws.{length-parts, parts-at}
-use Rattle.carts.proofs.OperationLaws.{Operations}
+use Rattle.carts.proofs.OperationLaws.{Operations, operations-of}
 use Rattle.carts.proofs.KeepLaws.{Copy, actAll-copy}
 use Rattle.replication.specs.Memory.{Memory, copyAt, withCopy, sessionAt, withSession, withSequence, nth, studioOf}
 use Rattle.replication.specs.Log.{firstRecord, appended}
 use Rattle.replication.specs.Request.{requestOf}
 use Rattle.replication.specs.Layout.{replicaForm}
-use Rattle.replication.specs.Rows.{Row, stopped, sizeForm, commitRows, commitStop}
+use Rattle.replication.specs.Rows.{Row, stopped, commitRows, commitStop}
 use Rattle.replication.specs.Calls as Bytes
 use Rattle.replication.specs.Calls.{After, committed}
 use Rattle.replication.specs.declared.control.Control.{Control}
 use Rattle.replication.proofs.CopyLaws.{length-copyAt, length-withCopy, copy-same, copy-other}
-use Rattle.replication.proofs.AppendLaws.{length-operations}
-use Rattle.replication.proofs.CommitLaws.{size-few}
-use Rattle.replication.proofs.WriteLaws.{Givens}
+use Rattle.replication.proofs.CommitLaws.{operations-few}
+use Rattle.replication.proofs.WriteLaws.{Givens, givens}
 use Rattle.replication.proofs.Placement.{log-used, committed-log, committed-transactions}
 use Rattle.replication.proofs.Formed.{Formed, applied-known, counts-more, studio-copy, copy-in-use}
 use Rattle.replication.proofs.RowLaws.{memory-passes, unless-case, unless-both}
@@ -43,29 +36,6 @@ use Rattle.refinement.proofs.Represented.{machineOf, log-length}
 use Rattle.refinement.proofs.Sessions.{SessionBytes, session-more, own-bytes, length-sessions, sessions-form, sessions-shown, session-of}
 use Rattle.refinement.proofs.Arrays.{Arrays, arrays, formed, of-layout}
 
--- the operations in the bytes of a commit that rows 5 and 6 let pass
-size-count : (bytes : List ℕ) → sizeForm bytes ≡ true → (1 ≤ length (operationsOf bytes)) × (length (operationsOf bytes) ≤ 8)
-size-count bytes h = rw (length-operations bytes) (size-few bytes h)
-
-givens : (bytes : List ℕ) → every operationForm (operationsOf bytes) ≡ true → Givens (operationsOf bytes)
-unfolding Givens operationsOf operationForm
-givens bytes h i l =
-    let tests = operationFields (getD (operationsOf bytes) i []) ∷ allZero (part (getD (operationsOf bytes) i []) 12 4) ∷ [] in
-    let f : all tests ≡ true = every-at operationForm (operationsOf bytes) [] i h l in
-    let k : i < length bytes / 80 = rw (length-parts 80 (length bytes / 80) bytes) at l in
-    record {
-      size = ap length (parts-at 80 (length bytes / 80) bytes i k) ∙ length-part bytes (80 * i) 80 (omega arith);
-      fields = all-at 0 tests f;
-      plain = all-at 1 tests f;
-    }
-
-given-operations : (ops : List (List ℕ)) → Givens ops → Operations ops
-unfolding Givens
-given-operations ops g = record {
-  sizes = at-every (λ op. eqb (length op) 80) ops [] (λ i l. eq-eqb _ 80 (g i l .size));
-  fields = at-every operationFields ops [] (λ i l. g i l .fields);
-}
-
 -- memory after a commit
 abbrev left : Control → Memory → ℕ → List (List ℕ) → Memory
 left c m s ops = record {
@@ -75,7 +45,7 @@ left c m s ops = record {
 }
 
 -- a commit that no row stops
-module _ (c : Control) (m : Memory) (s : ℕ) (ops : List (List ℕ)) (a : Arrays c) (f : Formed c m) (w : KnownSession s (studioOf c s)) (g : Givens ops)
+module _ (c : Control) (m : Memory) (s : ℕ) (ops : List (List ℕ)) (a : Arrays c) (f : Formed c m) (w : KnownSession s (studioOf c s)) (o : Operations ops) (g : Givens ops)
     (k1 : 1 ≤ length ops) (k8 : length ops ≤ 8) (room : c .used + length ops ≤ 512) where
   primary : Copy (actAll (copyAt (m .library) 0) ops)
   primary =
@@ -84,7 +54,7 @@ module _ (c : Control) (m : Memory) (s : ℕ) (ops : List (List ℕ)) (a : Array
         size = length-copyAt (m .library) (f .library .size) 0 (omega arith);
         form = copy-in-use (c .studios) 0 _ (omega arith) (f .library .copies 0 (omega arith));
       })
-      (given-operations ops g)
+      o
 
   same-copy : copyAt (left c m s ops .library) 0 ≡ actAll (copyAt (m .library) 0) ops
   same-copy = copy-same (m .library) (f .library .size) 0 (omega arith) _ (primary .size)
@@ -154,11 +124,12 @@ module _ (c : Control) (m : Memory) (s : ℕ) (bytes : List ℕ) where
       rw (memory-passes c m rows (h .lengths) (h .layout))
       (unless-case (λ (r : After). OfLayout (r .control) (r .memory)) (stopped rows) _ _ (λ _ _. h)
       (λ e. let p = commit-passed _ _ _ _ _ _ e in
-      let k = size-count bytes (p .size) in
+      let k = operations-few bytes (p .size) in
       let a = arrays c m h in
       let f = formed c m h in
+      let o = operations-of bytes (p .form) in
       let g = givens bytes (p .form) in
-      of-layout _ _ (commit-arrays c m s (operationsOf bytes) a f (p .who) g (k .0) (k .1) (p .room)) (commit-formed c m s (operationsOf bytes) a f (p .who) g (k .0) (k .1) (p .room))))
+      of-layout _ _ (commit-arrays c m s (operationsOf bytes) a f (p .who) o g (k .0) (k .1) (p .room)) (commit-formed c m s (operationsOf bytes) a f (p .who) o g (k .0) (k .1) (p .room))))
 
   pub commit-simulates : (log : List Transaction) (sessions : List Session) → Represents c m (machineOf c log sessions)
       → Simulates (Bytes.commit c m s bytes) (Plain.commit (machineOf c log sessions) s bytes)
@@ -168,11 +139,11 @@ module _ (c : Control) (m : Memory) (s : ℕ) (bytes : List ℕ) where
       (unless-both Simulates (stopped rows) _ _ _ _
       (λ _. record { answer = refl; output = refl; next = h })
       (λ e. let p = commit-passed _ _ _ _ _ _ e in
-      let k = size-count bytes (p .size) in
+      let k = operations-few bytes (p .size) in
       record {
         answer = refl;
         output = refl;
-        next = commit-represents c m s (operationsOf bytes) (arrays c m (h .form)) (formed c m (h .form)) (p .who) (givens bytes (p .form)) (k .0) (k .1) (p .room) log sessions h;
+        next = commit-represents c m s (operationsOf bytes) (arrays c m (h .form)) (formed c m (h .form)) (p .who) (operations-of bytes (p .form)) (givens bytes (p .form)) (k .0) (k .1) (p .room) log sessions h;
       }))
     where
       used : recordsUsed log ≡ c .used

@@ -35,6 +35,9 @@ size-few bytes e =
     let high = within-high 80 640 (length bytes) w in
     (omega arith, omega arith)
 
+pub operations-few : (bytes : List ℕ) → sizeForm bytes ≡ true → (1 ≤ length (operationsOf bytes)) × (length (operationsOf bytes) ≤ 8)
+operations-few bytes e = rw (length-operations bytes) (size-few bytes e)
+
 -- rows 5 to 8
 module _ (used : ℕ) (primary bytes : List ℕ) where
   pub size-wrong : sizeForm bytes ≡ false → 5 ≡ stopped (operationRows used primary bytes)

@@ -16,13 +16,12 @@ use Rattle.replication.specs.Memory.{recordAt}
 use Rattle.replication.specs.Log.{nextOperation, nextTransaction, chain, recordsOf, transactionAt, handedIn, transactionsFrom, logRecords, transactionsForm, walk, front, writeAll, linked}
 use Rattle.replication.proofs.Occurrences.{count, Distinct, count-here, count-more, count-drop, count-front, count-append, every-of, every-in, every-both, every-first, every-last}
 use Rattle.replication.proofs.Chains.{chain-same, Chained, chained, of-chained, begins-count, last-in}
-use Rattle.replication.proofs.LinkLaws.{followedBy, length-followed, followed-next, followed-last, followed-fields, followed-handed}
+use Rattle.replication.proofs.LinkLaws.{followedBy, length-put, put-fields, followed-next, followed-last, followed-handed}
 use Rattle.replication.proofs.WriteLaws.{length-record, length-written, record-same, record-other, records-past, Givens, Written, written-kept, Wrote, wrote, new-of}
 
 -- a record that was in use: only the link of the last transaction's first record differs
 record Kept (log log′ : List ℕ) (last q : ℕ) : Type 0 where
   pub next : nextOperation log′ q ≡ nextOperation log q
-  pub fields : operationFields (recordAt log′ q) ≡ operationFields (recordAt log q)
   pub text : handedIn (recordAt log′ q) ≡ handedIn (recordAt log q)
   pub link : q ≢ last → nextTransaction log′ q ≡ nextTransaction log q
 
@@ -172,7 +171,7 @@ module _ (log new : List ℕ) (ops : List (List ℕ)) (size : length log ≡ 409
 
     length-x : length x ≡ 80
     unfolding x
-    length-x = length-followed (front new) (recordAt full last) length-last
+    length-x = length-put 14 (front new) (omega arith) (omega arith) (recordAt full last) length-last
 
     abbrev joined : List ℕ
     joined = linked full last (front new)
@@ -188,23 +187,21 @@ module _ (log new : List ℕ) (ops : List (List ℕ)) (size : length log ≡ 409
     before : (q : ℕ) → 1 ≤ count q (logRecords (suc n) log r) → recordAt full q ≡ recordAt log q
     before q l = let c = counts q in w .other q (in-log q l .0) (omega arith)
 
+    -- what the link does not change of a record
+    kept : {A : Type 0} (F : List ℕ → A) → F x ≡ F (recordAt full last) → (q : ℕ) → 1 ≤ count q (logRecords (suc n) log r) → F (recordAt joined q) ≡ F (recordAt log q)
+    kept F e q l = go (ℕ-discrete q last)
+      where
+        go : Dec (q ≡ last) → F (recordAt joined q) ≡ F (recordAt log q)
+        go (yes z) = ap (λ k. F (recordAt joined k)) z ∙ ap F same ∙ e ∙ ap F (ap (recordAt full) (sym z) ∙ before q l)
+        go (no ne) = ap F (other q (in-log q l .0) ne ∙ before q l)
+
     old : (q : ℕ) → 1 ≤ count q (logRecords (suc n) log r) → Kept log joined last q
     unfolding nextOperation nextTransaction x
-    old q l = go (ℕ-discrete q last)
-      where
-        go : Dec (q ≡ last) → Kept log joined last q
-        go (yes e) =
-            let r = ap (recordAt joined) e ∙ same in
-            let b = ap (recordAt full) (sym e) ∙ before q l in
-            record {
-              next = ap (λ (z : List ℕ). u16 z 12) r ∙ followed-next (front new) (recordAt full last) length-last ∙ ap (λ (z : List ℕ). u16 z 12) b;
-              fields = ap operationFields r ∙ followed-fields (front new) (recordAt full last) length-last ∙ ap operationFields b;
-              text = ap handedIn r ∙ followed-handed (front new) (recordAt full last) length-last ∙ ap handedIn b;
-              link = λ ne. absurd (ne e);
-            }
-        go (no ne) =
-            let r : recordAt joined q ≡ recordAt log q = other q (in-log q l .0) ne ∙ before q l in
-            record { next = ap (λ (z : List ℕ). u16 z 12) r; fields = ap operationFields r; text = ap handedIn r; link = λ _. ap (λ (z : List ℕ). u16 z 14) r }
+    old q l = record {
+      next = kept (λ z. u16 z 12) (followed-next (front new) (recordAt full last) length-last) q l;
+      text = kept handedIn (followed-handed (front new) (recordAt full last) length-last) q l;
+      link = λ ne. ap (λ z. u16 z 14) (other q (in-log q l .0) ne ∙ before q l);
+    }
 
     written : Written joined new ops
     written = written-kept full joined new ops (λ q l. other q (within-low 1 512 q (every-in (within 1 512) new inside q l)) (not-last q l)) (w .new)
@@ -224,7 +221,7 @@ module _ (log new : List ℕ) (ops : List (List ℕ)) (size : length log ≡ 409
           records-past full (w .size) last low high x length-x k (leb-true last k (every-in (λ q. leb q k) (logRecords (suc n) log r) (every-first (λ q. leb q k) (logRecords (suc n) log r) new h) last here))
           ∙ w .past k (every-last (λ q. leb q k) (logRecords (suc n) log r) new h);
       fields = λ h. every-both (λ q. operationFields (recordAt joined q)) (logRecords (suc n) log r) new
-          (every-of (λ q. operationFields (recordAt joined q)) (logRecords (suc n) log r) (λ q l. old q l .fields ∙ every-in (λ q. operationFields (recordAt log q)) (logRecords (suc n) log r) h q l))
+          (every-of (λ q. operationFields (recordAt joined q)) (logRecords (suc n) log r) (λ q l. kept operationFields (put-fields 14 (front new) (omega arith) (omega arith) (recordAt full last) length-last) q l ∙ every-in (λ q. operationFields (recordAt log q)) (logRecords (suc n) log r) h q l))
           (new-of joined new ops many inside g written .fields);
       chain = grows log joined last (front new) new ops link (alone joined written) n r form (λ q. let c = counts q in omega arith) old refl;
     }

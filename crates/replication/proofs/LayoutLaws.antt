@@ -49,9 +49,6 @@ UpwardTest c log = filledUpward (c .used) (logRecords (c .commits) log (firstRec
 abbrev pub ChainTest : Control → List ℕ → Bool
 ChainTest c log = FormTest c log && UpwardTest c log
 
-pub chain-is : (c : Control) (log : List ℕ) (first : ℕ) (v : Bool) → first ≡ firstRecord c → v ≡ (transactionsForm (c .commits) log first && filledUpward (c .used) (logRecords (c .commits) log first)) → v ≡ ChainTest c log
-chain-is c log first v e f = f ∙ rw e
-
 pub chain-fails : (c : Control) (m : Memory) → ChainTest c (m .log) ≡ false → false ≡ ofLayout c m
 unfolding layoutTests
 chain-fails c m e = go (FormTest c (m .log)) refl

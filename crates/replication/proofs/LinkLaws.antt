@@ -1,8 +1,8 @@
 -- Links in a record, bytes 12–13 and 14–15: where each is read, and what it leaves of the record.
 use mathlib.Core.Path.{_≡_, refl, _∙_}
 use mathlib.Core.Bool.{true}
-use mathlib.Core.List.{List, [], _∷_}
-use Prim.Native.Nat.{ℕ, _/_, _%_}
+use mathlib.Core.List.{List}
+use Prim.Native.Nat.{ℕ, _≤_}
 use native.Mathlib.Omega.{arith}
 use lib.ListN.{length}
 use Rattle.carts.specs.Bytes.{zeros, part, over, u16, u16Bytes, allZero}
@@ -28,18 +28,20 @@ no-links h t z =
     let z15 = zero-first (h .b15) _ (z14 .1) in
     (z12 .0, z13 .0, z14 .0, z15 .0)
 
-module _ (n : ℕ) (x : List ℕ) (l : length x ≡ 80) where
-  pub length-linked : length (linkedTo n x) ≡ 80
+-- either link
+module _ (at n : ℕ) (low : 12 ≤ at) (high : at ≤ 14) (x : List ℕ) (l : length x ≡ 80) where
+  pub length-put : length (over x at 2 (u16Bytes n)) ≡ 80
   unfolding u16Bytes
-  length-linked = length-over x 12 2 (n % 256 ∷ n / 256 ∷ []) (omega arith) refl ∙ l
+  length-put = length-over x at 2 (u16Bytes n) (omega arith) refl ∙ l
 
+  pub put-fields : operationFields (over x at 2 (u16Bytes n)) ≡ operationFields x
+  unfolding u16Bytes
+  put-fields = fields-links _ x (take-over x at 2 (u16Bytes n) 12 (omega arith) low) (drop-over-after x at 2 (u16Bytes n) 16 (omega arith) refl (omega arith))
+
+module _ (n : ℕ) (x : List ℕ) (l : length x ≡ 80) where
   pub linked-next : u16 (linkedTo n x) 12 ≡ n
   unfolding u16 u16Bytes
   linked-next = by-fields (λ x. u16 (linkedTo n x) 12 ≡ n) 0 (λ h t _. omega arith) x (omega arith)
-
-  pub linked-fields : operationFields (linkedTo n x) ≡ operationFields x
-  unfolding u16Bytes
-  linked-fields = fields-links (linkedTo n x) x (take-over x 12 2 (u16Bytes n) 12 (omega arith) (omega arith)) (drop-over-after x 12 2 (u16Bytes n) 16 (omega arith) refl (omega arith))
 
   pub linked-last : allZero (part x 12 4) ≡ true → u16 (linkedTo n x) 14 ≡ 0
   unfolding u16 u16Bytes
@@ -51,10 +53,6 @@ module _ (n : ℕ) (x : List ℕ) (l : length x ≡ 80) where
   linked-handed = by-fields (λ x. allZero (part x 12 4) ≡ true → handedIn (linkedTo n x) ≡ x) 0
       (λ h t _ z. let k = no-links h t z in rw (k .0, k .1, k .2, k .3)) x (omega arith)
 
-  pub length-followed : length (followedBy n x) ≡ 80
-  unfolding u16Bytes
-  length-followed = length-over x 14 2 (n % 256 ∷ n / 256 ∷ []) (omega arith) refl ∙ l
-
   pub followed-next : u16 (followedBy n x) 12 ≡ u16 x 12
   unfolding u16 u16Bytes
   followed-next = by-fields (λ x. u16 (followedBy n x) 12 ≡ u16 x 12) 0 (λ h t _. refl) x (omega arith)
@@ -62,10 +60,6 @@ module _ (n : ℕ) (x : List ℕ) (l : length x ≡ 80) where
   pub followed-last : u16 (followedBy n x) 14 ≡ n
   unfolding u16 u16Bytes
   followed-last = by-fields (λ x. u16 (followedBy n x) 14 ≡ n) 0 (λ h t _. omega arith) x (omega arith)
-
-  pub followed-fields : operationFields (followedBy n x) ≡ operationFields x
-  unfolding u16Bytes
-  followed-fields = fields-links (followedBy n x) x (take-over x 14 2 (u16Bytes n) 12 (omega arith) (omega arith)) (drop-over-after x 14 2 (u16Bytes n) 16 (omega arith) refl (omega arith))
 
   pub followed-handed : handedIn (followedBy n x) ≡ handedIn x
   unfolding handedIn u16Bytes zeros

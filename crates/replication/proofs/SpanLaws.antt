@@ -50,7 +50,7 @@ regroup false true p false e l = refl
 regroup false false p z e l = refl
 
 -- a record before the others
-pub own-cons : (most : ℕ) (log : List ℕ) (r x end : ℕ) (xs : List ℕ) → consecutiveForm (suc most) log (r ∷ x ∷ xs) r end
+own-cons : (most : ℕ) (log : List ℕ) (r x end : ℕ) (xs : List ℕ) → consecutiveForm (suc most) log (r ∷ x ∷ xs) r end
     ≡ (eqb x (r + 1) && (eqb (nextTransaction log x) 0 && consecutiveForm most log (x ∷ xs) (r + 1) end))
 unfolding consecutiveForm all within pairwise upFrom every
 own-cons most log r x end xs =
@@ -60,16 +60,16 @@ own-cons most log r x end xs =
     (regroup (leb (suc l) most) (eqb x (r + 1)) (pairwise eqb xs (upFrom (r + 1 + 1) l)) (eqb (nextTransaction log x) 0) (every (λ q. eqb (nextTransaction log q) 0) xs) (leb (r + 1 + suc l) end && true))
 
 -- the last record
-pub own-last : (most : ℕ) (log : List ℕ) (r end : ℕ) → r < end → consecutiveForm (suc most) log (r ∷ []) r end ≡ true
+own-last : (most : ℕ) (log : List ℕ) (r end : ℕ) → r < end → consecutiveForm (suc most) log (r ∷ []) r end ≡ true
 unfolding consecutiveForm all within pairwise upFrom every
 own-last most log r end h = rw (le-leb 1 (suc most) (omega arith), eq-eqb r r refl, le-leb (r + 1) end (omega arith))
 
 -- there is no transaction of no operation, and none that ends after `end`
-pub own-none : (log : List ℕ) (r x end : ℕ) (xs : List ℕ) → consecutiveForm 0 log (x ∷ xs) r end ≡ false
+own-none : (log : List ℕ) (r x end : ℕ) (xs : List ℕ) → consecutiveForm 0 log (x ∷ xs) r end ≡ false
 unfolding consecutiveForm all within
 own-none log r x end xs = rw (lt-leb (suc (length xs)) 0 (omega arith)) (simp and-false)
 
-pub own-beyond : (most : ℕ) (log : List ℕ) (r end : ℕ) (own : List ℕ) → end < r + length own → consecutiveForm most log own r end ≡ false
+own-beyond : (most : ℕ) (log : List ℕ) (r end : ℕ) (own : List ℕ) → end < r + length own → consecutiveForm most log own r end ≡ false
 unfolding consecutiveForm all
 own-beyond most log r end own h = rw (lt-leb (r + length own) end h) (simp and-false)
 
@@ -111,7 +111,7 @@ module _ (k : ℕ) (log : List ℕ) (r end : ℕ) (h : 1 ≤ r) (l : r < end) (l
   span-end x false e = span-next x (eqb x (r + 1)) (eqb-false x 0 e) refl
 
 -- counted one by one, or tested as a list: the same
-pub span-is : (k : ℕ) (log : List ℕ) (r end : ℕ) → 1 ≤ r → r < end → Same k log r end
+span-is : (k : ℕ) (log : List ℕ) (r end : ℕ) → 1 ≤ r → r < end → Same k log r end
 unfolding spanFrom
 span-is zero log r end h l = rw (chain-cons 0 log r h, own-none log r r end (chain 0 log (nextOperation log r)))
 span-is (suc k) log r end h l =
@@ -209,34 +209,8 @@ chain-suc n log first r end h =
         go (yes l) = rw (le-leb k (end - r) (omega arith), le-leb (r + k) end l)
         go (no l) = rw (lt-leb k (end - r) (omega arith), lt-leb (r + k) end (omega arith))
 
-module _ (log : List ℕ) (left first r end : ℕ) (h : 0 < left) (b : r ≤ end) where
-  chain-turn : Upward left log first r end
-      ≡ (consecutiveForm 8 log (recordsOf log first) r end && Upward (left - 1) log (nextTransaction log first) (r + length (recordsOf log first)) end)
-  chain-turn = let q : left ≡ suc (left - 1) = omega arith in ap (λ n. Upward n log first r end) q ∙ chain-suc (left - 1) log first r end b
-
-  chain-false : consecutiveForm 8 log (recordsOf log first) r end ≡ false → Upward left log first r end ≡ false
-  chain-false e = chain-turn ∙ rw e
-
-  -- the link leads elsewhere
-  chain-gap : (first ≡ r → ⊥) → Upward left log first r end ≡ false
-  chain-gap n = chain-false (own-gap log first r end n)
-
-  -- no transaction of the layout stands at r
-  chain-none : consecutiveForm 8 log (recordsOf log r) r end ≡ false → Upward left log first r end ≡ false
-  chain-none e = go (ℕ-discrete first r)
-    where
-      go : Dec (first ≡ r) → Upward left log first r end ≡ false
-      go (yes q) = chain-false (rw q e)
-      go (no n) = chain-gap n
-
-  -- the log ends before
-  pub chain-past : 1 ≤ r → end ≤ r → Upward left log first r end ≡ false
-  chain-past k l =
-      let some : 1 ≤ length (recordsOf log r) = records-some log r k in
-      chain-none (own-beyond 8 log r end (recordsOf log r) (omega arith))
-
 module _ (log : List ℕ) (r end v : ℕ) (k : 1 ≤ r) (s : v ≡ spanOf log r end) where
-  pub span-zero : v ≡ 0 → consecutiveForm 8 log (recordsOf log r) r end ≡ false
+  span-zero : v ≡ 0 → consecutiveForm 8 log (recordsOf log r) r end ≡ false
   unfolding spanOf
   span-zero z = go (consecutiveForm 8 log (recordsOf log r) r end) (sym s ∙ z)
     where
@@ -244,7 +218,7 @@ module _ (log : List ℕ) (r end v : ℕ) (k : 1 ≤ r) (s : v ≡ spanOf log r 
       go true e = let some : 1 ≤ length (recordsOf log r) = records-some log r k in absurd (omega arith)
       go false e = refl
 
-  pub span-some : (v ≡ 0 → ⊥) → (consecutiveForm 8 log (recordsOf log r) r end ≡ true) × (length (recordsOf log r) ≡ v)
+  span-some : (v ≡ 0 → ⊥) → (consecutiveForm 8 log (recordsOf log r) r end ≡ true) × (length (recordsOf log r) ≡ v)
   unfolding spanOf
   span-some z = go (consecutiveForm 8 log (recordsOf log r) r end) s
     where
@@ -257,17 +231,32 @@ module _ (log : List ℕ) (r end v : ℕ) (k : 1 ≤ r) (s : v ≡ spanOf log r 
       let f = span-some z in
       rw (← (f .1)) (leb-true (r + length (recordsOf log r)) end (own-ends 8 log (recordsOf log r) r end (f .0)))
 
--- a turn of a loop over transactions: v is the span of the one at r
-module _ (log : List ℕ) (left first r end v : ℕ) (h : 0 < left) (b : r ≤ end) (k : 1 ≤ r) (s : v ≡ spanOf log r end) where
-  pub chain-bad : v ≡ 0 → Upward left log first r end ≡ false
-  chain-bad z = chain-none log left first r end h b (span-zero log r end v k s z)
-
-  pub chain-step : (v ≡ 0 → ⊥) → Upward left log first r end ≡ (eqb first r && Upward (left - 1) log (nextTransaction log r) (r + v) end)
-  chain-step z = go (ℕ-discrete first r)
+-- a turn of a loop over transactions
+module _ (log : List ℕ) (left first r end : ℕ) (h : 0 < left) (b : r ≤ end) where
+  chain-turn : Upward left log first r end
+      ≡ (eqb first r && (consecutiveForm 8 log (recordsOf log r) r end && Upward (left - 1) log (nextTransaction log r) (r + length (recordsOf log r)) end))
+  chain-turn = let q : left ≡ suc (left - 1) = omega arith in ap (λ n. Upward n log first r end) q ∙ chain-suc (left - 1) log first r end b ∙ go (ℕ-discrete first r)
     where
-      go : Dec (first ≡ r) → Upward left log first r end ≡ (eqb first r && Upward (left - 1) log (nextTransaction log r) (r + v) end)
-      go (yes q) = let f = span-some log r end v k s z in chain-turn log left first r end h b ∙ rw (q, f .0, f .1, eq-eqb r r refl)
-      go (no n) = chain-gap log left first r end h b n ∙ rw (ne-eqb first r n)
+      go : Dec (first ≡ r) → (consecutiveForm 8 log (recordsOf log first) r end && Upward (left - 1) log (nextTransaction log first) (r + length (recordsOf log first)) end)
+          ≡ (eqb first r && (consecutiveForm 8 log (recordsOf log r) r end && Upward (left - 1) log (nextTransaction log r) (r + length (recordsOf log r)) end))
+      go (yes q) = rw (q, eq-eqb r r refl)
+      go (no n) = rw (own-gap log first r end n, ne-eqb first r n)
+
+  chain-none : consecutiveForm 8 log (recordsOf log r) r end ≡ false → Upward left log first r end ≡ false
+  chain-none e = chain-turn ∙ rw e (and-false (eqb first r))
+
+  module _ (k : 1 ≤ r) where
+    -- the log ends before
+    pub chain-past : end ≤ r → Upward left log first r end ≡ false
+    chain-past l = let some = records-some log r k in chain-none (own-beyond 8 log r end (recordsOf log r) (omega arith))
+
+    -- v is the span of the transaction at r
+    module _ (v : ℕ) (s : v ≡ spanOf log r end) where
+      pub chain-bad : v ≡ 0 → Upward left log first r end ≡ false
+      chain-bad z = chain-none (span-zero log r end v k s z)
+
+      pub chain-step : (v ≡ 0 → ⊥) → Upward left log first r end ≡ (eqb first r && Upward (left - 1) log (nextTransaction log r) (r + v) end)
+      chain-step z = let f = span-some log r end v k s z in chain-turn ∙ rw (f .0, f .1)
 
 pub chain-done : (log : List ℕ) (left first r end : ℕ) → left ≤ 0 → r ≤ end → Upward left log first r end ≡ (eqb first 0 && eqb r end)
 unfolding transactionsForm logRecords pairwise upFrom
@@ -278,6 +267,6 @@ chain-done log left first r end h b = let e : left ≡ 0 = omega arith in rw (e,
     none (suc n) e = sym (ne-eqb r end (λ q. omega arith))
 
 -- from record 1 on, before the record after the `used` ones, that is the layout's test
-pub upward-whole : (log : List ℕ) (n first used : ℕ) → Upward n log first 1 (used + 1) ≡ (transactionsForm n log first && filledUpward used (logRecords n log first))
+pub upward-whole : (n : ℕ) (log : List ℕ) (first used : ℕ) → Upward n log first 1 (used + 1) ≡ (transactionsForm n log first && filledUpward used (logRecords n log first))
 unfolding filledUpward
-upward-whole log n first used = let e : used + 1 - 1 ≡ used = omega arith in rw e
+upward-whole n log first used = let e : used + 1 - 1 ≡ used = omega arith in rw e

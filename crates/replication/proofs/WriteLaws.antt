@@ -7,16 +7,17 @@ use mathlib.Core.List.{List, [], _∷_, map}
 use native.Mathlib.Omega.{arith}
 use lib.ListN.{length, drop, getD}
 use lib.Dec.{leb, eqb}
-use borrow.Author.Tests.{leb-true}
+use borrow.Author.Tests.{eqb-true, leb-true}
 use Rattle.carts.specs.Bytes.{part, within, every, allZero}
-use Rattle.carts.specs.Operation.{operationFields}
-use Rattle.carts.proofs.TestLaws.{and-left, and-right, within-low, within-high}
+use Rattle.carts.specs.Operation.{operationFields, operationForm, operationsOf}
+use Rattle.carts.proofs.TestLaws.{and-left, and-right, all-at, every-at, within-low, within-high}
+use Rattle.carts.proofs.OperationLaws.{operations-of}
 use Rattle.carts.proofs.CellLaws.{length-cell, length-cells, cell-same, cell-other, cells-past}
 use Rattle.replication.specs.Memory.{recordAt, withRecord}
 use Rattle.replication.specs.Log.{nextOperation, nextTransaction, chain, front, writeAll, handedIn}
 use Rattle.replication.proofs.Occurrences.{count, Distinct, count-here, count-more}
 use Rattle.replication.proofs.Chains.{chain-cons, chain-zero}
-use Rattle.replication.proofs.LinkLaws.{linkedTo, length-linked, linked-next, linked-fields, linked-last, linked-handed}
+use Rattle.replication.proofs.LinkLaws.{linkedTo, length-put, put-fields, linked-next, linked-last, linked-handed}
 
 -- one record written
 module _ (log : List ℕ) (n : length log ≡ 40960) (r : ℕ) (low : 1 ≤ r) (high : r ≤ 512) where
@@ -50,6 +51,17 @@ pub record Given (op : List ℕ) : Type 0 where
 unfoldable pub Givens : List (List ℕ) → Type 0
 Givens ops = (i : ℕ) → i < length ops → Given (getD ops i [])
 
+pub givens : (bytes : List ℕ) → every operationForm (operationsOf bytes) ≡ true → Givens (operationsOf bytes)
+unfolding Givens operationForm
+givens bytes h i l =
+    let o = operations-of bytes h in
+    let op = getD (operationsOf bytes) i [] in
+    record {
+      size = eqb-true _ 80 (every-at (λ op. eqb (length op) 80) (operationsOf bytes) [] i (o .sizes) l);
+      fields = every-at operationFields (operationsOf bytes) [] i (o .fields) l;
+      plain = all-at 1 (operationFields op ∷ allZero (part op 12 4) ∷ []) (every-at operationForm (operationsOf bytes) [] i h l);
+    }
+
 -- the log has the operations in the records rs
 unfoldable pub Written : List ℕ → List ℕ → List (List ℕ) → Type 0
 Written log [] ops = Unit {0}
@@ -78,7 +90,7 @@ wrote [] ops log n k i d g = record { size = n; other = λ q a b. refl; past = �
 wrote (r ∷ rs) [] log n k i d g = let z : ⊥ = omega arith in absurd z
 wrote (r ∷ rs) (op ∷ ops) log n k i d g =
     let x = linkedTo (front rs) op in
-    let e : length x ≡ 80 = length-linked (front rs) op (g 0 (omega arith) .size) in
+    let e : length x ≡ 80 = length-put 12 (front rs) (omega arith) (omega arith) op (g 0 (omega arith) .size) in
     let here = and-left (within 1 512 r) (every (within 1 512) rs) i in
     let low = within-low 1 512 r here in
     let high = within-high 1 512 r here in
@@ -113,7 +125,7 @@ new-of log (r ∷ rs) (op ∷ ops) k i g w =
     let o = g 0 (omega arith) in
     record {
       own = λ room l. more room l (within-low 1 512 r (and-left (within 1 512 r) (every (within 1 512) rs) i)) (rw (w .0) (linked-next (front rs) op (o .size))) (x .own);
-      fields = rw (w .0, linked-fields (front rs) op (o .size), o .fields) (x .fields);
+      fields = rw (w .0, put-fields 12 (front rs) (omega arith) (omega arith) op (o .size), o .fields) (x .fields);
       last = rw (w .0, linked-last (front rs) op (o .size) (o .plain)) (x .last);
       handed = rw (w .0, linked-handed (front rs) op (o .size) (o .plain)) (ap (λ (z : List (List ℕ)). op ∷ z) (x .handed));
     }

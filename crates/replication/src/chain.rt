@@ -1,11 +1,12 @@
 // The log's chain of transactions.
+use crate::control::Control;
 use crate::record::Record;
 ghost use mathlib.Core.Path.{_≡_};
 ghost use mathlib.Core.Bool.{_&&_};
 ghost use Prim.Native.Nat.{ℕ, _+_, _*_, _-_, _<_, _≤_};
 ghost use lib.ListN.{length};
 ghost use Rattle.replication.specs.Memory.{recordCount, logSize};
-ghost use Rattle.replication.specs.Log.{logRecords, transactionsForm, filledUpward};
+ghost use Rattle.replication.specs.Log.{logRecords, transactionsForm, firstRecord, filledUpward};
 ghost use Rattle.replication.specs.Values.{spanOf};
 
 // The links are compared by flags, so that the loops do not wait for one load after the other.
@@ -38,15 +39,17 @@ fn span(log: &[u8], first: u32, used: u32) -> u32
     0
 }
 
-// The log's chain, from record `first` on, has exactly `commits` transactions, in the records 1 to `used`.
-pub fn is_chain(log: &[u8], first: u32, commits: u32, used: u32) -> bool
-    requires { ⌜ (length (now log) ≡ logSize) × (used ≤ recordCount) ⌝ }
-    ensures { λ v. ⌜ v ≡ (transactionsForm commits (now (log .entry)) first && filledUpward used (logRecords commits (now (log .entry)) first)) ⌝ }
+// The log's chain has exactly `commits` transactions, in the records 1 to `used`.
+pub fn is_chain(control: Control, log: &[u8]) -> bool
+    requires { ⌜ (length (now log) ≡ logSize) × (control .used ≤ recordCount) ⌝ }
+    ensures { λ v. ⌜ v ≡ (transactionsForm (control .commits) (now (log .entry)) (firstRecord control)
+        && filledUpward (control .used) (logRecords (control .commits) (now (log .entry)) (firstRecord control))) ⌝ }
 {
+    let used = control.used;
     let mut ok = true;
-    let mut next = first;
+    let mut next = control.first_record();
     let mut r: u32 = 1;
-    let mut left = commits;
+    let mut left = control.commits;
     while 0 < left {
         ok &= next == r;
         if used < r {

@@ -108,7 +108,7 @@ pub fn is_layout(control: Control, library: &[u8], log: &[u8], sessions: &[u8]) 
     if !bytes::all_zero(&log[end..]) {
         return false;
     }
-    if !chain::is_chain(log, control.first_record(), control.commits, used) {
+    if !chain::is_chain(control, log) {
         return false;
     }
     if !are_sessions(control, sessions) {

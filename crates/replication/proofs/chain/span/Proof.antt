@@ -22,7 +22,7 @@ abbrev μ-loop : tie.MeasureT-loop
 next-is : (c : tie.After-at Inv-loop μ-loop) → c .at .result .«next_operation» ≡ nextOperation (now (c .before .before .before .before .args .log)) (c .before .before .loop .r)
 next-is c = ap (λ (x : Record). x .«next_operation») (c .at .ensures .0)
 
-later-is : (c : tie.After-at2 Inv-loop μ-loop) → c .at2 .result .«next_transaction» ≡ nextTransaction (now (c .before .before .before .before .before .before .before .args .log)) (c .before .before .before .before .before .loop .r + 1)
+later-is : (c : tie.After-at2 Inv-loop μ-loop) → let t = c .before .before .before .before .before in c .at2 .result .«next_transaction» ≡ nextTransaction (now (t .before .before .args .log)) (t .loop .r + 1)
 later-is c = ap (λ (x : Record). x .«next_transaction») (c .at2 .ensures .0)
 
 loop-holds : tie.Need-loop-holds Inv-loop μ-loop

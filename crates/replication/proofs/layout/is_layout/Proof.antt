@@ -4,7 +4,7 @@ use Prim.Native.Nat.{_*_}
 use lib.ListN.{drop}
 use Rattle.carts.specs.Bytes.{allZero}
 use Rattle.replication.specs.Layout.{layoutTests}
-use Rattle.replication.proofs.LayoutLaws.{layout-fails, chain-is, chain-fails, layout-last, rest-is}
+use Rattle.replication.proofs.LayoutLaws.{layout-fails, chain-fails, layout-last, rest-is}
 use borrow.Author.Needs.{needs}
 use Rattle.replication.proofs.layout.is_layout.Statement.{statement}
 use Rattle.replication.proofs.layout.is_layout.Tie as tie
@@ -69,14 +69,11 @@ returns-6 : tie.Need-returns-6
 unfolding layoutTests
 returns-6 c = layout-fails _ _ 5 (zeros-after (c .before) ∙ not-true (c .before .all-zero .result) (c .if6 .taken))
 
-first-record-requires : tie.Need-first-record-requires
-first-record-requires c κs = search needs
-
 is-chain-requires : tie.Need-is-chain-requires
 is-chain-requires c κs = search needs
 
 returns-7 : tie.Need-returns-7
-returns-7 c = chain-fails _ _ (sym (chain-is _ _ _ (c .before .is-chain .result) (c .before .before .first-record .ensures) (c .before .is-chain .ensures)) ∙ not-true (c .before .is-chain .result) (c .if7 .taken))
+returns-7 c = chain-fails _ _ (sym (c .before .is-chain .ensures) ∙ not-true (c .before .is-chain .result) (c .if7 .taken))
 
 are-sessions-requires : tie.Need-are-sessions-requires
 are-sessions-requires c κs = search needs
@@ -91,7 +88,7 @@ are-counts-requires c κs = search needs
 returns-9 : tie.Need-returns-9
 returns-9 c = let s = c .before .before in
     let k = s .before .before in
-    let z = k .before .before .before in
+    let z = k .before .before in
     let r = z .before .before .before in
     let v = r .before .before .before in
     let w = v .before .before in
@@ -102,8 +99,8 @@ returns-9 c = let s = c .before .before in
     (sym (v .are-replicas .ensures) ∙ not-false (v .are-replicas .result) (r .before .before .if3 .left))
     (le-leb _ _ (r .before .if4 .left))
     (sym (r .are-records .ensures) ∙ not-false (r .are-records .result) (z .before .before .if5 .left))
-    (zeros-after z ∙ not-false (z .all-zero .result) (k .before .before .if6 .left))
-    (sym (chain-is _ _ _ (k .is-chain .result) (k .before .first-record .ensures) (k .is-chain .ensures)) ∙ not-false (k .is-chain .result) (s .before .if7 .left))
+    (zeros-after z ∙ not-false (z .all-zero .result) (k .before .if6 .left))
+    (sym (k .is-chain .ensures) ∙ not-false (k .is-chain .result) (s .before .if7 .left))
     (sym (s .are-sessions .ensures) ∙ not-false (s .are-sessions .result) (c .before .if8 .left))
 
 pub is-layout-spec : {M : Type 1} → statement M
@@ -126,7 +123,6 @@ is-layout-spec =
     part-all-zero-end
     all-zero-requires
     returns-6
-    first-record-requires
     is-chain-requires
     returns-7
     are-sessions-requires

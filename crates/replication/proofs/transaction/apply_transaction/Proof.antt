@@ -22,8 +22,11 @@ Inv-loop copy₀ log first r₀ left₀ copy r left =
 abbrev μ-loop : tie.MeasureT-loop
 μ-loop copy₀ log first r₀ left₀ copy r left = left
 
+abbrev start : tie.Else1 Inv-loop μ-loop → tie.Start Inv-loop μ-loop
+start c = c .before .before .before .before .before
+
 -- the record that acts next
-here : (c : tie.Else1 Inv-loop μ-loop) → Usable (c .before .before .before .before .before .args .log .now) (c .before .before .loop .r)
+here : (c : tie.Else1 Inv-loop μ-loop) → Usable (start c .args .log .now) (c .before .before .loop .r)
 here c = let t = c .before .before in usable-here _ (t .loop .left) (t .loop .r) (c .before .loop-test .taken) (c .if1 .left) (t .loop .inv .1)
 
 loop-holds : tie.Need-loop-holds Inv-loop μ-loop
@@ -37,7 +40,7 @@ returns : tie.Need-returns Inv-loop μ-loop
 returns c = let t = c .before .before in sym (t .loop .inv .2 ∙ acts-ends _ _ _ _ (c .if1 .taken))
 
 record-at-requires : tie.Need-record-at-requires Inv-loop μ-loop
-record-at-requires c κs = let u = here (c .before) in (c .before .before .before .before .before .before .pre .1 .0, (u .low, u .high))
+record-at-requires c κs = let u = here (c .before) in (start (c .before) .pre .1 .0, (u .low, u .high))
 
 apply-requires : tie.Need-apply-requires Inv-loop μ-loop
 apply-requires c κs = let u = here (c .before .before) in
@@ -45,7 +48,7 @@ apply-requires c κs = let u = here (c .before .before) in
     ((c .before .before .before .before .loop .inv .0, e .1), (rw (e .0) (u .cart-low), rw (e .0) (u .cart-high)))
 
 at-requires : tie.Need-at-requires Inv-loop μ-loop
-at-requires c κs = let u = here (c .before .before .before .before .before) in (c .before .before .before .before .before .before .before .before .before .before .pre .1 .0, (u .low, u .high))
+at-requires c κs = let e = c .before .before .before .before .before in let u = here e in (start e .pre .1 .0, (u .low, u .high))
 
 sub-left : tie.Need-sub-left Inv-loop μ-loop
 sub-left c = omega arith
