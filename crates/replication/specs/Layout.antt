@@ -1,13 +1,13 @@
 -- Document 01, "Of this layout": a test of control and the three memories, for any bytes and any control.
 use mathlib.Core.Bool.{Bool, cond}
 use mathlib.Core.List.{List, [], _∷_}
-use Prim.Native.Nat.{ℕ, _*_, _-_}
+use Prim.Native.Nat.{ℕ, _+_, _*_, _-_}
 use lib.ListN.{drop}
 use lib.Dec.{leb, eqb}
 use Rattle.carts.specs.Bytes.{part, byte, within, all, every, allZero, eachPart}
-use Rattle.carts.specs.Cart.{titleSize, copySize, copyForm}
+use Rattle.carts.specs.Cart.{titleSize, numberAt, titleAt, copySize, copyForm}
 use Rattle.carts.specs.Operation.{operationFields}
-use Rattle.replication.specs.Memory.{Memory, copyCount, recordSize, recordCount, sessionSize, sessionCount, studioCount, window, unusedAt, payloadAt, sequenceOf, nth, studioOf}
+use Rattle.replication.specs.Memory.{Memory, copyCount, recordSize, recordCount, sessionSize, sessionCount, studioCount, window, sequenceOf, nth, studioOf}
 use Rattle.replication.specs.Log.{logRecords, transactionsForm, firstRecord, filledUpward}
 use Rattle.replication.specs.Request.{requestFields}
 use Rattle.replication.specs.declared.control.Control.{Control}
@@ -22,13 +22,13 @@ recordForm r x = operationFields x
 
 -- "With byte 0 zero, byte 1 and bytes 16–79 are zero", else a read
 unfoldable pub waitingForm : List ℕ → Bool
-waitingForm s = cond (eqb (byte s 0) 0) (all (eqb (byte s 1) 0 ∷ allZero (part s payloadAt titleSize) ∷ [])) (requestFields s)
+waitingForm s = cond (eqb (byte s 0) 0) (all (eqb (byte s 1) 0 ∷ allZero (part s titleAt titleSize) ∷ [])) (requestFields s)
 
 -- "An unused session is all zero"; "each session number ≤ commits"; "Bytes 4–15 zero"
 unfoldable pub sessionForm : Control → ℕ → List ℕ → Bool
 sessionForm c s x =
     cond (eqb (studioOf c s) 0) (allZero x)
-    (all (leb (sequenceOf x) (c .commits) ∷ allZero (part x unusedAt (payloadAt - unusedAt)) ∷ waitingForm x ∷ []))
+    (all (leb (sequenceOf x) (c .commits) ∷ allZero (part x (numberAt + 2) (titleAt - numberAt - 2)) ∷ waitingForm x ∷ []))
 
 -- "applied ≤ sent ≤ commits and sent − applied ≤ 32 for each studio; studios above S have both at 0"
 unfoldable pub countsForm : Control → ℕ → Bool

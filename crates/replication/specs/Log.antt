@@ -5,16 +5,17 @@ use Prim.Native.Nat.{ℕ, zero, suc, _+_, _-_}
 use lib.ListN.{length, drop}
 use lib.Dec.{ltb, eqb}
 use Rattle.carts.specs.Bytes.{over, u16, u16Bytes, within, all, every, pairwise, zeros}
-use Rattle.replication.specs.Memory.{recordCount, logSize, nextOperationAt, nextTransactionAt, mostOperations, tooManyOperations, recordAt, withRecord}
+use Rattle.carts.specs.Cart.{linksAt}
+use Rattle.replication.specs.Memory.{recordCount, logSize, mostOperations, recordAt, withRecord}
 use Rattle.replication.specs.declared.control.Control.{Control}
 
 -- "bytes 12–13 are the index of the next operation of its transaction"
 unfoldable pub nextOperation : List ℕ → ℕ → ℕ
-nextOperation log r = u16 (recordAt log r) nextOperationAt
+nextOperation log r = u16 (recordAt log r) linksAt
 
 -- "bytes 14–15, in a transaction's first record only, are the first record of the next transaction"
 unfoldable pub nextTransaction : List ℕ → ℕ → ℕ
-nextTransaction log r = u16 (recordAt log r) nextTransactionAt
+nextTransaction log r = u16 (recordAt log r) (linksAt + 2)
 
 -- "Zero ends either chain": the records from r on along bytes 12–13, at most n
 unfoldable pub chain : ℕ → List ℕ → ℕ → List ℕ
@@ -25,7 +26,7 @@ chain (suc n) log r =
 
 -- the records of the transaction whose first record is r; one more than it may have, so that a longer one shows
 unfoldable pub recordsOf : List ℕ → ℕ → List ℕ
-recordsOf log r = chain tooManyOperations log r
+recordsOf log r = chain (mostOperations + 1) log r
 
 -- the operations of that transaction, each with its links in bytes 12–15
 unfoldable pub transactionAt : List ℕ → ℕ → List (List ℕ)
@@ -33,7 +34,7 @@ transactionAt log r = map (recordAt log) (recordsOf log r)
 
 -- a record's operation as it was handed in: its links, bytes 12–15, are zero again
 unfoldable pub handedIn : List ℕ → List ℕ
-handedIn x = over x nextOperationAt 4 (zeros 4)
+handedIn x = over x linksAt 4 (zeros 4)
 
 -- n transactions along the chain, the first at record r: their operations as they were handed in
 unfoldable pub transactionsFrom : ℕ → List ℕ → ℕ → List (List (List ℕ))
@@ -96,11 +97,11 @@ front (r ∷ rs) = r
 unfoldable pub writeAll : List ℕ → List (List ℕ) → List ℕ → List ℕ
 writeAll [] ops log = log
 writeAll (r ∷ rs) [] log = log
-writeAll (r ∷ rs) (op ∷ ops) log = writeAll rs ops (withRecord log r (over op nextOperationAt 2 (u16Bytes (front rs))))
+writeAll (r ∷ rs) (op ∷ ops) log = writeAll rs ops (withRecord log r (over op linksAt 2 (u16Bytes (front rs))))
 
 -- the record of the transaction before, with the first record of the new transaction in bytes 14–15
 unfoldable pub linked : List ℕ → ℕ → ℕ → List ℕ
-linked log r first = withRecord log r (over (recordAt log r) nextTransactionAt 2 (u16Bytes first))
+linked log r first = withRecord log r (over (recordAt log r) (linksAt + 2) 2 (u16Bytes first))
 
 -- the log after a commit: its operations appended, and the last transaction before linked to them
 unfoldable pub appended : Control → List ℕ → List (List ℕ) → List ℕ

@@ -5,7 +5,7 @@ use Prim.Native.Nat.{ℕ, _*_, _-_}
 use lib.ListN.{length, getD}
 use lib.Dec.{eqb}
 use Rattle.carts.specs.Bytes.{part, over, u16, u16Bytes, all}
-use Rattle.carts.specs.Cart.{copySize}
+use Rattle.carts.specs.Cart.{copySize, numberAt}
 use Rattle.replication.specs.declared.control.Control.{Control}
 
 pub record Memory : Type 0 where
@@ -33,19 +33,9 @@ recordCount = 512
 abbrev pub logSize : ℕ
 logSize = 40960
 
--- "bytes 12–13 are the index of the next operation"; "bytes 14–15 .. are the first record of the next transaction"
-abbrev pub nextOperationAt : ℕ
-nextOperationAt = 12
-
-abbrev pub nextTransactionAt : ℕ
-nextTransactionAt = 14
-
--- "transactions of 1 to 8 operations"; a chain of one record more shows a longer one
+-- "transactions of 1 to 8 operations"
 abbrev pub mostOperations : ℕ
 mostOperations = 8
-
-abbrev pub tooManyOperations : ℕ
-tooManyOperations = 9
 
 -- "Session memory, 1,280 bytes: 16 sessions of 80 bytes, counted from 1"
 abbrev pub sessionSize : ℕ
@@ -57,16 +47,7 @@ sessionCount = 16
 abbrev pub sessionsSize : ℕ
 sessionsSize = 1280
 
--- "Bytes 2–3: the session's number. Bytes 4–15 zero. Bytes 16–79: u16 cart numbers .. or the title"; "count of numbers 1–32"
-abbrev pub sequenceAt : ℕ
-sequenceAt = 2
-
-abbrev pub unusedAt : ℕ
-unusedAt = 4
-
-abbrev pub payloadAt : ℕ
-payloadAt = 16
-
+-- "count of numbers 1–32"
 abbrev pub numbersMost : ℕ
 numbersMost = 32
 
@@ -105,10 +86,10 @@ withSession sessions s x = over sessions (sessionSize * (s - 1)) sessionSize x
 
 -- "Bytes 2–3: the session's number" (its sequence number)
 unfoldable pub sequenceOf : List ℕ → ℕ
-sequenceOf x = u16 x sequenceAt
+sequenceOf x = u16 x numberAt
 
 unfoldable pub withSequence : ℕ → List ℕ → List ℕ
-withSequence n x = over x sequenceAt 2 (u16Bytes n)
+withSequence n x = over x numberAt 2 (u16Bytes n)
 
 -- control's entry for session or studio i, counted from 1
 abbrev pub nth : List ℕ → ℕ → ℕ

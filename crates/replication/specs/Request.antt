@@ -5,8 +5,8 @@ use Prim.Native.Nat.{ℕ, _*_, _-_}
 use lib.ListN.{length, drop}
 use lib.Dec.{eqb}
 use Rattle.carts.specs.Bytes.{part, byte, u16s, within, all, every, allZero}
-use Rattle.carts.specs.Cart.{cartSize, cartCount, titleSize, titleForm}
-use Rattle.replication.specs.Memory.{Memory, sessionSize, sequenceAt, payloadAt, numbersMost, sessionAt}
+use Rattle.carts.specs.Cart.{cartSize, cartCount, titleSize, numberAt, titleAt, titleForm}
+use Rattle.replication.specs.Memory.{Memory, sessionSize, numbersMost, sessionAt}
 use Rattle.carts.specs.Title.{shownByNumbers, foundByNumbers, shownByTitle, foundByTitle}
 
 -- "A session's waiting read is a case (nothing, numbers, title)"; a request is one of the last two
@@ -17,13 +17,13 @@ pub data Request : Type 0 where
 
 -- "Bytes 16–79: u16 cart numbers": as many as byte 1 says
 unfoldable pub numbersIn : List ℕ → List ℕ
-numbersIn s = u16s (byte s 1) (drop payloadAt s)
+numbersIn s = u16s (byte s 1) (drop titleAt s)
 
 -- "Byte 0: 0 nothing waiting, 1 by numbers, 2 by title. Byte 1: count of numbers, or title length. Bytes 16–79: .."
 unfoldable pub requestOf : List ℕ → Request
 requestOf s =
     cond (eqb (byte s 0) 1) (byNumbers (numbersIn s))
-    (cond (eqb (byte s 0) 2) (byTitle (part s payloadAt (byte s 1)))
+    (cond (eqb (byte s 0) 2) (byTitle (part s titleAt (byte s 1)))
     nothing)
 
 -- the read that session s has waiting
@@ -32,18 +32,18 @@ waitingIn m s = requestOf (sessionAt (m .sessions) s)
 
 -- "count of numbers 1–32"; "u16 cart numbers 1–128 .., then zeros"
 unfoldable pub numbersForm : List ℕ → Bool
-numbersForm s = all (within 1 numbersMost (byte s 1) ∷ every (within 1 cartCount) (numbersIn s) ∷ allZero (drop (2 * byte s 1) (part s payloadAt titleSize)) ∷ [])
+numbersForm s = all (within 1 numbersMost (byte s 1) ∷ every (within 1 cartCount) (numbersIn s) ∷ allZero (drop (2 * byte s 1) (part s titleAt titleSize)) ∷ [])
 
 -- byte 0 of 1 or 2, and byte 1 and bytes 16–79 within their rule
 unfoldable pub requestFields : List ℕ → Bool
 requestFields s =
     cond (eqb (byte s 0) 1) (numbersForm s)
-    (cond (eqb (byte s 0) 2) (titleForm (byte s 1) (part s payloadAt titleSize))
+    (cond (eqb (byte s 0) 2) (titleForm (byte s 1) (part s titleAt titleSize))
     false)
 
 -- "A read request is 80 bytes of this form with byte 0 of 1 or 2 and bytes 2–15 zero"
 unfoldable pub requestForm : List ℕ → Bool
-requestForm s = all (eqb (length s) sessionSize ∷ requestFields s ∷ allZero (part s sequenceAt (payloadAt - sequenceAt)) ∷ [])
+requestForm s = all (eqb (length s) sessionSize ∷ requestFields s ∷ allZero (part s numberAt (titleAt - numberAt)) ∷ [])
 
 unfoldable pub isWaiting : Request → Bool
 isWaiting nothing = false

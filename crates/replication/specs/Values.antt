@@ -5,9 +5,9 @@ use Prim.Native.Nat.{ℕ, zero, suc, _+_, _*_, _-_}
 use lib.ListN.{length, drop}
 use lib.Dec.{leb, eqb}
 use Rattle.carts.specs.Bytes.{part, byte, u16, within, all, every, allZero, pairwise}
-use Rattle.carts.specs.Cart.{cartSize, cartCount}
+use Rattle.carts.specs.Cart.{cartSize, cartCount, numberAt, titleAt}
 use Rattle.replication.specs.Log.{nextOperation, nextTransaction, recordsOf, upFrom}
-use Rattle.replication.specs.Memory.{recordCount, mostOperations, unusedAt, payloadAt, recordAt, sessionAt, sequenceOf, nth, studioOf}
+use Rattle.replication.specs.Memory.{recordCount, mostOperations, recordAt, sessionAt, sequenceOf, nth, studioOf}
 use Rattle.replication.specs.Layout.{waitingForm}
 use Rattle.replication.specs.declared.session.Session.{Session}
 use Rattle.replication.specs.declared.session.Waiting.{Waiting}
@@ -37,7 +37,7 @@ neededBy (Title n) = cartSize
 unfoldable pub sessionFormOf : ℕ → ℕ → List ℕ → Bool
 sessionFormOf studio commits x =
     cond (eqb studio 0) (allZero x)
-    (all (leb (sequenceOf x) commits ∷ allZero (part x unusedAt (payloadAt - unusedAt)) ∷ waitingForm x ∷ []))
+    (all (leb (sequenceOf x) commits ∷ allZero (part x (numberAt + 2) (titleAt - numberAt - 2)) ∷ waitingForm x ∷ []))
 
 -- a record's links
 abbrev pub linksOf : List ℕ → ℕ → Record

@@ -25,7 +25,7 @@ fn is_size(operations: &[u8]) -> bool
     ensures { λ r. ⌜ r ≡ sizeForm (now (operations .entry)) ⌝ }
 {
     let n = operations.len();
-    (Cart::SIZE <= n) & (n <= 8 * Cart::SIZE) & (n % Cart::SIZE == 0)
+    (Cart::SIZE <= n) & (n <= Record::TRANSACTION_SIZE) & (n % Cart::SIZE == 0)
 }
 
 // Rows 5 to 8: the number of the row that stops a commit of these operations, or 0.

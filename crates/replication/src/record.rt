@@ -30,6 +30,8 @@ impl Record {
 
     pub const TOO_MANY: u32 = 9;
 
+    pub const TRANSACTION_SIZE: usize = 640;
+
     // The links of record r.
     pub fn at(log: &[u8], r: u32) -> Record
         requires { ⌜ (length (now log) ≡ logSize) × ((1 ≤ r) × (r ≤ recordCount)) ⌝ }
