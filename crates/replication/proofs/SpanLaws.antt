@@ -7,39 +7,14 @@ use native.Mathlib.Omega.{arith}
 use native.Mathlib.Nat.{add-zero, sub-zero}
 use native.Mathlib.Decide.{ℕ-discrete, decLe}
 use lib.ListN.{length, drop}
-use lib.Dec.{leb, ltb, eqb, leb·suc-suc}
-use borrow.Author.Tests.{eq-eqb, ne-eqb, lt-ltb, le-ltb, le-leb, lt-leb, eqb-true, eqb-false, leb-true, ltb-true, ltb-false}
+use lib.Dec.{leb, eqb, leb·suc-suc}
+use borrow.Author.Tests.{eq-eqb, ne-eqb, le-leb, lt-leb, eqb-true, leb-true}
 use Rattle.carts.specs.Bytes.{within, all, every, pairwise}
 use Rattle.replication.specs.Log.{nextOperation, nextTransaction, chain, recordsOf, logRecords, ownForm, transactionsForm, upFrom, filledUpward}
 use Rattle.replication.specs.Values.{consecutiveForm, spanOf}
-use Rattle.carts.proofs.TestLaws.{all-at}
+use Rattle.carts.proofs.TestLaws.{and-left, and-right, all-at}
+use Rattle.carts.proofs.ScanLaws.{test-more}
 use Rattle.replication.proofs.Chains.{chain-cons, chain-zero}
-
--- d records more, where there are any
-unfoldable pub raise : ℕ → ℕ → ℕ
-raise d zero = 0
-raise d (suc n) = d + suc n
-
-pub raise-none : (n : ℕ) → raise 0 n ≡ n
-unfolding raise
-raise-none zero = refl
-raise-none (suc n) = omega arith
-
-pub raise-raise : (d n : ℕ) → raise d (raise 1 n) ≡ raise (d + 1) n
-unfolding raise
-raise-raise d zero = refl
-raise-raise d (suc n) = let e : 1 + suc n ≡ suc (suc n) = omega arith in let f : d + suc (suc n) ≡ d + 1 + suc n = omega arith in rw e f
-
-pub raise-one : (d n : ℕ) → n ≡ 1 → raise d n ≡ d + 1
-unfolding raise
-raise-one d n e = rw e
-
--- the records from r on, at most k, counted one by one; 0 where the chain is not of the layout
-unfoldable pub spanFrom : ℕ → List ℕ → ℕ → ℕ → ℕ
-spanFrom zero log r end = 0
-spanFrom (suc k) log r end =
-    cond (eqb (nextOperation log r) 0) 1
-    (cond (eqb (nextOperation log r) (r + 1) && (ltb (r + 1) end && eqb (nextTransaction log (r + 1)) 0)) (raise 1 (spanFrom k log (r + 1) end)) 0)
 
 regroup : (w x p z e l : Bool) → (w && ((x && p) && ((z && e) && l))) ≡ (x && (z && (w && ((x && p) && (e && l)))))
 regroup true true p true e l = refl
@@ -73,85 +48,78 @@ own-beyond : (most : ℕ) (log : List ℕ) (r end : ℕ) (own : List ℕ) → en
 unfolding consecutiveForm all
 own-beyond most log r end own h = rw (lt-leb (r + length own) end h) (simp and-false)
 
-raise-cond : (b : Bool) (n : ℕ) → raise 1 (cond b (suc n) 0) ≡ cond b (suc (suc n)) 0
-unfolding raise
-raise-cond true n = omega arith
-raise-cond false n = refl
+-- what a loop over the records of the transaction at `first` knows at record r, with so many left at most: ok says that each record so
+-- far was the next in turn
+abbrev Rest : ℕ → List ℕ → ℕ → ℕ → Bool
+Rest left log r end = consecutiveForm left log (chain (suc left) log r) r end
 
--- what `span-is` says of at most k records from r on
-abbrev Same : ℕ → List ℕ → ℕ → ℕ → Type 0
-Same k log r end = spanFrom k log r end ≡ cond (consecutiveForm k log (chain (suc k) log r) r end) (length (chain (suc k) log r)) 0
+pub record Counted (log : List ℕ) (first end : ℕ) (ok : Bool) (r left : ℕ) : Type 0 where
+  pub form : consecutiveForm 8 log (recordsOf log first) first end ≡ (ok && Rest left log r end)
+  pub many : ok ≡ true → length (recordsOf log first) ≡ r - first + length (chain (suc left) log r)
 
-module _ (k : ℕ) (log : List ℕ) (r end : ℕ) (h : 1 ≤ r) (l : r < end) (later : r + 1 < end → Same k log (r + 1) end) where
-  -- the next operation is record r + 1
-  span-on : (b z : Bool) → ltb (r + 1) end ≡ b → eqb (nextTransaction log (r + 1)) 0 ≡ z
-      → cond (b && z) (raise 1 (spanFrom k log (r + 1) end)) 0 ≡ cond (consecutiveForm (suc k) log (r ∷ chain (suc k) log (r + 1)) r end) (length (r ∷ chain (suc k) log (r + 1))) 0
-  span-on true true e f =
-      let own : List ℕ = chain k log (nextOperation log (r + 1)) in
-      let c : chain (suc k) log (r + 1) ≡ (r + 1) ∷ own = chain-cons k log (r + 1) (omega arith) in
-      rw (later (ltb-true (r + 1) end e), c, own-cons k log r (r + 1) end own, f, eq-eqb (r + 1) (r + 1) refl)
-      (raise-cond (consecutiveForm k log ((r + 1) ∷ own) (r + 1) end) (length own))
-  span-on true false e f =
-      rw (chain-cons k log (r + 1) (omega arith), own-cons k log r (r + 1) end (chain k log (nextOperation log (r + 1))), f, eq-eqb (r + 1) (r + 1) refl)
-  span-on false z e f =
-      let own : List ℕ = chain k log (nextOperation log (r + 1)) in
-      let u : end ≤ r + 1 = ltb-false (r + 1) end e in
-      rw (chain-cons k log (r + 1) (omega arith), own-beyond (suc k) log r end (r ∷ (r + 1) ∷ own) (omega arith))
+pub span-starts : (log : List ℕ) (first end : ℕ) → Counted log first end true first 8
+unfolding recordsOf
+span-starts log first end = record { form = refl; many = λ _. omega arith }
 
-  span-next : (x : ℕ) (b : Bool) → (x ≡ 0 → ⊥) → eqb x (r + 1) ≡ b
-      → cond (b && (ltb (r + 1) end && eqb (nextTransaction log (r + 1)) 0)) (raise 1 (spanFrom k log (r + 1) end)) 0
-      ≡ cond (consecutiveForm (suc k) log (r ∷ chain (suc k) log x) r end) (length (r ∷ chain (suc k) log x)) 0
-  span-next x true n e = rw (eqb-true x (r + 1) e) (span-on (ltb (r + 1) end) (eqb (nextTransaction log (r + 1)) 0) refl refl)
-  span-next x false n e = rw (chain-cons k log x (omega arith), own-cons k log r x end (chain k log (nextOperation log x)), e)
+module _ (log : List ℕ) (first end : ℕ) (ok : Bool) (r left : ℕ) (c : Counted log first end ok r left) where
+  pub span-not : ok ≡ false → 0 ≡ spanOf log first end
+  unfolding spanOf
+  span-not e = rw (c .form, e)
 
-  span-end : (x : ℕ) (b : Bool) → eqb x 0 ≡ b
-      → cond b 1 (cond (eqb x (r + 1) && (ltb (r + 1) end && eqb (nextTransaction log (r + 1)) 0)) (raise 1 (spanFrom k log (r + 1) end)) 0)
-      ≡ cond (consecutiveForm (suc k) log (r ∷ chain (suc k) log x) r end) (length (r ∷ chain (suc k) log x)) 0
-  span-end x true e = rw (eqb-true x 0 e, chain-zero (suc k) log, own-last k log r end l)
-  span-end x false e = span-next x (eqb x (r + 1)) (eqb-false x 0 e) refl
+  span-fails : Rest left log r end ≡ false → 0 ≡ spanOf log first end
+  unfolding spanOf
+  span-fails e = rw (c .form, e, and-false ok)
 
--- counted one by one, or tested as a list: the same
-span-is : (k : ℕ) (log : List ℕ) (r end : ℕ) → 1 ≤ r → r < end → Same k log r end
-unfolding spanFrom
-span-is zero log r end h l = rw (chain-cons 0 log r h, own-none log r r end (chain 0 log (nextOperation log r)))
-span-is (suc k) log r end h l =
-    rw (chain-cons (suc k) log r h) (span-end k log r end h l (span-is k log (r + 1) end (omega arith)) (nextOperation log r) (eqb (nextOperation log r) 0) refl)
+  module _ (low : 1 ≤ r) where
+    pub span-out : left ≤ 0 → 0 ≡ spanOf log first end
+    span-out h = let e : left ≡ 0 = omega arith in span-fails (rw (e, chain-cons 0 log r low) (own-none log r r end (chain 0 log (nextOperation log r))))
 
--- a turn of a loop that counts, by what it reads: v, the next operation of record r; w, the next transaction of record r + 1
-module _ (log : List ℕ) (left r end v : ℕ) (h : 0 < left) (e : v ≡ nextOperation log r) where
-  turn : spanFrom left log r end ≡ cond (eqb v 0) 1 (cond (eqb v (r + 1) && (ltb (r + 1) end && eqb (nextTransaction log (r + 1)) 0)) (raise 1 (spanFrom (left - 1) log (r + 1) end)) 0)
-  unfolding spanFrom
-  turn = let q : left ≡ suc (left - 1) = omega arith in ap (λ n. spanFrom n log r end) q ∙ rw (← e)
+    -- a turn, by what it reads: v, the next operation of record r
+    module _ (h : 0 < left) (v : ℕ) (e : v ≡ nextOperation log r) where
+      own : chain (suc left) log r ≡ r ∷ chain left log v
+      own = chain-cons left log r low ∙ ap (λ (z : ℕ). r ∷ chain left log z) (sym e)
 
-  pub span-here : v ≡ 0 → spanFrom left log r end ≡ 1
-  span-here z = turn ∙ rw (eq-eqb v 0 z)
+      pub span-here : r < end → v ≡ 0 → ok ≡ true → r - first + 1 ≡ spanOf log first end
+      unfolding spanOf
+      span-here l z t =
+          let one : chain (suc left) log r ≡ r ∷ [] = own ∙ ap (λ (k : ℕ). r ∷ chain left log k) z ∙ ap (λ (z : List ℕ). r ∷ z) (chain-zero left log) in
+          let q : left ≡ suc (left - 1) = omega arith in
+          let good : Rest left log r end ≡ true = ap (λ (z : List ℕ). consecutiveForm left log z r end) one ∙ ap (λ (n : ℕ). consecutiveForm n log (r ∷ []) r end) q ∙ own-last (left - 1) log r end l in
+          let n : length (chain (suc left) log r) ≡ 1 = ap length one in
+          let m = c .many t in
+          rw (c .form, t, good) (omega arith)
 
-  pub span-full : (v ≡ 0 → ⊥) → end ≤ r + 1 → spanFrom left log r end ≡ 0
-  span-full z q = turn ∙ rw (ne-eqb v 0 z, le-ltb (r + 1) end q) (simp and-false)
+      module _ (nz : v ≡ 0 → ⊥) where
+        two : chain (suc left) log r ≡ r ∷ v ∷ chain (left - 1) log (nextOperation log v)
+        two =
+            let q : left ≡ suc (left - 1) = omega arith in
+            own ∙ ap (λ (n : ℕ). r ∷ chain n log v) q ∙ ap (λ (z : List ℕ). r ∷ z) (chain-cons (left - 1) log v (omega arith))
 
-  pub span-step : (v ≡ 0 → ⊥) → r + 1 < end → (w : ℕ) → w ≡ nextTransaction log (r + 1)
-      → spanFrom left log r end ≡ cond (eqb v (r + 1) && eqb w 0) (raise 1 (spanFrom (left - 1) log (r + 1) end)) 0
-  span-step z l w t = turn ∙ rw (ne-eqb v 0 z, lt-ltb (r + 1) end l, ← t)
+        pub span-full : end ≤ r + 1 → 0 ≡ spanOf log first end
+        span-full l = span-fails (rw two (own-beyond left log r end (r ∷ v ∷ chain (left - 1) log (nextOperation log v)) (omega arith)))
 
--- the flag so far, and the next record's
-pub span-join : (ok b : Bool) (d n : ℕ) → cond ok (raise d (cond b (raise 1 n) 0)) 0 ≡ cond (ok && b) (raise (d + 1) n) 0
-unfolding raise
-span-join true true d n = raise-raise d n
-span-join true false d n = refl
-span-join false b d n = refl
+        -- w, the next transaction of record r + 1
+        pub span-step : first ≤ r → (w : ℕ) → w ≡ nextTransaction log (r + 1) → Counted log first end (ok && (eqb v (r + 1) && eqb w 0)) (r + 1) (left - 1)
+        span-step f w t = record {
+          form = test-more ok (eqb v (r + 1) && eqb w 0) (Rest (left - 1) log (r + 1) end) (c .form) (go (ℕ-discrete v (r + 1))) refl;
+          many = λ g.
+              let m = c .many (and-left ok (eqb v (r + 1) && eqb w 0) g) in
+              let s : v ≡ r + 1 = eqb-true v (r + 1) (and-left (eqb v (r + 1)) (eqb w 0) (and-right ok (eqb v (r + 1) && eqb w 0) g)) in
+              let n : length (chain (suc left) log r) ≡ suc (length (chain (suc (left - 1)) log (r + 1))) = ap length (own ∙ ap (λ (k : ℕ). r ∷ chain left log k) s ∙ ap (λ (k : ℕ). r ∷ chain k log (r + 1)) q) in
+              omega arith;
+        }
+          where
+            q : left ≡ suc (left - 1)
+            q = omega arith
 
-pub cond-none : (ok : Bool) (d n : ℕ) → n ≡ 0 → cond ok (raise d n) 0 ≡ 0
-unfolding raise
-cond-none true d n e = rw e
-cond-none false d n e = refl
-
-pub span-out : (log : List ℕ) (left r end : ℕ) → left ≤ 0 → spanFrom left log r end ≡ 0
-unfolding spanFrom
-span-out log left r end h = let e : left ≡ 0 = omega arith in rw e
-
-pub span-of : (log : List ℕ) (r end : ℕ) → 1 ≤ r → r < end → spanOf log r end ≡ spanFrom 8 log r end
-unfolding spanOf recordsOf
-span-of log r end h l = sym (span-is 8 log r end h l)
+            go : Dec (v ≡ r + 1) → Rest left log r end ≡ ((eqb v (r + 1) && eqb w 0) && Rest (left - 1) log (r + 1) end)
+            go d = ap (λ (z : List ℕ). consecutiveForm left log z r end) two ∙ ap (λ (n : ℕ). consecutiveForm n log (r ∷ v ∷ chain (left - 1) log (nextOperation log v)) r end) q
+                ∙ own-cons (left - 1) log r v end (chain (left - 1) log (nextOperation log v)) ∙ last d
+              where
+                last : Dec (v ≡ r + 1) → (eqb v (r + 1) && (eqb (nextTransaction log v) 0 && consecutiveForm (left - 1) log (v ∷ chain (left - 1) log (nextOperation log v)) (r + 1) end))
+                    ≡ ((eqb v (r + 1) && eqb w 0) && Rest (left - 1) log (r + 1) end)
+                last (yes s) = rw (s, t, eq-eqb (r + 1) (r + 1) refl, chain-cons (left - 1) log (r + 1) (omega arith))
+                last (no s) = rw (ne-eqb v (r + 1) s)
 
 own-ends : (most : ℕ) (log own : List ℕ) (r end : ℕ) → consecutiveForm most log own r end ≡ true → leb (r + length own) end ≡ true
 unfolding consecutiveForm
