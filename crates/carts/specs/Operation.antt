@@ -28,8 +28,7 @@ operationFields op =
     all (within 1 4 kind
     ∷ within 1 cartCount (cartNumber op)
     ∷ cond (isNew kind || isRetitle kind) (hasTitle op) (noTitle op)
-    ∷ cond (isNew kind || isRecut kind) (hasAudio op) (noAudio op)
-    ∷ [])
+    ∷ cond (isNew kind || isRecut kind) (hasAudio op) (noAudio op) ∷ [])
 
 -- "As handed in, 12–15 are zero."
 unfoldable pub operationForm : List ℕ → Bool

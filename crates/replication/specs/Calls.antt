@@ -36,10 +36,13 @@ withLibrary m library = memory library (m .log) (m .sessions)
 abbrev pub withSessions : Memory → List ℕ → Memory
 withSessions m sessions = memory (m .library) (m .log) sessions
 
+-- "S; each session's studio; records used; commits; for each studio sent and applied"
+abbrev pub control : ℕ → List ℕ → ℕ → ℕ → List ℕ → List ℕ → Control
+control S places used commits sent applied = record { studios = S; «session_studios» = places; used = used; commits = commits; sent = sent; applied = applied }
+
 -- control with every count zero
 unfoldable pub controlOf : ℕ → List ℕ → Control
-controlOf studios sessions =
-    record { studios = studios; «session_studios» = sessions; used = 0; commits = 0; sent = zeros studioCount; applied = zeros studioCount }
+controlOf studios sessions = control studios sessions 0 0 (zeros studioCount) (zeros studioCount)
 
 -- "all memory zero"
 unfoldable pub freshMemory : Memory
@@ -53,8 +56,7 @@ setup m studios bytes =
 
 -- control after a commit of n operations
 unfoldable pub committed : Control → ℕ → Control
-committed c n =
-    record { studios = c .studios; «session_studios» = c .«session_studios»; used = c .used + n; commits = c .commits + 1; sent = c .sent; applied = c .applied }
+committed c n = control (c .studios) (c .«session_studios») (c .used + n) (c .commits + 1) (c .sent) (c .applied)
 
 -- what a commit that a row stops leaves, by the row's number
 unfoldable pub refusedCommit : Control → Memory → ℕ → ℕ → After
@@ -74,8 +76,7 @@ commit c m s bytes =
 
 -- "Send (studio): sent rises by one. Returns it."
 unfoldable pub withSent : Control → ℕ → ℕ → Control
-withSent c i n =
-    record { studios = c .studios; «session_studios» = c .«session_studios»; used = c .used; commits = c .commits; sent = set (c .sent) (i - 1) n; applied = c .applied }
+withSent c i n = control (c .studios) (c .«session_studios») (c .used) (c .commits) (set (c .sent) (i - 1) n) (c .applied)
 
 unfoldable pub send : Control → Memory → ℕ → After
 send c m i =
@@ -85,8 +86,7 @@ send c m i =
 
 -- "Refresh (studio): transaction applied + 1 acts on that studio's copy; applied rises by one. Returns it."
 unfoldable pub withApplied : Control → ℕ → ℕ → Control
-withApplied c i n =
-    record { studios = c .studios; «session_studios» = c .«session_studios»; used = c .used; commits = c .commits; sent = c .sent; applied = set (c .applied) (i - 1) n }
+withApplied c i n = control (c .studios) (c .«session_studios») (c .used) (c .commits) (c .sent) (set (c .applied) (i - 1) n)
 
 -- the transaction after the first n
 unfoldable pub transactionAfter : Control → List ℕ → ℕ → List (List ℕ)

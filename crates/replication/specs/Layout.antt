@@ -51,8 +51,7 @@ layoutTests c m =
     ∷ transactionsForm (c .commits) (m .log) (firstRecord c)
     ∷ filledUpward (c .used) (logRecords (c .commits) (m .log) (firstRecord c))
     ∷ eachPart (sessionForm c) sessionSize sessionCount 1 (m .sessions)
-    ∷ every (countsForm c) (1 ∷ 2 ∷ 3 ∷ 4 ∷ [])
-    ∷ []
+    ∷ every (countsForm c) (1 ∷ 2 ∷ 3 ∷ 4 ∷ []) ∷ []
 
 unfoldable pub ofLayout : Control → Memory → Bool
 ofLayout c m = all (layoutTests c m)

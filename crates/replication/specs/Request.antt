@@ -23,8 +23,7 @@ numbersIn s = u16s (byte s 1) (drop titleAt s)
 unfoldable pub requestOf : List ℕ → Request
 requestOf s =
     cond (eqb (byte s 0) 1) (byNumbers (numbersIn s))
-    (cond (eqb (byte s 0) 2) (byTitle (part s titleAt (byte s 1)))
-    nothing)
+    (cond (eqb (byte s 0) 2) (byTitle (part s titleAt (byte s 1))) nothing)
 
 -- the read that session s has waiting
 abbrev pub waitingIn : Memory → ℕ → Request
@@ -38,8 +37,7 @@ numbersForm s = all (within 1 numbersMost (byte s 1) ∷ every (within 1 cartCou
 unfoldable pub requestFields : List ℕ → Bool
 requestFields s =
     cond (eqb (byte s 0) 1) (numbersForm s)
-    (cond (eqb (byte s 0) 2) (titleForm (byte s 1) (part s titleAt titleSize))
-    false)
+    (cond (eqb (byte s 0) 2) (titleForm (byte s 1) (part s titleAt titleSize)) false)
 
 -- "A read request is 80 bytes of this form with byte 0 of 1 or 2 and bytes 2–15 zero"
 unfoldable pub requestForm : List ℕ → Bool

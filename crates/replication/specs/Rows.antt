@@ -42,8 +42,7 @@ memoryRows c m = lengthsRow m ∷ row 2 (not (ofLayout c m)) ∷ []
 -- "setup: studios": "S outside 1–4, not 16 studio bytes, or one above S"
 unfoldable pub setupRows : ℕ → List ℕ → List Row
 setupRows studios bytes =
-    row 15 (not (all (within 1 studioCount studios ∷ eqb (length bytes) sessionCount ∷ every (λ b. leb b studios) bytes ∷ [])))
-    ∷ []
+    row 15 (not (all (within 1 studioCount studios ∷ eqb (length bytes) sessionCount ∷ every (λ b. leb b studios) bytes ∷ []))) ∷ []
 
 -- "all but setup: who": "session outside 1–16 or unused; studio outside 1–S"
 unfoldable pub sessionRow : ℕ → ℕ → Row
@@ -61,8 +60,7 @@ abbrev pub formRows : ℕ → List ℕ → List Row
 formRows used bytes =
     row 5 (not (sizeForm bytes))
     ∷ row 6 (not (every operationForm (operationsOf bytes)))
-    ∷ row 7 (noRoom used (length (operationsOf bytes)))
-    ∷ []
+    ∷ row 7 (noRoom used (length (operationsOf bytes))) ∷ []
 
 -- "commit: carts": "an operation meets its cart in the wrong state"
 abbrev pub cartsRow : List ℕ → List ℕ → Row
@@ -94,8 +92,7 @@ abbrev pub requestRows : Request → List ℕ → ℕ → List Row
 requestRows waiting request room =
     row 4 (isWaiting waiting)
     ∷ row 12 (not (requestForm request))
-    ∷ row 13 (ltb room (needed (requestOf request)))
-    ∷ []
+    ∷ row 13 (ltb room (needed (requestOf request))) ∷ []
 
 unfoldable pub readRows : ℕ → ℕ → Request → List ℕ → ℕ → List Row
 readRows s studio waiting request room = sessionRow s studio ∷ requestRows waiting request room

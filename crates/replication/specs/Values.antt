@@ -50,8 +50,7 @@ consecutiveForm most log own r end =
     all (within 1 most (length own)
     ∷ pairwise eqb own (upFrom r (length own))
     ∷ every (λ q. eqb (nextTransaction log q) 0) (drop 1 own)
-    ∷ leb (r + length own) end
-    ∷ [])
+    ∷ leb (r + length own) end ∷ [])
 
 -- how many records the transaction at record r has; 0 where they are not of that form
 unfoldable pub spanOf : List ℕ → ℕ → ℕ → ℕ
