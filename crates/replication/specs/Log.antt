@@ -7,6 +7,7 @@ use lib.Dec.{ltb, eqb}
 use Rattle.carts.specs.Bytes.{over, u16, u16Bytes, within, all, every, pairwise, zeros}
 use Rattle.carts.specs.Cart.{linksAt}
 use Rattle.replication.specs.Memory.{recordCount, logSize, mostOperations, recordAt, withRecord}
+use Rattle.carts.specs.Transaction.{Transaction}
 use Rattle.replication.specs.declared.control.Control.{Control}
 
 -- "bytes 12–13 are the index of the next operation of its transaction"
@@ -37,7 +38,7 @@ unfoldable pub handedIn : List ℕ → List ℕ
 handedIn x = over x linksAt 4 (zeros 4)
 
 -- n transactions along the chain, the first at record r: their operations as they were handed in
-unfoldable pub transactionsFrom : ℕ → List ℕ → ℕ → List (List (List ℕ))
+unfoldable pub transactionsFrom : ℕ → List ℕ → ℕ → List Transaction
 transactionsFrom zero log r = []
 transactionsFrom (suc n) log r = map handedIn (transactionAt log r) ∷ transactionsFrom n log (nextTransaction log r)
 
