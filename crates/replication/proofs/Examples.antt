@@ -103,6 +103,10 @@ row-order = record {
 unfoldable three : Control
 three = committed (committed (committed (controlOf 2 (1 ∷ zeros 15)) 1) 1) 1
 
+-- control of one studio with 33 commits, of which so many are sent and applied
+unfoldable counted : ℕ → ℕ → Control
+counted sent applied = record { studios = 1; «session_studios» = zeros 16; used = 33; commits = 33; sent = sent ∷ zeros 3; applied = applied ∷ zeros 3 }
+
 pub record Requests : Type 0 where
   numbers : requestOf (askNumbers (7 ∷ 8 ∷ [])) ≡ byNumbers (7 ∷ 8 ∷ [])
   title : requestOf (askTitle topHourA) ≡ byTitle topHourA
@@ -121,6 +125,7 @@ pub record Requests : Type 0 where
   waits : sessionForm three 1 (set (askNumbers (7 ∷ [])) 2 3) ≡ true
   waits-above : sessionForm three 1 (set (askNumbers (7 ∷ [])) 2 4) ≡ false
   idle : sessionForm three 1 (set (zeros 80) 2 3) ≡ true
+  idle-above : sessionForm three 1 (set (zeros 80) 2 4) ≡ false
   idle-count : sessionForm three 1 (set (zeros 80) 1 1) ≡ false
   idle-bytes : sessionForm three 1 (set (zeros 80) 79 1) ≡ false
   idle-spare : sessionForm three 1 (set (zeros 80) 4 1) ≡ false
@@ -130,9 +135,11 @@ pub record Requests : Type 0 where
   applied-above : countsForm (withApplied three 1 1) 1 ≡ false
   counts : countsForm (withApplied (withSent three 2 3) 2 2) 2 ≡ true
   counts-above-S : countsForm (withSent three 3 1) 3 ≡ false
+  window-32 : countsForm (counted 32 0) 1 ≡ true
+  window-33 : countsForm (counted 33 0) 1 ≡ false
 
 pub requests : Requests
-unfolding three zeros u16 u16s within all every allZero printable titleForm sequenceOf studioOf numbersIn requestOf numbersForm requestFields requestForm waitingForm sessionForm countsForm controlOf committed withSent withApplied topHourA longTitle filled pairs askNumbers askTitle
+unfolding three counted zeros u16 u16s within all every allZero printable titleForm sequenceOf studioOf numbersIn requestOf numbersForm requestFields requestForm waitingForm sessionForm countsForm controlOf committed withSent withApplied topHourA longTitle filled pairs askNumbers askTitle
 requests = record {
   numbers = refl;
   title = refl;
@@ -151,6 +158,7 @@ requests = record {
   waits = refl;
   waits-above = refl;
   idle = refl;
+  idle-above = refl;
   idle-count = refl;
   idle-bytes = refl;
   idle-spare = refl;
@@ -160,6 +168,8 @@ requests = record {
   applied-above = refl;
   counts = refl;
   counts-above-S = refl;
+  window-32 = refl;
+  window-33 = refl;
 }
 
 -- a short log of five records: a transaction of two operations, then one of one
@@ -171,6 +181,10 @@ first = appended start (zeros 400) (A ∷ withdrawCart 7 ∷ [])
 
 unfoldable both : List ℕ
 both = appended (committed start 2) first (A ∷ [])
+
+-- nine records: a transaction of n operations
+unfoldable long : ℕ → List ℕ
+long n = appended start (zeros 720) (replicate n A)
 
 -- n transactions, in the records 1 to `used`
 unfoldable onlyUpward : ℕ → List ℕ → ℕ → ℕ → Bool
@@ -189,13 +203,15 @@ pub record Chains : Type 0 where
   more-commits : onlyUpward 3 both 1 3 ≡ false
   fewer-used : onlyUpward 2 both 1 2 ≡ false
   more-used : onlyUpward 2 both 1 4 ≡ false
-  link-in-second : onlyUpward 2 (set both 94 3) 1 3 ≡ false
+  link-in-second : transactionsForm 2 (set both 94 3) 1 ≡ false
+  eight-operations : transactionsForm 1 (long 8) 1 ≡ true
+  nine-operations : transactionsForm 1 (long 9) 1 ≡ false
   operation-back : onlyUpward 2 (set both 92 1) 1 3 ≡ false
   operation-skips : onlyUpward 2 (set both 12 3) 1 3 ≡ false
   transaction-skips : onlyUpward 2 (set both 14 4) 1 3 ≡ false
 
 pub chains : Chains
-unfolding start first both A zeros u16 u16Bytes within all every pairwise u32Bytes operation newCart withdrawCart topHourA recordAt withRecord nextOperation nextTransaction chain recordsOf walk firstRecord logRecords ownForm transactionsForm upFrom filledUpward onlyUpward freeRecords front writeAll linked appended controlOf committed
+unfolding start first both long A zeros u16 u16Bytes within all every pairwise u32Bytes operation newCart withdrawCart topHourA recordAt withRecord nextOperation nextTransaction chain recordsOf walk firstRecord logRecords ownForm transactionsForm upFrom filledUpward onlyUpward freeRecords front writeAll linked appended controlOf committed
 chains = record {
   empty = refl;
   one-transaction = refl;
@@ -210,6 +226,8 @@ chains = record {
   fewer-used = refl;
   more-used = refl;
   link-in-second = refl;
+  eight-operations = refl;
+  nine-operations = refl;
   operation-back = refl;
   operation-skips = refl;
   transaction-skips = refl;
