@@ -17,7 +17,7 @@ use Rattle.replication.proofs.ShownLaws.{Askable, length-shown, request-askable
 use Rattle.replication.proofs.DecideLaws.{KnownSession}
 use Rattle.replication.proofs.Accepted.{commit-passed, read-passed, collect-passed}
 use Rattle.machine.specs.Machine.{Machine, session, Step, step, commits, libraryOf, sessionOf, refusedCommit, commit, send, refresh, answerFrom, block, wait, read, collect, call}
-use Rattle.machine.specs.Library.{Reply, request, at, shown, library, served, serve}
+use Rattle.machine.specs.Library.{Reply, request, at, shown, library, serve}
 use Rattle.machine.specs.OneCopy.{plainHistory, entry, commitEntry, readEntry, Kind, writes, reads, collects, neither, kindOf, entryOf, hasWaited, waitedAfter, entries}
 use Rattle.machine.proofs.Sort.{length-snoc}
 use Rattle.machine.proofs.History.{History, ended, made, seen}
@@ -35,7 +35,7 @@ Goes H = (r : Step) (n : ℕ) (copies : ℕ → List ℕ) (floor : ℕ → ℕ) 
 
 -- what the library of k commits shows
 shows : (copies : ℕ → List ℕ) (k : ℕ) (q : Request)
-    → serve (library k (copies k)) (request q) ≡ served (at k (shown (foundIn (copies k) q) (shownFrom (copies k) q))) (library k (copies k))
+    → serve (library k (copies k)) (request q) ≡ (at k (shown (foundIn (copies k) q) (shownFrom (copies k) q)), library k (copies k))
 unfolding serve
 shows copies k q = refl
 

@@ -8,7 +8,7 @@ use lib.Dec.{eqb}
 use lib.ListN.{length}
 use borrow.Author.Tests.{eqb-true}
 use Rattle.carts.specs.Operation.{meetsAll, actAll}
-use Rattle.machine.specs.Library.{Input, operations, Said, Reply, number, at, Library, library, served, serve}
+use Rattle.machine.specs.Library.{Input, operations, Said, Reply, number, at, Library, library, serve}
 use Rattle.machine.specs.OneCopy.{Entry, entry}
 use Rattle.machine.proofs.Sort.{All, of, all-map, Rising}
 use Rattle.machine.proofs.Chain.{rankBy, Consecutive}
@@ -45,7 +45,7 @@ pub data History : ℕ → (ℕ → List ℕ) → (ℕ → ℕ) → List Entry �
       → History (n + 1) (put L (n + 1) (actAll (L n) ops)) (put floor s (n + 1)) E
       → History n L floor (entry i s (operations ops) (number (n + 1)) ∷ E)
   seen : {n : ℕ} {L : ℕ → List ℕ} {floor : ℕ → ℕ} {E : List Entry} (i s : ℕ) (x : Input) (k : ℕ) (v : Said)
-      → serve (library k (L k)) x ≡ served (at k v) (library k (L k))
+      → serve (library k (L k)) x ≡ (at k v, library k (L k))
       → floor s ≤ k → k ≤ n
       → History n L (put floor s k) E
       → History n L floor (entry i s x (at k v) ∷ E)
@@ -57,16 +57,16 @@ after L n = library n (L n)
 -- what the single library does at an entry
 abbrev pub Good : (ℕ → List ℕ) → Entry → Type 0
 Good L e = cond (raises e)
-    ((m : ℕ) → state e ≡ m + 1 → serve (after L m) (e .input) ≡ served (e .reply) (after L (m + 1)))
-    (serve (after L (state e)) (e .input) ≡ served (e .reply) (after L (state e)))
+    ((m : ℕ) → state e ≡ m + 1 → serve (after L m) (e .input) ≡ (e .reply, after L (m + 1)))
+    (serve (after L (state e)) (e .input) ≡ (e .reply, after L (state e)))
 
 made-good : (M L : ℕ → List ℕ) (n : ℕ) (ops : List (List ℕ))
     → M n ≡ L n → M (n + 1) ≡ actAll (L n) ops → meetsAll (L n) ops ≡ true
-    → (m : ℕ) → n + 1 ≡ m + 1 → serve (after M m) (operations ops) ≡ served (number (n + 1)) (after M (m + 1))
+    → (m : ℕ) → n + 1 ≡ m + 1 → serve (after M m) (operations ops) ≡ (number (n + 1), after M (m + 1))
 unfolding serve
 made-good M L n ops old new f m e =
     let p : n ≡ m = omega arith in
-    subst (λ (m : ℕ). serve (after M m) (operations ops) ≡ served (number (n + 1)) (after M (m + 1))) p (rw (new, old, f))
+    subst (λ (m : ℕ). serve (after M m) (operations ops) ≡ (number (n + 1), after M (m + 1))) p (rw (new, old, f))
 
 -- there are libraries M of all the commits, which go on from L, and by which each entry is answered rightly
 pub good : {n : ℕ} {L : ℕ → List ℕ} {floor : ℕ → ℕ} {E : List Entry} → History n L floor E
@@ -80,7 +80,7 @@ good (made {n = n} {L = L} i s ops f h) =
     (M, old, (made-good M L n ops (old n (omega arith)) new f, g))
 good (seen {n = n} {L = L} i s x k y e u v h) =
     let (M, same, g) = good h in
-    (M, same, (subst (λ (l : List ℕ). serve (library k l) x ≡ served (at k y) (library k l)) (sym (same k v)) e, g))
+    (M, same, (subst (λ (l : List ℕ). serve (library k l) x ≡ (at k y, library k l)) (sym (same k v)) e, g))
 
 -- no session has seen more than n
 abbrev pub Below : (ℕ → ℕ) → ℕ → Type 0

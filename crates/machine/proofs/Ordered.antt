@@ -7,7 +7,7 @@ use mathlib.Core.Bool.{Bool, true, false, cond}
 use mathlib.Core.List.{List, [], _∷_, map}
 use lib.Dec.{eqb}
 use lib.ListN.{length}
-use Rattle.machine.specs.Library.{Input, Reply, library, Served, served, serve, play}
+use Rattle.machine.specs.Library.{Input, Reply, Library, library, serve, play}
 use Rattle.machine.specs.OneCopy.{Entry, OneCopy, ofSession}
 use Rattle.machine.proofs.Sort.{All, of, all-map, sort, sort-perm, all-sort, sorted-sort, of-sort}
 use Rattle.machine.proofs.Chain.{Chain, chain}
@@ -25,16 +25,16 @@ unfolding play
 played M n [] c g = refl
 played M n (e ∷ o) c g = go (raises e) c (g .0) (λ m d. played M m o d (g .1))
   where
-    next : (m : ℕ) → serve (after M n) (e .input) ≡ served (e .reply) (after M m) → play (after M m) (inputs o) ≡ replies o
+    next : (m : ℕ) → serve (after M n) (e .input) ≡ (e .reply, after M m) → play (after M m) (inputs o) ≡ replies o
         → play (after M n) (inputs (e ∷ o)) ≡ replies (e ∷ o)
-    next m q t = ap (λ (r : Served). r .reply ∷ play (r .next) (inputs o)) q ∙ ap (λ (l : List Reply). e .reply ∷ l) t
+    next m q t = ap (λ (r : Reply × Library). r .0 ∷ play (r .1) (inputs o)) q ∙ ap (λ (l : List Reply). e .reply ∷ l) t
 
     go : (b : Bool) → cond b ((state e ≡ n + 1) × Chain state raises (n + 1) o) ((state e ≡ n) × Chain state raises n o)
-        → cond b ((m : ℕ) → state e ≡ m + 1 → serve (after M m) (e .input) ≡ served (e .reply) (after M (m + 1)))
-        (serve (after M (state e)) (e .input) ≡ served (e .reply) (after M (state e)))
+        → cond b ((m : ℕ) → state e ≡ m + 1 → serve (after M m) (e .input) ≡ (e .reply, after M (m + 1)))
+        (serve (after M (state e)) (e .input) ≡ (e .reply, after M (state e)))
         → ((m : ℕ) → Chain state raises m o → play (after M m) (inputs o) ≡ replies o) → play (after M n) (inputs (e ∷ o)) ≡ replies (e ∷ o)
     go true d k ih = next (n + 1) (k n (d .0)) (ih (n + 1) (d .1))
-    go false d k ih = next n (subst (λ (m : ℕ). serve (after M m) (e .input) ≡ served (e .reply) (after M m)) (d .0) k) (ih n (d .1))
+    go false d k ih = next n (subst (λ (m : ℕ). serve (after M m) (e .input) ≡ (e .reply, after M m)) (d .0) k) (ih n (d .1))
 
 of-session : (s : ℕ) (l : List Entry) → ofSession s l ≡ of (isOf s) l
 unfolding ofSession

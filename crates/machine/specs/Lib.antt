@@ -1,5 +1,6 @@
--- Document 01, "The plain machine", the single library of "The one-copy order", and the words of demand 2 about titles.
+-- Document 01, "The plain machine", the single library of "The one-copy order", and the words of demand 2 about titles; the table of twelve.
 pub mod Machine
 pub mod Library
 pub mod OneCopy
 pub mod Titles
+pub mod Table

@@ -35,23 +35,16 @@ library n copy = record { count = n; carts = copy }
 unfoldable pub emptyLibrary : Library
 emptyLibrary = library 0 (zeros copySize)
 
-pub record Served : Type 0 where
-  pub reply : Reply
-  pub next : Library
-
-abbrev pub served : Reply → Library → Served
-served r l = record { reply = r; next = l }
-
 -- "A commit: if every operation meets its cart in the right state there, after the ones before it, all act by the effect above, the count
 -- rises by one, and the answer is the count. Otherwise nothing changes and the answer is refusal 8."
 -- "A read: the answer is the count as its state, with found and carts by the rule above .. Nothing changes."
-unfoldable pub serve : Library → Input → Served
+unfoldable pub serve : Library → Input → Reply × Library
 serve l (operations ops) =
-    let good = served (number (l .count + 1)) (library (l .count + 1) (actAll (l .carts) ops)) in
-    cond (meetsAll (l .carts) ops) good (served (at (l .count) refused8) l)
-serve l (request q) = served (at (l .count) (shown (foundIn (l .carts) q) (shownFrom (l .carts) q))) l
+    let n = l .count + 1 in
+    cond (meetsAll (l .carts) ops) (number n, library n (actAll (l .carts) ops)) (at (l .count) refused8, l)
+serve l (request q) = (at (l .count) (shown (foundIn (l .carts) q) (shownFrom (l .carts) q)), l)
 
 -- "fed the entries in their order": the replies
 unfoldable pub play : Library → List Input → List Reply
 play l [] = []
-play l (x ∷ xs) = let r = serve l x in r .reply ∷ play (r .next) xs
+play l (x ∷ xs) = let (reply, next) = serve l x in reply ∷ play next xs

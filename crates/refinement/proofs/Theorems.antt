@@ -25,7 +25,8 @@ use Rattle.machine.specs.Titles.{titleIn, writesTitle, spares, Writes, asked}
 use Rattle.machine.proofs.Sound.{setup-sound}
 use Rattle.machine.proofs.Kept.{after-sound}
 use Rattle.machine.proofs.OneCopyOrder.{one-copy}
-use Rattle.machine.proofs.Table.{start, started, morning, Table, table}
+use Rattle.machine.specs.Table.{studioBytes, cases2to10, callsOf, Table}
+use Rattle.machine.proofs.Table.{start, started, table}
 use Rattle.replication.specs.Log.{transactionsFrom}
 use Rattle.refinement.specs.Represents.{OfLayout, Represents, Simulates}
 use Rattle.refinement.specs.Lent.{lent}
@@ -138,11 +139,10 @@ demand3 before studios bytes accepted H none =
 -- TABLE. The twelve cases hold of the calls on bytes, with their outputs, whatever three memories of the right lengths setup is lent: from the plain
 -- machine's table, with no byte computed.
 pub twelve : (before : Memory) → lengthsForm before ≡ true →
-    let r = setup before 2 (1 ∷ 1 ∷ 2 ∷ zeros 13) in
-    let c = afterCalls r morning .control in
-    Table (history r) (transactionsFrom (c .commits) (afterCalls r morning .memory .log) (firstRecord c))
+    let r = setup before 2 studioBytes in
+    let end = afterCalls r (callsOf cases2to10) in
+    Table (history r) (transactionsFrom (end .control .commits) (end .memory .log) (firstRecord (end .control)))
 unfolding start
 twelve before lengths =
-    let bytes : List ℕ = 1 ∷ 1 ∷ 2 ∷ zeros 13 in
-    let accepted = setup-answer before 2 bytes lengths ∙ started in
-    subst₂ Table (fun-ext (λ H. sym (answers before 2 bytes accepted H))) (simulates-after before 2 bytes accepted morning .next .log) table
+    let accepted = setup-answer before 2 studioBytes lengths ∙ started in
+    subst₂ Table (fun-ext (λ H. sym (answers before 2 studioBytes accepted H))) (simulates-after before 2 studioBytes accepted (callsOf cases2to10) .next .log) table
