@@ -13,6 +13,7 @@ pub mod OneCopyOrder
 pub mod Grows
 pub mod Shown
 pub mod Titles
+pub mod TitleReads
 pub mod Places
 pub mod Table
 pub mod NotEmpty

@@ -12,7 +12,7 @@ use Rattle.carts.specs.Title.{shownByNumbers}
 use Rattle.carts.proofs.TestLaws.{and-left, and-right, within-high}
 use Rattle.carts.proofs.CartLaws.{length-cart}
 use Rattle.replication.specs.Answer.{refused, done, waits, answered}
-use Rattle.replication.specs.Request.{needed, shownFrom}
+use Rattle.replication.specs.Request.{needed, foundIn, shownFrom}
 use Rattle.replication.specs.Call as Call
 use Rattle.replication.proofs.RowLaws.{unless-case}
 use Rattle.replication.proofs.ShownLaws.{Askable, request-askable}
@@ -23,15 +23,16 @@ use Rattle.machine.specs.Titles.{askedBy, asked}
 use Rattle.machine.proofs.Cases.{stateFor, block-case}
 use Rattle.machine.proofs.Sound.{Sound, applied-commits}
 
-pub record Shown (m : Machine) (x : Call.Call) (k : ℕ) (out : List ℕ) : Type 0 where
+pub record Shown (m : Machine) (x : Call.Call) (k found : ℕ) (out : List ℕ) : Type 0 where
   pub known : k ≤ commits m
   pub askable : Askable (asked m x)
+  pub count : found ≡ foundIn (libraryOf m k) (asked m x)
   pub rest : List ℕ
   pub output : out ≡ shownFrom (libraryOf m k) (asked m x) ++ rest
 
 module _ (m : Machine) (f : Sound m) (k found : ℕ) where
   abbrev Shows : Call.Call → Step → Type 0
-  Shows x r = r .answer ≡ answered k found → Shown m x k (r .output)
+  Shows x r = r .answer ≡ answered k found → Shown m x k found (r .output)
 
   -- no other answer is that one
   refuses : {n : ℕ} {A : Type 0} → refused n ≡ answered k found → A
@@ -47,7 +48,7 @@ module _ (m : Machine) (f : Sound m) (k found : ℕ) where
   unfolding answerFrom wait
   block-shows x s out a = block-case m s _ _ out (Shows x) (λ u e.
       let same : stateFor m s ≡ k = cc in
-      record { known = rw (← same) (applied-commits m f _); askable = a; rest = drop (needed (asked m x)) out; output = rw same }) (λ u. holds-back)
+      record { known = rw (← same) (applied-commits m f _); askable = a; count = rw (← same) cc; rest = drop (needed (asked m x)) out; output = rw same }) (λ u. holds-back)
 
   pub call-shows : (x : Call.Call) → Shows x (call m x)
   unfolding call commit refusedCommit send refresh read collect askedBy kindOf

@@ -2,13 +2,15 @@
 -- show it.
 use mathlib.Core.Path.{_≡_}
 use mathlib.Core.Bool.{Bool, true, _||_, not}
-use mathlib.Core.List.{List, _∷_, _++_}
-use Prim.Native.Nat.{ℕ}
+use mathlib.Core.List.{List, [], _∷_, _++_}
+use Prim.Native.Nat.{ℕ, _≤_}
+use lib.ListN.{length}
 use lib.Dec.{eqb}
 use Rattle.carts.specs.Bytes.{part, byte, u16, every}
-use Rattle.carts.specs.Cart.{titleSize}
+use Rattle.carts.specs.Cart.{cartSize, cartCount, titleSize, titleAt, cartAt}
 use Rattle.carts.specs.Operation.{isNew, isRetitle, operationsOf}
 use Rattle.carts.specs.Transaction.{Transaction}
+use Rattle.carts.specs.Title.{titledIn}
 use Rattle.replication.specs.Request.{Request, nothing, requestOf}
 use Rattle.replication.specs.Call.{Call}
 use Rattle.machine.specs.Machine.{Machine, sessionOf}
@@ -43,3 +45,13 @@ askedBy m neither = nothing
 
 abbrev pub asked : Machine → Call → Request
 asked m x = askedBy m (kindOf x)
+
+-- "By title: .. the one cart if found is 1": of the copy's carts this one alone has the title, letter by letter, and output begins with it
+pub record ShowsTheOne (title copy output : List ℕ) : Type 0 where
+  pub cart : ℕ
+  pub low : 1 ≤ cart
+  pub high : cart ≤ cartCount
+  pub alone : titledIn title copy ≡ cart ∷ []
+  pub shown : part output 0 cartSize ≡ cartAt copy cart
+  pub size : byte (cartAt copy cart) 1 ≡ length title
+  pub letters : part (cartAt copy cart) titleAt (length title) ≡ title

@@ -11,7 +11,7 @@ use Rattle.carts.specs.Operation.{operationsOf}
 use Rattle.replication.specs.Answer.{refused, done, answered}
 use Rattle.replication.specs.Memory.{Memory, lengthsForm, copyAt, sessionAt, nth, studioOf}
 use Rattle.replication.specs.Log.{firstRecord}
-use Rattle.replication.specs.Request.{byNumbers, requestOf, isWaiting}
+use Rattle.replication.specs.Request.{byNumbers, byTitle, requestOf, isWaiting}
 use Rattle.replication.specs.Rows.{row, stopped, memoryRows, sessionRow, sizeForm}
 use Rattle.replication.specs.Call as Call
 use Rattle.replication.specs.Call.{Call}
@@ -21,7 +21,7 @@ use Rattle.replication.specs.declared.control.Control.{Control}
 use Rattle.machine.specs.Machine as Plain
 use Rattle.machine.specs.Machine.{Machine, Step, libraryOf}
 use Rattle.machine.specs.OneCopy.{history, plainHistory, Demand3}
-use Rattle.machine.specs.Titles.{titleIn, writesTitle, spares, Writes, asked}
+use Rattle.machine.specs.Titles.{titleIn, writesTitle, spares, Writes, asked, ShowsTheOne}
 use Rattle.machine.proofs.Sound.{setup-sound}
 use Rattle.machine.proofs.Kept.{after-sound}
 use Rattle.machine.proofs.OneCopyOrder.{one-copy}
@@ -110,7 +110,13 @@ module _ (before : Memory) (studios : ℕ) (bytes : List ℕ) where
       pub commits : Plain.commits (plain .next) ≡ left .control .commits
       commits = log-length _ _ _ (simulates-after .next)
 
-      -- TITLES. After H from a fresh system a commit with number n writes a title, the list goes on with `later`, and then a read or collect is answered at
+      -- TITLES. After H from a fresh system a read or collect by title is answered with state k and found 1: in L(k) one cart alone has the title, and
+      -- that cart is shown.
+      pub title-read : (x : Call) (k : ℕ) (title : List ℕ) → Bytes.callAfter left x .answer ≡ answered k 1 → asked (plain .next) x ≡ byTitle title
+          → ShowsTheOne title (libraryOf (plain .next) k) (Bytes.callAfter left x .output)
+      title-read = Titles.title-read _ _ simulates-after (after-sound H _ (setup-sound studios bytes plain-accepted))
+
+      -- After H from a fresh system a commit with number n writes a title, the list goes on with `later`, and then a read or collect is answered at
       -- state k. Each place that asks for the cart shows that title, unless one of the transactions n + 1 to k has an operation on the cart.
       module _ (s : ℕ) (ops op : List ℕ) (n : ℕ) (writes : Writes ops op) (later : List Call) (x : Call) (k found : ℕ) (cs : List ℕ) (i : ℕ) where
         abbrev committed : After

@@ -12,7 +12,7 @@ use Rattle.carts.proofs.TestLaws.{all-at, every-at}
 use Rattle.carts.proofs.OperationLaws.{operationTests, operations-of, length-actAll}
 use Rattle.replication.specs.Answer.{refused, done, answered}
 use Rattle.replication.specs.Memory.{Memory, copyAt, sessionAt, studioOf}
-use Rattle.replication.specs.Request.{Request, byNumbers, requestOf, isWaiting}
+use Rattle.replication.specs.Request.{Request, byNumbers, byTitle, requestOf, isWaiting}
 use Rattle.replication.specs.Rows.{Row, row, stopped, unless, lengthsRow, memoryRows, sessionRow, sizeForm, commitRows, commitStop}
 use Rattle.replication.specs.Call as Call
 use Rattle.replication.specs.Call.{Call}
@@ -23,13 +23,14 @@ use Rattle.replication.proofs.CopyLaws.{length-copyAt, copy-same}
 use Rattle.replication.proofs.RowLaws.{numbered, row-stops, passes-on, unless-case, none-stops, memory-numbered, right-memory, lengths-are}
 use Rattle.replication.proofs.Accepted.{commit-passed}
 use Rattle.machine.specs.Machine as Plain
-use Rattle.machine.specs.Machine.{Step}
-use Rattle.machine.specs.Titles.{titleIn, writesTitle, spares, Writes, asked}
+use Rattle.machine.specs.Machine.{Step, libraryOf}
+use Rattle.machine.specs.Titles.{titleIn, writesTitle, spares, Writes, asked, ShowsTheOne}
 use Rattle.machine.proofs.Sound.{Sound}
 use Rattle.machine.proofs.Kept.{keeps, after-sound}
 use Rattle.machine.proofs.Grows.{after-grows}
 use Rattle.machine.proofs.Titles as Machine
 use Rattle.machine.proofs.Titles.{title-written, commit-writes}
+use Rattle.machine.proofs.TitleReads as Reads
 use Rattle.refinement.specs.Represents.{Simulates}
 use Rattle.refinement.proofs.Simulation.{simulates, simulates-after}
 
@@ -96,3 +97,10 @@ title-shown r p h f s bytes op n w accepted H x k found shown u v cs i q g e =
     let written = commit-writes (p .next) f s bytes op n w (sym (one .answer) ∙ accepted) in
     rw (last .output)
     (Machine.title-shown op n k M (p2 .next .log) (after-sound H p2 (keeps (p .next) f x0)) written (after-grows H p2) u v x found (sym (last .answer) ∙ shown) cs i q g e)
+
+-- a read or collect by title that found 1
+pub title-read : (r : After) (p : Step) → Simulates r p → Sound (p .next) → (x : Call) (k : ℕ) (title : List ℕ)
+    → Bytes.callAfter r x .answer ≡ answered k 1 → asked (p .next) x ≡ byTitle title → ShowsTheOne title (libraryOf (p .next) k) (Bytes.callAfter r x .output)
+title-read r p h f x k title answer q =
+    let last = simulates (r .control) (r .memory) (p .next) (h .next) x in
+    rw (last .output) (Reads.title-read (p .next) f x k title (sym (last .answer) ∙ answer) q)
