@@ -12,7 +12,7 @@ use Rattle.replication.specs.Rows.{stopped, unless, setupRows, sessionRow, stud
 use Rattle.replication.specs.Calls.{numberAfter}
 use Rattle.machine.specs.Machine as Machine
 use Rattle.machine.specs.Machine.{afterCalls}
-use Rattle.replication.specs.Answer.{done, waits, answered}
+use Rattle.replication.specs.Answer.{refused, done, waits, answered}
 use Rattle.replication.specs.Call.{commit, send, refresh, read, collect, run, final}
 use Rattle.machine.specs.OneCopy.{Event, event, plainHistory}
 use Rattle.machine.specs.Table.{studioBytes, topHourA, longTitle, payload, new, A, withdraw7, seven, titleRead, buffer, holding, case1, cases2to10, case11, case12, callsOf, Table}
@@ -32,19 +32,20 @@ table = record { fresh = refl; followed = refl; longTitles = refl; oneTitle = re
 -- a studio that lags behind what it was sent: its reads show the state that it has applied
 unfoldable pub lagging : List Event
 lagging =
-    event (commit 1 A) (done 1) []
+    event (commit 2 A) (done 1) []
     ∷ event (send 1) (done 1) []
-    ∷ event (read 2 seven buffer) (answered 0 0) (holding (zeros 80))
-    ∷ event (read 1 seven buffer) (waits 1) buffer
-    ∷ event (collect 1 buffer) (waits 1) buffer
+    ∷ event (read 1 seven buffer) (answered 0 0) (holding (zeros 80))
+    ∷ event (read 2 seven buffer) (waits 1) buffer
+    ∷ event (read 2 seven buffer) (refused 4) buffer
+    ∷ event (collect 2 buffer) (waits 1) buffer
     ∷ event (refresh 1) (done 1) []
-    ∷ event (collect 1 buffer) (answered 1 1) (holding A)
-    ∷ event (commit 1 withdraw7) (done 2) []
-    ∷ event (commit 1 A) (done 3) []
+    ∷ event (collect 2 buffer) (answered 1 1) (holding A)
+    ∷ event (commit 2 withdraw7) (done 2) []
+    ∷ event (commit 2 A) (done 3) []
     ∷ event (send 1) (done 2) []
     ∷ event (send 1) (done 3) []
     ∷ event (refresh 1) (done 2) []
-    ∷ event (read 2 seven buffer) (answered 2 0) (holding (zeros 80))
+    ∷ event (read 1 seven buffer) (answered 2 0) (holding (zeros 80))
     ∷ []
 
 pub applied-shown : plainHistory start (callsOf lagging) ≡ lagging
