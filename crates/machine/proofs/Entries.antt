@@ -7,7 +7,7 @@ use mathlib.Core.List.{List, [], _∷_, _++_}
 use lib.ListN.{length, take}
 use Rattle.carts.specs.Bytes.{over}
 use Rattle.carts.specs.Operation.{operationsOf, meetsAll, actAll}
-use Rattle.carts.specs.Transaction.{Transaction, recordsUsed}
+use Rattle.carts.specs.Transaction.{Transaction, L, recordsUsed}
 use Rattle.carts.proofs.PartLaws.{part-over}
 use Rattle.replication.specs.Answer.{Answer}
 use Rattle.replication.specs.Request.{Request, nothing, requestOf, isWaiting, needed, foundIn, shownFrom}
@@ -16,9 +16,9 @@ use Rattle.replication.proofs.RowLaws.{unless-case}
 use Rattle.replication.proofs.ShownLaws.{Askable, length-shown, request-askable}
 use Rattle.replication.proofs.DecideLaws.{KnownSession}
 use Rattle.replication.proofs.Accepted.{commit-passed, read-passed, collect-passed}
-use Rattle.machine.specs.Machine.{Machine, session, Step, step, commits, libraryOf, sessionOf, refusedCommit, commit, send, refresh, answerFrom, block, wait, read, collect, call}
+use Rattle.machine.specs.Machine.{Machine, session, Step, step, commits, sessionOf, refusedCommit, commit, send, refresh, answerFrom, block, wait, read, collect, call}
 use Rattle.machine.specs.Library.{Reply, request, at, shown, library, serve}
-use Rattle.machine.specs.OneCopy.{plainHistory, entry, commitEntry, readEntry, Kind, writes, reads, collects, neither, kindOf, entryOf, hasWaited, waitedAfter, entries}
+use Rattle.machine.specs.OneCopy.{plainHistory, entry, repliesOf, readEntry, Kind, writes, reads, collects, neither, kindOf, entryOf, hasWaited, waitedAfter, entries}
 use Rattle.machine.proofs.Sort.{length-snoc}
 use Rattle.machine.proofs.History.{History, ended, made, seen}
 use Rattle.machine.proofs.Updates.{put}
@@ -54,9 +54,9 @@ module _ (H : List Call.Call) (go-on : Goes H) (m : Machine) (copies : ℕ → L
   nothing-new a out = go-on (step a m out) n copies floor waited (i + 1) refl sound f
 
   when-commit : (s : ℕ) (bytes : List ℕ) → Fits (writes s bytes) (commit m s bytes)
-  unfolding commit refusedCommit entryOf commitEntry waitedAfter
+  unfolding commit refusedCommit entryOf repliesOf waitedAfter
   when-commit s bytes = unless-case (Fits (writes s bytes)) _ _ _ (λ k e kept. nothing-new _ _) (λ e kept.
-      let a = commit-passed s (sessionOf m s .studio) (sessionOf m s .waiting) (recordsUsed (m .log)) (libraryOf m n) bytes e in
+      let a = commit-passed s (sessionOf m s .studio) (sessionOf m s .waiting) (recordsUsed (m .log)) (L (m .log) n) bytes e in
       let ops : Transaction = operationsOf bytes in
       let copies′ : ℕ → List ℕ = put copies (n + 1) (actAll (copies n) ops) in
       let meets : meetsAll (copies n) ops ≡ true = rw (f .libraries n (omega arith)) (a .meets) in
@@ -79,10 +79,10 @@ module _ (H : List Call.Call) (go-on : Goes H) (m : Machine) (copies : ℕ → L
     module _ (k v : ℕ) (low : floor s ≤ k) (high : k ≤ n) (top : k ≤ level (m .applied) (session (sessionOf m s .studio) v nothing)) where
       when-shown : (q : Request) (out : List ℕ) → Askable q → let r = answerFrom k v q m s out in
           Sound (r .next) → History n copies floor (readEntry i s q (r .answer) (r .output) ++ entries (i + 1) waited (plainHistory r H))
-      unfolding answerFrom readEntry isWaiting
+      unfolding answerFrom readEntry repliesOf isWaiting
       when-shown q out askable kept =
           let r : Step = answerFrom k v q m s out in
-          let carts : List ℕ = libraryOf m k in
+          let carts : List ℕ = L (m .log) k in
           let written : take (needed q) (over out 0 (needed q) (shownFrom carts q)) ≡ shownFrom carts q = part-over out 0 (needed q) (shownFrom carts q) (omega arith) (length-shown carts q (length-L (m .log) k (sound .formed)) askable) in
           subst (λ (y : Reply). History n copies floor (entry i s (request q) y ∷ entries (i + 1) waited (plainHistory r H))) (cc (written, f .libraries k high))
           (seen i s (request q) k (shown (foundIn (copies k) q) (shownFrom (copies k) q)) (shows copies k q) low high
@@ -98,17 +98,17 @@ module _ (H : List Call.Call) (go-on : Goes H) (m : Machine) (copies : ℕ → L
 
     -- session s waits: read stores its request, collect leaves what is stored
     read-waits : (bytes out : List ℕ) → Fits (reads s bytes) (wait m s (requestOf bytes) out)
-    unfolding wait entryOf readEntry waitedAfter hasWaited
+    unfolding wait entryOf readEntry repliesOf waitedAfter hasWaited
     read-waits bytes out kept = go-on _ n copies floor (put waited s (requestOf bytes)) (i + 1) refl kept
         (stored-for m copies floor waited f s _ who (sound .sixteen) (requestOf bytes) (f .floors s (who .low)) (λ w. refl))
 
     collect-waits : (out : List ℕ) → Fits (collects s) (wait m s (waited s) out)
-    unfolding wait entryOf readEntry waitedAfter
+    unfolding wait entryOf readEntry repliesOf waitedAfter
     collect-waits out kept = go-on _ n copies floor waited (i + 1) refl kept
         (left-so m copies floor waited f s _ who (sound .sixteen) (f .floors s (who .low)) (λ w. refl))
 
   when-read : (s : ℕ) (bytes out : List ℕ) → Fits (reads s bytes) (read m s bytes out)
-  unfolding read entryOf readEntry waitedAfter hasWaited
+  unfolding read entryOf readEntry repliesOf waitedAfter hasWaited
   when-read s bytes out = unless-case (Fits (reads s bytes)) _ _ _ (λ k e kept. nothing-new _ _) (λ e.
       let a = read-passed s (sessionOf m s .studio) (sessionOf m s .waiting) bytes (length out) e in
       block-case m s _ _ out (Fits (reads s bytes))
@@ -116,7 +116,7 @@ module _ (H : List Call.Call) (go-on : Goes H) (m : Machine) (copies : ℕ → L
       (λ u. read-waits s (a .who) bytes out))
 
   when-collect : (s : ℕ) (out : List ℕ) → Fits (collects s) (collect m s out)
-  unfolding collect entryOf readEntry waitedAfter
+  unfolding collect entryOf readEntry repliesOf waitedAfter
   when-collect s out = unless-case (Fits (collects s)) _ _ _ (λ k e kept. nothing-new _ _) (λ e.
       let a = collect-passed s (sessionOf m s .studio) (sessionOf m s .waiting) (length out) e in
       let asked : waited s ≡ sessionOf m s .waiting = f .waits-for s (a .who .low) (a .waits) in
@@ -142,8 +142,8 @@ all-goes (x ∷ H) r n copies floor waited i l sound f =
 
 -- a list may begin at any sound machine, with any log, in which each session waits for `waited`
 pub history-from : (r : Step) (waited : ℕ → Request) (i : ℕ) (H : List Call.Call) → Sound (r .next) → ((s : ℕ) → 1 ≤ s → WaitsFor (waited s) (sessionOf (r .next) s))
-    → History (commits (r .next)) (libraryOf (r .next)) (λ s. 0) (entries i waited (plainHistory r H))
-history-from r waited i H sound w = all-goes H r (commits (r .next)) (libraryOf (r .next)) (λ s. 0) waited i refl sound (record {
+    → History (commits (r .next)) (L (r .next .log)) (λ s. 0) (entries i waited (plainHistory r H))
+history-from r waited i H sound w = all-goes H r (commits (r .next)) (L (r .next .log)) (λ s. 0) waited i refl sound (record {
   libraries = λ k u. refl;
   floors = λ s u. omega arith;
   waits-for = w;

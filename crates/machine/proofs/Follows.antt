@@ -10,7 +10,7 @@ use Rattle.carts.specs.Operation.{actAll}
 use Rattle.carts.specs.Transaction.{Transaction, L}
 use Rattle.replication.specs.Memory.{sessionCount, nth}
 use Rattle.replication.specs.Request.{Request, isWaiting}
-use Rattle.machine.specs.Machine.{Machine, Session, commits, libraryOf, sessionOf, withLog, withApplied, withSession}
+use Rattle.machine.specs.Machine.{Machine, Session, commits, sessionOf, withLog, withApplied, withSession}
 use Rattle.machine.proofs.Sort.{length-snoc}
 use Rattle.machine.proofs.Updates.{put, put-case, both-case, set-either, each-set}
 use Rattle.replication.proofs.DecideLaws.{KnownSession}
@@ -32,7 +32,7 @@ WaitsFor q x = isWaiting (x .waiting) ≡ true → q ≡ x .waiting
 -- A machine whose history so far has the libraries `copies`, has shown session s the state `floor s`, and in which session s waits for
 -- `waited s`.
 pub record Follows (m : Machine) (copies : ℕ → List ℕ) (floor : ℕ → ℕ) (waited : ℕ → Request) : Type 0 where
-  pub libraries : (k : ℕ) → k ≤ commits m → copies k ≡ libraryOf m k
+  pub libraries : (k : ℕ) → k ≤ commits m → copies k ≡ L (m .log) k
   pub floors : (s : ℕ) → 1 ≤ s → floor s ≤ level (m .applied) (sessionOf m s)
   pub waits-for : (s : ℕ) → 1 ≤ s → WaitsFor (waited s) (sessionOf m s)
 

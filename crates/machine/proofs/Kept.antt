@@ -4,7 +4,7 @@ use native.Mathlib.Omega.{arith}
 use mathlib.Core.List.{List, [], _∷_}
 use lib.ListN.{length}
 use Rattle.carts.specs.Operation.{operationsOf}
-use Rattle.carts.specs.Transaction.{recordsUsed}
+use Rattle.carts.specs.Transaction.{L, recordsUsed}
 use Rattle.carts.proofs.OperationLaws.{operations-of}
 use Rattle.replication.specs.Memory.{nth}
 use Rattle.replication.specs.Request.{Request, requestOf}
@@ -13,7 +13,7 @@ use Rattle.replication.specs.Calls.{numberAfter}
 use Rattle.replication.proofs.RowLaws.{unless-case}
 use Rattle.replication.proofs.ShownLaws.{Askable, request-askable}
 use Rattle.replication.proofs.Accepted.{commit-passed, send-passed, refresh-passed, read-passed}
-use Rattle.machine.specs.Machine.{Machine, Step, commits, libraryOf, sessionOf, refusedCommit, commit, send, refresh, answerFrom, block, wait, read, collect, call, afterCalls}
+use Rattle.machine.specs.Machine.{Machine, Step, commits, sessionOf, refusedCommit, commit, send, refresh, answerFrom, block, wait, read, collect, call, afterCalls}
 use Rattle.machine.proofs.Sort.{length-snoc}
 use Rattle.machine.proofs.Cases.{stateFor, block-case}
 use Rattle.machine.proofs.Sound.{Sound, applied-commits, with-session, with-transaction, with-sent, with-applied}
@@ -30,7 +30,7 @@ module _ (m : Machine) (f : Sound m) where
   keeps-commit : (s : ℕ) (bytes : List ℕ) → Keeps (commit m s bytes)
   unfolding commit refusedCommit
   keeps-commit s bytes = unless-case Keeps _ _ _ (λ k e. f) (λ e.
-      let a = commit-passed s (sessionOf m s .studio) (sessionOf m s .waiting) (recordsUsed (m .log)) (libraryOf m (commits m)) bytes e in
+      let a = commit-passed s (sessionOf m s .studio) (sessionOf m s .waiting) (recordsUsed (m .log)) (L (m .log) (commits m)) bytes e in
       with-session _ (with-transaction m f (operationsOf bytes) (operations-of bytes (a .form))) s _
       (rw (length-snoc (m .log) (operationsOf bytes)) (omega (arith, f .number-le (s - 1))))
       (f .askable (s - 1)))

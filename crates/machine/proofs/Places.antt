@@ -2,10 +2,11 @@
 use Prim.Native.Nat.{ℕ, _+_, _≤_}
 use native.Mathlib.Omega.{arith}
 use native.Mathlib.Nat.{le-trans}
-use mathlib.Core.List.{List, [], _∷_, _++_}
+use mathlib.Core.List.{List, [], _∷_, _++_, map}
 use Rattle.replication.specs.Answer.{Answer, refused, done, waits, answered}
-use Rattle.replication.specs.Request.{Request, requestOf}
-use Rattle.machine.specs.OneCopy.{Event, Entry, commitEntry, readEntry, Kind, writes, reads, collects, neither, kindOf, entryOf, waitedAfter, entries}
+use Rattle.replication.specs.Request.{Request}
+use Rattle.machine.specs.Library.{Input}
+use Rattle.machine.specs.OneCopy.{Event, Entry, entry, repliesOf, readEntry, Kind, writes, reads, collects, neither, kindOf, entryOf, waitedAfter, entries}
 
 -- each entry's place is at least i, and higher than the place of the one before it
 abbrev pub RiseFrom : ℕ → List Entry → Type 0
@@ -21,25 +22,18 @@ module _ (i : ℕ) (E : List Entry) (after : RiseFrom (i + 1) E) where
   no-entry : RiseFrom i E
   no-entry = rise-later i (i + 1) E (omega arith) after
 
-  commit-rises : (s : ℕ) (bytes : List ℕ) (a : Answer) → RiseFrom i (commitEntry i s bytes a ++ E)
-  unfolding commitEntry
-  commit-rises s bytes (done n) = (omega arith, after)
-  commit-rises s bytes (refused n) = no-entry
-  commit-rises s bytes (waits n) = no-entry
-  commit-rises s bytes (answered state found) = no-entry
-
-  read-rises : (s : ℕ) (q : Request) (a : Answer) (out : List ℕ) → RiseFrom i (readEntry i s q a out ++ E)
-  unfolding readEntry
-  read-rises s q (answered state found) out = (omega arith, after)
-  read-rises s q (refused n) out = no-entry
-  read-rises s q (waits n) out = no-entry
-  read-rises s q (done n) out = no-entry
+  reply-rises : (s : ℕ) (x : Input) (a : Answer) (out : List ℕ) → RiseFrom i (map (entry i s x) (repliesOf a out) ++ E)
+  unfolding repliesOf
+  reply-rises s x (done n) out = (omega arith, after)
+  reply-rises s x (answered state found) out = (omega arith, after)
+  reply-rises s x (refused n) out = no-entry
+  reply-rises s x (waits n) out = no-entry
 
   entry-rises : (waited : ℕ → Request) (x : Kind) (a : Answer) (out : List ℕ) → RiseFrom i (entryOf i waited x a out ++ E)
-  unfolding entryOf
-  entry-rises waited (writes s bytes) a out = commit-rises s bytes a
-  entry-rises waited (reads s bytes) a out = read-rises s (requestOf bytes) a out
-  entry-rises waited (collects s) a out = read-rises s (waited s) a out
+  unfolding entryOf readEntry
+  entry-rises waited (writes s bytes) a out = reply-rises s _ a out
+  entry-rises waited (reads s bytes) a out = reply-rises s _ a _
+  entry-rises waited (collects s) a out = reply-rises s _ a _
   entry-rises waited neither a out = no-entry
 
 pub places-rise : (i : ℕ) (waited : ℕ → Request) (es : List Event) → RiseFrom i (entries i waited es)

@@ -8,6 +8,7 @@ use lib.ListN.{length, drop, getD}
 use lib.Seq.{take-at, drop-append-add}
 use Rattle.carts.specs.Bytes.{part, within, every}
 use Rattle.carts.specs.Cart.{copySize, cartAt}
+use Rattle.carts.specs.Transaction.{L}
 use Rattle.carts.specs.Title.{shownByNumbers}
 use Rattle.carts.proofs.TestLaws.{and-left, and-right, within-high}
 use Rattle.carts.proofs.CartLaws.{length-cart}
@@ -17,7 +18,7 @@ use Rattle.replication.specs.Call as Call
 use Rattle.replication.proofs.RowLaws.{unless-case}
 use Rattle.replication.proofs.ShownLaws.{Askable, request-askable}
 use Rattle.replication.proofs.Accepted.{read-passed}
-use Rattle.machine.specs.Machine.{Machine, Step, commits, libraryOf, sessionOf, refusedCommit, commit, send, refresh, answerFrom, block, wait, read, collect, call}
+use Rattle.machine.specs.Machine.{Machine, Step, commits, sessionOf, refusedCommit, commit, send, refresh, answerFrom, block, wait, read, collect, call}
 use Rattle.machine.specs.OneCopy.{kindOf}
 use Rattle.machine.specs.Titles.{askedBy, asked}
 use Rattle.machine.proofs.Cases.{stateFor, block-case}
@@ -26,9 +27,9 @@ use Rattle.machine.proofs.Sound.{Sound, applied-commits}
 pub record Shown (m : Machine) (x : Call.Call) (k found : ℕ) (out : List ℕ) : Type 0 where
   pub known : k ≤ commits m
   pub askable : Askable (asked m x)
-  pub count : found ≡ foundIn (libraryOf m k) (asked m x)
+  pub count : found ≡ foundIn (L (m .log) k) (asked m x)
   pub rest : List ℕ
-  pub output : out ≡ shownFrom (libraryOf m k) (asked m x) ++ rest
+  pub output : out ≡ shownFrom (L (m .log) k) (asked m x) ++ rest
 
 module _ (m : Machine) (f : Sound m) (k found : ℕ) where
   abbrev Shows : Call.Call → Step → Type 0

@@ -15,7 +15,7 @@ use Rattle.machine.specs.Machine.{afterCalls}
 use Rattle.replication.specs.Answer.{refused, done, waits, answered}
 use Rattle.replication.specs.Call.{commit, send, refresh, read, collect, run, final}
 use Rattle.machine.specs.OneCopy.{Event, event, plainHistory}
-use Rattle.machine.specs.Table.{studioBytes, topHourA, longTitle, payload, new, A, withdraw7, seven, titleRead, buffer, holding, case1, cases2to10, case11, case12, callsOf, Table}
+use Rattle.machine.specs.Table.{studioBytes, topHourA, longTitle, payload, new, A, withdraw7, seven, titleRead, buffer, holding, cases2to10, case11, case12, callsOf, Table}
 
 -- what setup leaves
 unfoldable pub start : Machine.Step
@@ -26,8 +26,8 @@ unfolding start studioBytes Machine.setup setupRows stopped unless all within ev
 started = refl
 
 pub table : Table (plainHistory start) (afterCalls start (callsOf cases2to10) .next .log)
-unfolding zeros u16 u32 u16s within all every allZero pairwise parts cartAt printable titleForm hasTitle noTitle hasAudio noAudio held operationFields operationForm operationsOf made retitled recut withdrawn meetsCart effect actedOn meets act meetsAll actAll shownByNumbers foundByNumbers sameLetter titled titledFrom titledIn foundByTitle theOne shownByTitle topHourA longTitle noRoom numbersIn requestOf numbersForm requestFields requestForm isWaiting needed foundIn shownFrom stopped unless setupRows sessionRow studioRow sizeForm commitRows sendRows refreshRows readRows collectRows numberAfter replay L recordsUsed Machine.fresh Machine.setup Machine.refusedCommit Machine.commit Machine.send Machine.refresh Machine.answerFrom Machine.block Machine.wait Machine.read Machine.collect Machine.call run final plainHistory start A buffer holding studioBytes payload new withdraw7 seven titleRead case1 cases2to10 case11 case12
-table = record { fresh = refl; followed = refl; longTitles = refl; oneTitle = refl; audio = refl; empty = refl }
+unfolding zeros u16 u32 u16s within all every allZero pairwise parts cartAt printable titleForm hasTitle noTitle hasAudio noAudio held operationFields operationForm operationsOf made retitled recut withdrawn meetsCart effect actedOn meets act meetsAll actAll shownByNumbers foundByNumbers sameLetter titled titledFrom titledIn foundByTitle theOne shownByTitle topHourA longTitle noRoom numbersIn requestOf numbersForm requestFields requestForm isWaiting needed foundIn shownFrom stopped unless setupRows sessionRow studioRow sizeForm commitRows sendRows refreshRows readRows collectRows numberAfter replay L recordsUsed Machine.fresh Machine.setup Machine.refusedCommit Machine.commit Machine.send Machine.refresh Machine.answerFrom Machine.block Machine.wait Machine.read Machine.collect Machine.call run final plainHistory start A buffer holding studioBytes payload new withdraw7 seven titleRead cases2to10 case11 case12
+table = record { fresh = refl; followed = refl; audio = refl; empty = refl; longTitles = refl; oneTitle = refl }
 
 -- a studio that lags behind what it was sent: its reads show the state that it has applied
 unfoldable pub lagging : List Event

@@ -10,14 +10,15 @@ use lib.Seq.{take-at}
 use borrow.Author.Tests.{eqb-true}
 use Rattle.carts.specs.Bytes.{part, byte, pairwise}
 use Rattle.carts.specs.Cart.{copySize, cartAt, held}
+use Rattle.carts.specs.Transaction.{L}
 use Rattle.carts.specs.Title.{sameLetter, titled, titledFrom, titledIn, foundByTitle, theOne, shownByTitle}
-use Rattle.carts.proofs.TestLaws.{and-left, and-right, pairwise-eq}
+use Rattle.carts.proofs.TestLaws.{and-left, and-right, within-of, pairwise-eq}
 use Rattle.carts.proofs.EachLaws.{next-part}
 use Rattle.carts.proofs.CartLaws.{length-cart}
 use Rattle.replication.specs.Answer.{answered}
 use Rattle.replication.specs.Request.{byTitle, foundIn, shownFrom}
 use Rattle.replication.specs.Call as Call
-use Rattle.machine.specs.Machine.{Machine, libraryOf, call}
+use Rattle.machine.specs.Machine.{Machine, call}
 use Rattle.machine.specs.Titles.{asked, ShowsTheOne}
 use Rattle.machine.proofs.Libraries.{length-L}
 use Rattle.machine.proofs.Sound.{Sound}
@@ -65,8 +66,7 @@ shows-one title copy output rest l e (c, alone) =
     let (size, letters) = has-title title (cartAt copy c) has in
     record {
       cart = c;
-      low = low;
-      high = omega arith;
+      inside = within-of 1 128 c low (omega arith);
       alone = alone;
       shown = rw (e, alone) (take-at (cartAt copy c) rest 80 (length-cart copy c l (omega arith)));
       size = size;
@@ -74,10 +74,10 @@ shows-one title copy output rest l e (c, alone) =
     }
 
 pub title-read : (m : Machine) → Sound m → (x : Call.Call) (k : ℕ) (title : List ℕ) → call m x .answer ≡ answered k 1 → asked m x ≡ byTitle title
-    → ShowsTheOne title (libraryOf m k) (call m x .output)
+    → ShowsTheOne title (L (m .log) k) (call m x .output)
 unfolding foundIn shownFrom foundByTitle
 title-read m f x k title answer q =
-    let copy : List ℕ = libraryOf m k in
+    let copy : List ℕ = L (m .log) k in
     let r = call-shows m f k 1 x answer in
     let count : 1 ≡ foundByTitle copy title = rw q at (r .count) in
     let output : call m x .output ≡ shownByTitle copy title ++ r .rest = rw q at (r .output) in

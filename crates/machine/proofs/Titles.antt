@@ -24,7 +24,7 @@ use Rattle.replication.specs.Call as Call
 use Rattle.replication.proofs.RowLaws.{unless-case}
 use Rattle.replication.proofs.ShownLaws.{Askable}
 use Rattle.replication.proofs.Accepted.{commit-passed}
-use Rattle.machine.specs.Machine.{Machine, Step, commits, libraryOf, sessionOf, refusedCommit, commit, call}
+use Rattle.machine.specs.Machine.{Machine, Step, commits, sessionOf, refusedCommit, commit, call}
 use Rattle.machine.specs.Titles.{titleIn, writesTitle, spares, Writes, asked}
 use Rattle.machine.proofs.Sort.{All, all-getD, length-snoc}
 use Rattle.machine.proofs.Libraries.{length-L, L-next, L-after}
@@ -101,9 +101,9 @@ pub commit-writes : (m : Machine) → Sound m → (s : ℕ) (bytes op : List ℕ
 unfolding commit refusedCommit
 commit-writes m f s bytes op n w accepted = unless-case (λ (r : Step). r .answer ≡ done n → Written op n (r .next .log)) _ _ _
     (λ k _ q. let z : _≡_ {A = ℕ} 0 1 = cc in absurd (omega arith))
-    (λ p q. let a = commit-passed s (sessionOf m s .studio) (sessionOf m s .waiting) (recordsUsed (m .log)) (libraryOf m (commits m)) bytes p in
+    (λ p q. let a = commit-passed s (sessionOf m s .studio) (sessionOf m s .waiting) (recordsUsed (m .log)) (L (m .log) (commits m)) bytes p in
     let last : n ≡ commits m + 1 = cc in
-    let t = title-written bytes op w (libraryOf m (commits m)) (length-L (m .log) (commits m) (f .formed)) (operations-of bytes (a .form)) (a .meets) in
+    let t = title-written bytes op w (L (m .log) (commits m)) (length-L (m .log) (commits m) (f .formed)) (operations-of bytes (a .form)) (a .meets) in
     record {
       known = rw (length-snoc (m .log) (operationsOf bytes)) (omega arith);
       number = t .1;
@@ -127,6 +127,6 @@ unfolding shownFrom
 title-shown op n k m log f w g u h x found e cs i q v c =
     let r = call-shows m f k found x e in
     let a : Askable (byNumbers cs) = rw q at (r .askable) in
-    let shown : call m x .output ≡ shownByNumbers (libraryOf m k) cs ++ r .rest = rw q at (r .output) in
-    rw (shown, numbers-shown (libraryOf m k) cs (r .rest) i (length-L (m .log) k (f .formed)) a v, c)
+    let shown : call m x .output ≡ shownByNumbers (L (m .log) k) cs ++ r .rest = rw q at (r .output) in
+    rw (shown, numbers-shown (L (m .log) k) cs (r .rest) i (length-L (m .log) k (f .formed)) a v, c)
     (still-written op n k log (m .log) w g (f .formed) u (r .known) h)

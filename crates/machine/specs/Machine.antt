@@ -34,12 +34,9 @@ pub record Machine : Type 0 where
 abbrev pub machine : ℕ → List Transaction → List ℕ → List ℕ → List Session → Machine
 machine studios log sent applied sessions = record { studios = studios; log = log; sent = sent; applied = applied; sessions = sessions }
 
--- commits; "L(n)" of its transactions; session s, counted from 1
+-- commits; session s, counted from 1
 abbrev pub commits : Machine → ℕ
 commits m = length (m .log)
-
-abbrev pub libraryOf : Machine → ℕ → List ℕ
-libraryOf m n = L (m .log) n
 
 abbrev pub sessionOf : Machine → ℕ → Session
 sessionOf m s = getD (m .sessions) (s - 1) (session 0 0 nothing)
@@ -92,7 +89,7 @@ commit m s bytes =
     let n = commits m + 1 in
     let grown = withLog m (m .log ++ (operationsOf bytes ∷ [])) in
     let good = step (done n) (withSession grown s (session (x .studio) n (x .waiting))) [] in
-    unless (stopped (commitRows s (x .studio) (x .waiting) (recordsUsed (m .log)) (libraryOf m (commits m)) bytes)) (refusedCommit m s) good
+    unless (stopped (commitRows s (x .studio) (x .waiting) (recordsUsed (m .log)) (L (m .log) (commits m)) bytes)) (refusedCommit m s) good
 
 -- "Send (studio): sent rises by one. Returns it."
 unfoldable pub send : Machine → ℕ → Step
@@ -112,10 +109,8 @@ refresh m i =
 unfoldable pub answerFrom : ℕ → ℕ → Request → Machine → ℕ → List ℕ → Step
 answerFrom state n q m s out =
     let x = sessionOf m s in
-    let copy = libraryOf m state in
-    step (answered state (foundIn copy q))
-    (withSession m s (session (x .studio) n nothing))
-    (over out 0 (needed q) (shownFrom copy q))
+    let copy = L (m .log) state in
+    step (answered state (foundIn copy q)) (withSession m s (session (x .studio) n nothing)) (over out 0 (needed q) (shownFrom copy q))
 
 -- "if applied of the session's studio is at least the session's number, answered; else ..": `behind`
 unfoldable pub block : Machine → ℕ → Request → Step → List ℕ → Step

@@ -40,20 +40,17 @@ pub record Entry : Type 0 where
 abbrev pub entry : ℕ → ℕ → Input → Reply → Entry
 entry i s x r = record { place = i; session = s; input = x; reply = r }
 
--- "Its entries are accepted commits (those that return a commit's number)"
-unfoldable pub commitEntry : ℕ → ℕ → List ℕ → Answer → List Entry
-commitEntry i s bytes (done n) = entry i s (operations (operationsOf bytes)) (number n) ∷ []
-commitEntry i s bytes (refused n) = []
-commitEntry i s bytes (waits n) = []
-commitEntry i s bytes (answered state found) = []
+-- "Its entries are accepted commits (those that return a commit's number) and answered reads (those that return a state and found)", a read
+-- with what it showed. "Waits and refusals have no entry."
+unfoldable pub repliesOf : Answer → List ℕ → List Reply
+repliesOf (done n) out = number n ∷ []
+repliesOf (answered state found) out = at state (shown found out) ∷ []
+repliesOf (refused n) out = []
+repliesOf (waits n) out = []
 
--- "and answered reads (those that return a state and found)"; "the state, found and the first 80 × numbers asked bytes of output (80 for
--- a title)". "Waits and refusals have no entry."
+-- "for a read the state, found and the first 80 × numbers asked bytes of output (80 for a title)"
 unfoldable pub readEntry : ℕ → ℕ → Request → Answer → List ℕ → List Entry
-readEntry i s q (answered state found) out = entry i s (request q) (at state (shown found (take (needed q) out))) ∷ []
-readEntry i s q (refused n) out = []
-readEntry i s q (waits n) out = []
-readEntry i s q (done n) out = []
+readEntry i s q a out = map (entry i s (request q)) (repliesOf a (take (needed q) out))
 
 -- what a call is to the order: a commit or a read, with its session and its bytes; a collect, with its session; or a call that has no entry
 pub data Kind : Type 0 where
@@ -72,7 +69,7 @@ kindOf (collect s lent) = collects s
 -- "An entry's session is the one its call names. A read answered by collect belongs to the collect: it stands where the collect stood in H,
 -- and its request is that of the session's latest read call before it that waited": `waited`
 unfoldable pub entryOf : ℕ → (ℕ → Request) → Kind → Answer → List ℕ → List Entry
-entryOf i waited (writes s bytes) a out = commitEntry i s bytes a
+entryOf i waited (writes s bytes) a out = map (entry i s (operations (operationsOf bytes))) (repliesOf a out)
 entryOf i waited (reads s bytes) a out = readEntry i s (requestOf bytes) a out
 entryOf i waited (collects s) a out = readEntry i s (waited s) a out
 entryOf i waited neither a out = []

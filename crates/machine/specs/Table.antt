@@ -50,12 +50,6 @@ buffer = replicate 82 255
 unfoldable pub holding : List ℕ → List ℕ
 holding cart = cart ++ (255 ∷ 255 ∷ [])
 
-unfoldable pub case1 : List Event
-case1 =
-    -- 1. "Fresh, session 1 reads [7]: state 0, found 0, zeros."
-    event (read 1 seven buffer) (answered 0 0) (holding (zeros 80))
-    ∷ []
-
 -- "Cases marked + follow the one above."
 unfoldable pub cases2to10 : List Event
 cases2to10 =
@@ -108,11 +102,12 @@ callsOf es = map (λ (e : Event). e .call) es
 
 -- of any system: its history of each list of calls from the start, and its log after cases 2 to 10
 pub record Table (history : List Call → List Event) (log : List Transaction) : Type 0 where
-  pub fresh : history (callsOf case1) ≡ case1
+  -- 1. "Fresh, session 1 reads [7]: state 0, found 0, zeros."
+  pub fresh : history (read 1 seven buffer ∷ []) ≡ event (read 1 seven buffer) (answered 0 0) (holding (zeros 80)) ∷ []
   pub followed : history (callsOf cases2to10) ≡ cases2to10
-  pub longTitles : history (callsOf case11) ≡ case11
-  pub oneTitle : history (callsOf case12) ≡ case12
   -- 7. ".. audio 501"
   pub audio : u32 A audioAt ≡ 501
   -- 10. ".. and cart 8 is empty in L(2)."
   pub empty : cartAt (L log 2) 8 ≡ zeros cartSize
+  pub longTitles : history (callsOf case11) ≡ case11
+  pub oneTitle : history (callsOf case12) ≡ case12

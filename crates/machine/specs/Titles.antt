@@ -3,10 +3,10 @@
 use mathlib.Core.Path.{_≡_}
 use mathlib.Core.Bool.{Bool, true, _||_, not}
 use mathlib.Core.List.{List, [], _∷_, _++_}
-use Prim.Native.Nat.{ℕ, _≤_}
+use Prim.Native.Nat.{ℕ}
 use lib.ListN.{length}
 use lib.Dec.{eqb}
-use Rattle.carts.specs.Bytes.{part, byte, u16, every}
+use Rattle.carts.specs.Bytes.{part, byte, u16, within, every}
 use Rattle.carts.specs.Cart.{cartSize, cartCount, titleSize, titleAt, cartAt}
 use Rattle.carts.specs.Operation.{isNew, isRetitle, operationsOf}
 use Rattle.carts.specs.Transaction.{Transaction}
@@ -49,8 +49,7 @@ asked m x = askedBy m (kindOf x)
 -- "By title: .. the one cart if found is 1": of the copy's carts this one alone has the title, letter by letter, and output begins with it
 pub record ShowsTheOne (title copy output : List ℕ) : Type 0 where
   pub cart : ℕ
-  pub low : 1 ≤ cart
-  pub high : cart ≤ cartCount
+  pub inside : within 1 cartCount cart ≡ true
   pub alone : titledIn title copy ≡ cart ∷ []
   pub shown : part output 0 cartSize ≡ cartAt copy cart
   pub size : byte (cartAt copy cart) 1 ≡ length title

@@ -8,6 +8,7 @@ use lib.ListN.{length, getD}
 use Rattle.carts.specs.Bytes.{zeros, part, u16}
 use Rattle.carts.specs.Cart.{cartAt, hasTitle}
 use Rattle.carts.specs.Operation.{operationsOf}
+use Rattle.carts.specs.Transaction.{L}
 use Rattle.replication.specs.Answer.{refused, done, answered}
 use Rattle.replication.specs.Memory.{Memory, lengthsForm, copyAt, sessionAt, nth, studioOf}
 use Rattle.replication.specs.Log.{firstRecord}
@@ -19,7 +20,7 @@ use Rattle.replication.specs.Calls as Bytes
 use Rattle.replication.specs.Calls.{After, after, controlOf, setup, afterCalls}
 use Rattle.replication.specs.declared.control.Control.{Control}
 use Rattle.machine.specs.Machine as Plain
-use Rattle.machine.specs.Machine.{Machine, Step, libraryOf}
+use Rattle.machine.specs.Machine.{Machine, Step}
 use Rattle.machine.specs.OneCopy.{history, plainHistory, Demand3}
 use Rattle.machine.specs.Titles.{titleIn, writesTitle, spares, Writes, asked, ShowsTheOne}
 use Rattle.machine.proofs.Sound.{setup-sound}
@@ -101,10 +102,10 @@ module _ (before : Memory) (studios : ℕ) (bytes : List ℕ) where
       pub simulates-after : Simulates left plain
       simulates-after = Simulation.simulates-after H _ _ setup-simulates
 
-      pub primary : copyAt (left .memory .library) 0 ≡ libraryOf (plain .next) (left .control .commits)
+      pub primary : copyAt (left .memory .library) 0 ≡ L (plain .next .log) (left .control .commits)
       primary = simulates-after .next .primary
 
-      pub replica : (i : ℕ) → 1 ≤ i → i ≤ 4 → copyAt (left .memory .library) i ≡ libraryOf (plain .next) (nth (left .control .applied) i)
+      pub replica : (i : ℕ) → 1 ≤ i → i ≤ 4 → copyAt (left .memory .library) i ≡ L (plain .next .log) (nth (left .control .applied) i)
       replica = simulates-after .next .replicas
 
       pub commits : Plain.commits (plain .next) ≡ left .control .commits
@@ -113,7 +114,7 @@ module _ (before : Memory) (studios : ℕ) (bytes : List ℕ) where
       -- TITLES. After H from a fresh system a read or collect by title is answered with state k and found 1: in L(k) one cart alone has the title, and
       -- that cart is shown.
       pub title-read : (x : Call) (k : ℕ) (title : List ℕ) → Bytes.callAfter left x .answer ≡ answered k 1 → asked (plain .next) x ≡ byTitle title
-          → ShowsTheOne title (libraryOf (plain .next) k) (Bytes.callAfter left x .output)
+          → ShowsTheOne title (L (plain .next .log) k) (Bytes.callAfter left x .output)
       title-read = Titles.title-read _ _ simulates-after (after-sound H _ (setup-sound studios bytes plain-accepted))
 
       -- After H from a fresh system a commit with number n writes a title, the list goes on with `later`, and then a read or collect is answered at

@@ -8,6 +8,7 @@ use lib.ListN.{length, drop, getD}
 use Rattle.carts.specs.Bytes.{part, u16, every, allZero}
 use Rattle.carts.specs.Cart.{cartAt, hasTitle}
 use Rattle.carts.specs.Operation.{operationFields, operationForm, operationsOf}
+use Rattle.carts.specs.Transaction.{L}
 use Rattle.carts.proofs.TestLaws.{all-at, every-at}
 use Rattle.carts.proofs.OperationLaws.{operationTests, operations-of, length-actAll}
 use Rattle.replication.specs.Answer.{refused, done, answered}
@@ -23,7 +24,7 @@ use Rattle.replication.proofs.CopyLaws.{length-copyAt, copy-same}
 use Rattle.replication.proofs.RowLaws.{numbered, row-stops, passes-on, unless-case, none-stops, memory-numbered, right-memory, lengths-are}
 use Rattle.replication.proofs.Accepted.{commit-passed}
 use Rattle.machine.specs.Machine as Plain
-use Rattle.machine.specs.Machine.{Step, libraryOf}
+use Rattle.machine.specs.Machine.{Step}
 use Rattle.machine.specs.Titles.{titleIn, writesTitle, spares, Writes, asked, ShowsTheOne}
 use Rattle.machine.proofs.Sound.{Sound}
 use Rattle.machine.proofs.Kept.{keeps, after-sound}
@@ -100,7 +101,7 @@ title-shown r p h f s bytes op n w accepted H x k found shown u v cs i q g e =
 
 -- a read or collect by title that found 1
 pub title-read : (r : After) (p : Step) → Simulates r p → Sound (p .next) → (x : Call) (k : ℕ) (title : List ℕ)
-    → Bytes.callAfter r x .answer ≡ answered k 1 → asked (p .next) x ≡ byTitle title → ShowsTheOne title (libraryOf (p .next) k) (Bytes.callAfter r x .output)
+    → Bytes.callAfter r x .answer ≡ answered k 1 → asked (p .next) x ≡ byTitle title → ShowsTheOne title (L (p .next .log) k) (Bytes.callAfter r x .output)
 title-read r p h f x k title answer q =
     let last = simulates (r .control) (r .memory) (p .next) (h .next) x in
     rw (last .output) (Reads.title-read (p .next) f x k title (sym (last .answer) ∙ answer) q)
