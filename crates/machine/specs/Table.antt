@@ -64,8 +64,7 @@ cases2to10 =
     -- 6. "refresh 1: 11."
     ∷ event (refresh 1) (refused 11) []
     -- 7. "send 1, refresh 1, collect session 1: state 1, found 1, audio 501."
-    ∷ event (send 1) (done 1) []
-    ∷ event (refresh 1) (done 1) []
+    ∷ event (send 1) (done 1) [] ∷ event (refresh 1) (done 1) []
     ∷ event (collect 1 buffer) (answered 1 1) (holding A)
     -- 8. "session 1 commits A: 8."
     ∷ event (commit 1 A) (refused 8) []
@@ -81,8 +80,7 @@ case11 =
     event (commit 1 (set (new 1 (longTitle 49)) 1 65)) (refused 6) []
     -- "titles of 64 bytes that differ in the last byte (the digits 1 and 2): a title read finds 1 for each."
     ∷ event (commit 1 (new 1 (longTitle 49) ++ new 2 (longTitle 50))) (done 1) []
-    ∷ event (send 1) (done 1) []
-    ∷ event (refresh 1) (done 1) []
+    ∷ event (send 1) (done 1) [] ∷ event (refresh 1) (done 1) []
     ∷ event (read 1 (titleRead (longTitle 49)) buffer) (answered 1 1) (holding (new 1 (longTitle 49)))
     ∷ event (read 1 (titleRead (longTitle 50)) buffer) (answered 1 1) (holding (new 2 (longTitle 50)))
     ∷ []
@@ -91,8 +89,7 @@ unfoldable pub case12 : List Event
 case12 =
     -- 12. "Two carts with one title: found 2, zeros."
     event (commit 1 (new 1 topHourA ++ new 2 topHourA)) (done 1) []
-    ∷ event (send 1) (done 1) []
-    ∷ event (refresh 1) (done 1) []
+    ∷ event (send 1) (done 1) [] ∷ event (refresh 1) (done 1) []
     ∷ event (read 1 (titleRead topHourA) buffer) (answered 1 2) (holding (zeros 80))
     ∷ []
 
