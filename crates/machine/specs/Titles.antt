@@ -6,8 +6,8 @@ use mathlib.Core.List.{List, [], _∷_, _++_}
 use Prim.Native.Nat.{ℕ}
 use lib.ListN.{length}
 use lib.Dec.{eqb}
-use Rattle.carts.specs.Bytes.{part, byte, u16, within, every}
-use Rattle.carts.specs.Cart.{cartSize, cartCount, titleSize, titleAt, cartAt}
+use Rattle.carts.specs.Bytes.{part, byte, within, every}
+use Rattle.carts.specs.Cart.{cartSize, cartCount, titleSize, titleAt, cartNumber, cartAt}
 use Rattle.carts.specs.Operation.{isNew, isRetitle, operationsOf}
 use Rattle.carts.specs.Transaction.{Transaction}
 use Rattle.carts.specs.Title.{titledIn}
@@ -18,7 +18,7 @@ use Rattle.machine.specs.OneCopy.{Kind, writes, reads, collects, neither
 
 -- the title in a cart or an operation: "byte 1 title length"; "16–79 the title"
 abbrev pub titleIn : List ℕ → List ℕ
-titleIn s = byte s 1 ∷ part s 16 titleSize
+titleIn s = byte s 1 ∷ part s titleAt titleSize
 
 -- a new or a retitle
 unfoldable pub writesTitle : List ℕ → Bool
@@ -26,14 +26,14 @@ writesTitle op = isNew (byte op 0) || isRetitle (byte op 0)
 
 -- no operation of the transaction has cart number c
 unfoldable pub spares : ℕ → Transaction → Bool
-spares c t = every (λ op. not (eqb (u16 op 2) c)) t
+spares c t = every (λ op. not (eqb (cartNumber op) c)) t
 
 -- the bytes of a commit whose last operation on its cart is op, a new or a retitle
 pub record Writes (bytes op : List ℕ) : Type 0 where
   pub before : Transaction
   pub later : Transaction
   pub operations : operationsOf bytes ≡ before ++ (op ∷ later)
-  pub last : spares (u16 op 2) later ≡ true
+  pub last : spares (cartNumber op) later ≡ true
   pub title : writesTitle op ≡ true
 
 -- what a call asks for: "Read (session, request)"; "Collect (session): .. the stored request"
