@@ -1,6 +1,5 @@
-use lib.ListN.{length-append, length-take, length-drop, length-set}
+use lib.ListN.{length-append, length-take, length-drop, set, length-set}
 use borrow.Rule.Slice.PartMut.{putMid, same-len-mid}
-use lib.ListN.{set, length-set}
 use mathlib.Core.Path.{_∙_}
 use native.Mathlib.Omega.{arith}
 use Rattle.carts.specs.Operation.{made}
@@ -53,8 +52,11 @@ part-copy-all-end-4 c = search needs
 copy-all-requires-2 : tie.Need-copy-all-requires-2
 copy-all-requires-2 c κs = search needs
 
+abbrev first-copied : tie.After-copy-all2 → tie.After-copy-all
+first-copied c = c .before .before .before .before .before
+
 same-length : tie.Need-same-length
-same-length c = let d = c .before .before .before .before .before .before .before in
+same-length c = let d = first-copied (c .before .before) in
     let xs = set (d .before .before .before .before .before .args .cart .now) 0 1 in
     let k = d .copy-all in
     let k2 = c .before .before .copy-all2 in
@@ -62,7 +64,7 @@ same-length c = let d = c .before .before .before .before .before .before .befor
 
 returns : tie.Need-returns
 unfolding made
-returns c = rw (c .before .before .copy-all2 .ensures, c .before .before .before .before .before .before .before .copy-all .ensures)
+returns c = rw (c .before .before .copy-all2 .ensures, first-copied (c .before .before) .copy-all .ensures)
 
 pub make-spec : {M : Type 1} → statement M
 make-spec =

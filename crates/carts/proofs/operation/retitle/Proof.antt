@@ -1,5 +1,4 @@
 use lib.ListN.{length-append, length-take, length-drop, length-set}
-use lib.ListN.{length-set}
 use native.Mathlib.Omega.{arith}
 use Rattle.carts.specs.Operation.{retitled}
 use borrow.Author.Needs.{needs}

@@ -57,7 +57,8 @@ loop-less c = omega arith
 
 loop-again : tie.Need-loop-again Inv-loop μ-loop
 loop-again c = let u = c .before .before in
-    let t = u .before .before .before .before .before .before in
+    let v = u .before .before in
+    let t = v .before .before .before .before in
     let ops = t .before .before .before .args .ops .now in
     let i = t .loop .i in
     let n = length ops / 80 in
@@ -66,7 +67,7 @@ loop-again c = let u = c .before .before in
     let left = parts 80 (n - (i + 1)) (drop (80 * (i + 1)) ops) in
     let h : i < n = omega arith in
     let e = rw add-sub-cancel-left at (u .apply .ensures) in
-    let m = rw add-sub-cancel-left at (u .before .before .meets .ensures) in (
+    let m = rw add-sub-cancel-left at (v .meets .ensures) in (
       omega arith,
       u .apply .kept .0 ∙ t .loop .inv .1,
       fields-next n i ops h (t .loop .inv .2) .1,

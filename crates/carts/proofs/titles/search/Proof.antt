@@ -16,6 +16,9 @@ Inv-loop copy title count₀ last₀ c₀ count last c =
 abbrev μ-loop : tie.MeasureT-loop
 μ-loop copy title count₀ last₀ c₀ count last c = 128 - c
 
+abbrev start : tie.At-loop Inv-loop μ-loop → tie.Start Inv-loop μ-loop
+start t = t .before .before .before
+
 loop-holds : tie.Need-loop-holds Inv-loop μ-loop
 unfolding titledIn
 loop-holds c = (omega arith, omega arith, refl)
@@ -33,10 +36,11 @@ add-count : tie.Need-add-count Inv-loop μ-loop
 add-count c = omega arith
 
 -- what the test of a turn has found of its cart
-tested : (c : tie.After-is-titled Inv-loop μ-loop)
-    → titled (c .before .before .before .before .before .before .args .title .now) (take 80 (drop (80 * c .before .before .before .loop .c) (c .before .before .before .before .before .before .args .copy .now))) ≡ c .is-titled .result
+tested : (c : tie.After-is-titled Inv-loop μ-loop) → let t = c .before .before .before in
+    let a = start t .args in
+    titled (a .title .now) (take 80 (drop (80 * t .loop .c) (a .copy .now))) ≡ c .is-titled .result
 tested c = let t = c .before .before .before in
-    let a = t .before .before .before .args in
+    let a = start t .args in
     ap (λ s. titled (a .title .now) s) (sym (c .before .cart-at .ensures .0 ∙ cart-next (a .copy .now) (t .loop .c))) ∙ sym (c .is-titled .ensures)
 
 loop-less : tie.Need-loop-less Inv-loop μ-loop
@@ -44,7 +48,7 @@ loop-less c = omega arith
 
 loop-again : tie.Need-loop-again Inv-loop μ-loop
 loop-again c = let t = c .before .before .before .before in
-    let a = t .before .before .before .args in
+    let a = start t .args in
     let i = t .loop .c in
     (omega arith, omega arith, search-hit (a .title .now) 128 i (i + 1) (a .copy .now) (omega arith) (t .loop .count) (t .loop .last) (t .loop .inv .2) (tested (c .before) ∙ c .if1 .taken))
 
@@ -53,14 +57,14 @@ loop-less-2 c = omega arith
 
 loop-again-2 : tie.Need-loop-again-2 Inv-loop μ-loop
 loop-again-2 c = let t = c .before .before .before .before in
-    let a = t .before .before .before .args in
+    let a = start t .args in
     let i = t .loop .c in
     (omega arith, omega arith, search-miss (a .title .now) 128 i (i + 1) (a .copy .now) (omega arith) (t .loop .count) (t .loop .last) (t .loop .inv .2) (tested (c .before) ∙ c .if1 .left))
 
 -- the answer goes by the count and the last
-ended : (c : tie.After-loop Inv-loop μ-loop) → searchAnswer (titledIn (c .before .before .before .before .args .title .now) (c .before .before .before .before .args .copy .now)) ≡ searchAnswer (replicate (c .before .loop .count) (c .before .loop .last))
+ended : (c : tie.After-loop Inv-loop μ-loop) → let a = start (c .before) .args in searchAnswer (titledIn (a .title .now) (a .copy .now)) ≡ searchAnswer (replicate (c .before .loop .count) (c .before .loop .last))
 ended c = let t = c .before in
-    let a = t .before .before .before .args in
+    let a = start t .args in
     t .loop .inv .2 ∙ search-end (a .title .now) 128 (t .loop .c) (t .loop .c + 1) (drop (80 * t .loop .c) (a .copy .now)) (t .loop .count) (t .loop .last) (omega arith)
 
 returns : tie.Need-returns Inv-loop μ-loop
