@@ -5,7 +5,7 @@ use crate::record::Record;
 use crate::walk;
 ghost use mathlib.Core.Path.{_≡_};
 ghost use mathlib.Core.Bool.{true};
-ghost use Prim.Native.Nat.{_+_, _*_, _-_, _/_, _<_, _≤_};
+ghost use Prim.Native.Nat.{_+_, _/_, _≤_};
 ghost use lib.ListN.{length};
 ghost use Rattle.carts.specs.Operation.{operationsOf};
 ghost use Rattle.replication.specs.Memory.{recordSize, recordCount, logSize};

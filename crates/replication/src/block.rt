@@ -7,7 +7,7 @@ use crate::session::Session;
 ghost use mathlib.Core.Path.{_≡_};
 ghost use mathlib.Core.Bool.{true};
 ghost use mathlib.Core.List.{List};
-ghost use Prim.Native.Nat.{ℕ, _+_, _*_, _-_, _<_, _≤_};
+ghost use Prim.Native.Nat.{ℕ, _<_, _≤_};
 ghost use lib.ListN.{length};
 ghost use Rattle.replication.specs.Answer.{readAnswer, waits};
 ghost use Rattle.replication.specs.Memory.{memory, librarySize, sessionsSize, sessionSize, sessionCount, studioCount, nth, studioOf};

@@ -3,7 +3,7 @@ use crate::control::Control;
 use crate::record::Record;
 ghost use mathlib.Core.Path.{_≡_};
 ghost use mathlib.Core.Bool.{_&&_};
-ghost use Prim.Native.Nat.{ℕ, _+_, _*_, _-_, _<_, _≤_};
+ghost use Prim.Native.Nat.{_+_, _≤_};
 ghost use lib.ListN.{length};
 ghost use Rattle.replication.specs.Memory.{recordCount, logSize};
 ghost use Rattle.replication.specs.Log.{logRecords, transactionsForm, firstRecord, filledUpward};

@@ -8,7 +8,6 @@ use crate::session;
 use crate::session::Session;
 use carts::bytes;
 ghost use mathlib.Core.Path.{_≡_};
-ghost use Prim.Native.Nat.{_+_, _-_, _<_};
 ghost use Rattle.replication.specs.Answer.{readAnswer};
 ghost use Rattle.replication.specs.Memory.{memory};
 ghost use Rattle.replication.specs.Rows.{collectStop};

@@ -11,7 +11,7 @@ use carts::cart::Cart;
 use carts::operation;
 ghost use mathlib.Core.Path.{_≡_};
 ghost use mathlib.Core.List.{[]};
-ghost use Prim.Native.Nat.{_+_, _*_, _-_, _<_, _≤_};
+ghost use Prim.Native.Nat.{_≤_};
 ghost use lib.ListN.{length};
 ghost use Rattle.replication.specs.Answer.{countAnswer};
 ghost use Rattle.replication.specs.Memory.{memory, recordCount, sessionsSize, sessionCount, sessionAt};

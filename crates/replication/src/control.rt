@@ -1,6 +1,6 @@
 // Control: the counts that a caller passes by value and is handed back.
 ghost use mathlib.Core.Path.{_≡_};
-ghost use Prim.Native.Nat.{ℕ, _+_, _*_, _-_, _<_, _≤_};
+ghost use Prim.Native.Nat.{_+_, _≤_};
 ghost use Rattle.carts.specs.Bytes.{every};
 ghost use lib.Dec.{leb};
 ghost use lib.ListN.{length};

@@ -10,7 +10,7 @@ use carts::cart;
 use carts::cart::Cart;
 use carts::operation;
 ghost use mathlib.Core.Path.{_≡_};
-ghost use Prim.Native.Nat.{ℕ, _+_, _*_, _-_, _<_, _≤_};
+ghost use Prim.Native.Nat.{_≤_};
 ghost use lib.ListN.{length};
 ghost use mathlib.Core.List.{[], _∷_};
 ghost use Rattle.carts.specs.Bytes.{every, eachPart};

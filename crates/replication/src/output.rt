@@ -8,7 +8,7 @@ use carts::titles;
 use carts::titles::Found;
 ghost use mathlib.Core.Path.{_≡_};
 ghost use mathlib.Core.Bool.{true, cond};
-ghost use Prim.Native.Nat.{_+_, _*_, _-_, _<_, _≤_};
+ghost use Prim.Native.Nat.{_*_, _≤_};
 ghost use lib.ListN.{length};
 ghost use Rattle.carts.specs.Bytes.{byte, over};
 ghost use Rattle.carts.specs.Cart.{cartSize, cartCount, copySize, titleSize, cartAt, held};

@@ -8,7 +8,6 @@ use crate::walk;
 use carts::cart::Cart;
 ghost use mathlib.Core.Path.{_≡_};
 ghost use mathlib.Core.List.{[]};
-ghost use Prim.Native.Nat.{ℕ, _+_, _*_, _-_, _<_, _≤_};
 ghost use Rattle.replication.specs.Answer.{countAnswer};
 ghost use Rattle.replication.specs.Memory.{memory};
 ghost use Rattle.replication.specs.Rows.{refreshStop};

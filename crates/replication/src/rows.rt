@@ -5,7 +5,6 @@ use crate::record::Record;
 use crate::session::Session;
 ghost use mathlib.Core.Path.{_≡_};
 ghost use mathlib.Core.List.{[], _∷_, _++_};
-ghost use Prim.Native.Nat.{ℕ, _+_, _*_, _-_, _<_, _≤_};
 ghost use Rattle.replication.specs.Memory.{memory, lengthsForm, studioOf};
 ghost use Rattle.replication.specs.Rows.{stopped, memoryRows, sessionRow, studioRow};
 

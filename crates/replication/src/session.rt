@@ -4,7 +4,7 @@ use carts::bytes;
 use carts::cart;
 use carts::cart::Cart;
 ghost use mathlib.Core.Path.{_≡_};
-ghost use Prim.Native.Nat.{ℕ, _+_, _*_, _-_, _<_, _≤_};
+ghost use Prim.Native.Nat.{_<_, _≤_};
 ghost use lib.ListN.{length};
 ghost use Rattle.replication.specs.Memory.{sessionSize, sessionsSize, sessionCount, sessionAt, withSession, withSequence};
 ghost use Rattle.replication.specs.Request.{numbersForm, requestFields, requestForm};

@@ -3,7 +3,6 @@ use crate::control::Control;
 use crate::record::Record;
 ghost use mathlib.Core.Path.{_≡_};
 ghost use mathlib.Core.Bool.{true};
-ghost use Prim.Native.Nat.{_-_};
 ghost use lib.ListN.{length};
 ghost use Rattle.replication.specs.Memory.{logSize};
 ghost use Rattle.replication.specs.Log.{walk, firstRecord};
