@@ -28,7 +28,9 @@ answer-requires c κs = let a = c .before .before .before in
     ((p .0 .0, (few a .0, p .1 .1 .0 .0)), p .1 .1 .0 .1)
 
 number-after-requires : tie.Need-number-after-requires
-number-after-requires c κs = let a = c .before .before .before .before .before .before in (a .at .ensures .1, few a .1)
+number-after-requires c κs = let e = c .before .before .before .before in
+    let a = e .before .before in
+    (a .at .ensures .1, few a .1)
 
 store-requires : tie.Need-store-requires
 store-requires c κs = search needs

@@ -1,7 +1,7 @@
 -- The loop takes the chain transaction by transaction; what is left of the test is `Upward left log next r`.
 use mathlib.Core.Path.{_≡_, refl, sym, ap, _∙_}
 use mathlib.Core.Bool.{Bool, false, _&&_, and-false, and-assoc}
-use Prim.Native.Nat.{ℕ, _≤_, _+_, _-_}
+use Prim.Native.Nat.{ℕ, _≤_, _+_}
 use native.Mathlib.Omega.{arith}
 use lib.Dec.{eqb}
 use Rattle.carts.proofs.ScanLaws.{test-more}

@@ -39,11 +39,14 @@ slice-aggregate-block c = search needs
 slice-aggregate-block-2 : tie.Need-slice-aggregate-block-2
 slice-aggregate-block-2 c = search needs
 
+abbrev copied : tie.After-block-arg2 → tie.After-copy-all
+copied c = c .before .before .before .before .before
+
 abbrev decided : tie.After-copy-all → tie.Else1
 decided c = c .before .before .before .before
 
 block-requires : tie.Need-block-requires
-block-requires c κs = let d = c .before .before .before .before .before in
+block-requires c κs = let d = copied c in
     let k = known (decided d) in
     let x = asked-same _ _ _ (d .copy-all .ensures ∙ d .before .session-at .ensures .0) (k .1) in
     ((k .0 .library, k .0 .place), ((k .0 .studio, k .0 .state), ((x .size, (x .fields, x .fits)), refl)))
@@ -57,7 +60,7 @@ same-length-3 c = search needs
 returns-2 : tie.Need-returns-2
 unfolding zeros
 returns-2 c = let b = c .before .before .before .before in
-    let d = b .before .before .before .before .before .before in
+    let d = copied (b .before) in
     let e = decided d in
     collect-steps _ _ _ _ _ (e .before .decide-collect .ensures) (e .if1 .left) _ _ (d .copy-all .ensures ∙ d .before .session-at .ensures .0) (b .block .ensures .0 _)
 

@@ -21,11 +21,14 @@ returns c = by-first _ _ _ _ (session-numbered _ _) _ (c .before .stopped-by-ses
 stopped-by-session-requires : tie.Need-stopped-by-session-requires
 stopped-by-session-requires c κs = search needs
 
+abbrev start : tie.Else1 → tie.Start
+start c = c .before .before .before .before .before
+
 -- neither memory nor who calls stops the call
-placed : (c : tie.Else1) → let g = c .before .before .before .before .before .args in (length (g .sessions .now) ≡ 1280) × ((1 ≤ g .session) × (g .session ≤ 16))
+placed : (c : tie.Else1) → let g = start c .args in (length (g .sessions .now) ≡ 1280) × ((1 ≤ g .session) × (g .session ≤ 16))
 placed c = session-placed _ _ _ _ (first-formed _ _ _ _ (c .before .stopped-by-session .ensures) (c .if1 .left)) (known-session _ _ (first-who _ _ _ _ (c .before .stopped-by-session .ensures) (c .if1 .left)))
 
-rest : (c : tie.Else1) → let g = c .before .before .before .before .before .args in (n : ℕ)
+rest : (c : tie.Else1) → let g = start c .args in (n : ℕ)
     → n ≡ stopped (waitingRows (requestOf (sessionAt (g .sessions .now) (g .session))) (g .room))
     → n ≡ collectStop (g .control) (memory (g .library .now) (g .log .now) (g .sessions .now)) (g .session) (g .room)
 unfolding collectStop collectRows
@@ -40,7 +43,7 @@ from-bytes-requires c κs = search needs
 is-waiting-requires : tie.Need-is-waiting-requires
 is-waiting-requires c κs = search needs
 
-own-waits : (c : tie.After-is-waiting) → let g = c .before .before .before .before .before .before .before .before .args in isWaiting (requestOf (sessionAt (g .sessions .now) (g .session))) ≡ c .is-waiting .result
+own-waits : (c : tie.After-is-waiting) → let g = start (c .before .before .before) .args in isWaiting (requestOf (sessionAt (g .sessions .now) (g .session))) ≡ c .is-waiting .result
 own-waits c = let b = c .before in
     waits-is _ _ (b .from-bytes .ensures .0 ∙ ap sessionValue (b .before .session-at .ensures .0)) _ (c .is-waiting .ensures)
 

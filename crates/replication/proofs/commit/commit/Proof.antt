@@ -21,8 +21,11 @@ same-length-3 c = search needs
 returns : tie.Need-returns
 returns c = commit-refused _ _ _ _ _ (c .before .decide-commit .ensures) (c .if1 .taken)
 
+abbrev start : tie.After-decide-commit → tie.Start
+start c = c .before .before .before .before .before .before .before .before
+
 -- no row stops the commit
-known : (c : tie.Else1) → let g = c .before .before .before .before .before .before .before .before .before .args in Known (g .control) (memory (g .library .now) (g .log .now) (g .sessions .now)) (g .session) (g .operations .now)
+known : (c : tie.Else1) → let g = start (c .before) .args in Known (g .control) (memory (g .library .now) (g .log .now) (g .sessions .now)) (g .session) (g .operations .now)
 known c = commit-known _ _ _ _ _ (c .before .decide-commit .ensures) (c .if1 .left)
 
 cast-committed : tie.Need-cast-committed
@@ -41,15 +44,19 @@ part-apply-all-end : tie.Need-part-apply-all-end
 part-apply-all-end c = let k = known (c .before) .formed .library .size in omega arith
 
 apply-all-requires : tie.Need-apply-all-requires
-apply-all-requires c κs = let k = known (c .before .before) in
+apply-all-requires c κs = let d = c .before .before in
+    let k = known d in
     let l = k .formed .library .size in
-    (length-part (c .before .before .before .before .before .before .before .before .before .before .before .args .library .now) 0 10240 (omega arith), k .fields)
+    (length-part (start (d .before) .args .library .now) 0 10240 (omega arith), k .fields)
+
+abbrev numbered : tie.After-append-transaction-arg → tie.After-committed
+numbered c = c .before .before .before .before .before
 
 append-transaction-requires : tie.Need-append-transaction-requires
-append-transaction-requires c κs = let k = known (c .before .before .before .before .before .before) in ((k .formed .log .size, (k .some, k .room)), k .walks)
+append-transaction-requires c κs = let k = known (numbered c .before) in ((k .formed .log .size, (k .some, k .room)), k .walks)
 
 put-number-requires : tie.Need-put-number-requires
-put-number-requires c κs = let n = c .before .before .before .before .before .before .before .before .before in
+put-number-requires c κs = let n = numbered (c .before .before .before .before) in
     let k = known (n .before) in
     let small = next-small _ _ _ (n .committed .ensures) (k .few) in
     ((k .formed .sessions .size, k .session), omega (arith, k .few))

@@ -15,7 +15,10 @@ returns : tie.Need-returns
 unfolding commitStop commitRows
 returns c = by-first _ _ _ _ (session-numbered _ _) _ (c .before .stopped-by-session .ensures) (c .if1 .taken)
 
-formed-here : (c : tie.Else1) → let g = c .before .before .before .before .before .before .args in Formed (g .control) (memory (g .library .now) (g .log .now) (g .sessions .now))
+abbrev start : tie.After-stopped-by-session → tie.Start
+start c = c .before .before .before .before .before
+
+formed-here : (c : tie.Else1) → let g = start (c .before) .args in Formed (g .control) (memory (g .library .now) (g .log .now) (g .sessions .now))
 formed-here c = first-formed _ _ _ _ (c .before .stopped-by-session .ensures) (c .if1 .left)
 
 stopped-by-session-requires : tie.Need-stopped-by-session-requires
@@ -38,9 +41,10 @@ part-stopped-by-operations-end : tie.Need-part-stopped-by-operations-end
 part-stopped-by-operations-end c = let k = formed-here (c .before .before) .library .size in omega arith
 
 stopped-by-operations-requires : tie.Need-stopped-by-operations-requires
-stopped-by-operations-requires c κs = let f = formed-here (c .before .before .before) in
+stopped-by-operations-requires c κs = let d = c .before .before .before in
+    let f = formed-here d in
     let k = f .library .size in
-    (f .log .used, length-part (c .before .before .before .before .before .before .before .before .before .args .library .now) 0 10240 (omega arith))
+    (f .log .used, length-part (start (d .before) .args .library .now) 0 10240 (omega arith))
 
 returns-3 : tie.Need-returns-3
 unfolding copyAt

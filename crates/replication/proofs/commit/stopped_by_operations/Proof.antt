@@ -22,13 +22,16 @@ returns c = let r = c .before .is-size in size-wrong _ _ _ (sym (r .ensures) ∙
 all-operations-requires : tie.Need-all-operations-requires
 all-operations-requires c κs = search needs
 
-right-size : (c : tie.Else1) → sizeForm (c .before .before .before .before .args .operations .now) ≡ true
+abbrev start : tie.Else1 → tie.Start
+start c = c .before .before .before .before
+
+right-size : (c : tie.Else1) → sizeForm (start c .args .operations .now) ≡ true
 right-size c = let r = c .before .is-size in sym (r .ensures) ∙ not-false (r .result) (c .if1 .left)
 
-right-form : (c : tie.Else2) → every operationForm (operationsOf (c .before .before .before .before .before .before .args .operations .now)) ≡ true
+right-form : (c : tie.Else2) → every operationForm (operationsOf (start (c .before .before) .args .operations .now)) ≡ true
 right-form c = let r = c .before .all-operations in sym (r .ensures) ∙ not-false (r .result) (c .if2 .left)
 
-few : (c : tie.Else2) → let n = length (c .before .before .before .before .before .before .args .operations .now) / 80 in (1 ≤ n) × (n ≤ 8)
+few : (c : tie.Else2) → let n = length (start (c .before .before) .args .operations .now) / 80 in (1 ≤ n) × (n ≤ 8)
 few c = size-few _ (right-size (c .before .before))
 
 returns-2 : tie.Need-returns-2
@@ -44,7 +47,7 @@ returns-3 : tie.Need-returns-3
 returns-3 c = let b = c .before in log-full _ _ _ (right-size (b .before .before)) (right-form b) (omega (arith, c .if3 .taken))
 
 meets-all-requires : tie.Need-meets-all-requires
-meets-all-requires c κs = (c .before .before .before .before .before .before .before .pre .1, forms-fields _ (right-form (c .before)))
+meets-all-requires c κs = (start (c .before .before .before) .pre .1, forms-fields _ (right-form (c .before)))
 
 returns-4 : tie.Need-returns-4
 returns-4 c = let r = c .before .meets-all in

@@ -9,10 +9,13 @@ use borrow.Author.Needs.{needs}
 use Rattle.replication.proofs.layout.is_layout.Statement.{statement}
 use Rattle.replication.proofs.layout.is_layout.Tie as tie
 
+abbrev start : tie.After-all-zero → tie.Start
+start c = c .before .before .before .before .before .before .before .before .before .before .before .before .before .before
+
 -- the bytes after the records in use
-zeros-after : (c : tie.After-all-zero) → let g = c .before .before .before .before .before .before .before .before .before .before .before .before .before .before .args in
+zeros-after : (c : tie.After-all-zero) → let g = start c .args in
     allZero (drop (80 * g .control .used) (g .log .now)) ≡ c .all-zero .result
-zeros-after c = let g = c .before .before .before .before .before .before .before .before .before .before .before .before .before .before .args in
+zeros-after c = let g = start c .args in
     sym (c .all-zero .ensures ∙ ap allZero (rest-is (80 * g .control .used) (g .log .now)))
 
 is-within-requires : tie.Need-is-within-requires

@@ -16,7 +16,10 @@ copy-all-requires c κs = search needs
 is-held-requires : tie.Need-is-held-requires
 is-held-requires c κs = search needs
 
-held-is : (c : tie.After-is-held) → let g = c .before .before .before .before .before .before .before .before .args in c .is-held .result ≡ held (cartAt (g .copy .now) (g .c))
+abbrev start : tie.After-cart-at → tie.Start
+start c = c .before .before .before
+
+held-is : (c : tie.After-is-held) → let g = start (c .before .before .before .before .before) .args in c .is-held .result ≡ held (cartAt (g .copy .now) (g .c))
 held-is c = c .is-held .ensures ∙ ap held (c .before .before .before .before .before .cart-at .ensures .0)
 
 same-length : tie.Need-same-length

@@ -33,9 +33,12 @@ found-count-requires c κs = search needs
 same-length : tie.Need-same-length
 same-length c = search needs
 
+abbrev start : tie.After-search → tie.Start
+start c = c .before .before .before .before
+
 returns : tie.Need-returns
 returns c = let m = c .before .before .before .before .before in
-    let s = m .before .before .before .before .before in
+    let s = start (m .before) in
     let found = m .before .search .ensures in
     let out = s .args .output .now in (
       c .found-count .ensures ∙ title-found (s .args .copy .now) (s .args .title .now) _ found,
@@ -43,8 +46,9 @@ returns c = let m = c .before .before .before .before .before in
     )
 
 cart-at-requires : tie.Need-cart-at-requires
-cart-at-requires c κs = let s = c .before .before .before .before .before .before .before in
-    (s .pre .0, one-within (s .args .copy .now) (s .args .title .now) _ (c .before .before .before .search .ensures) _ (c .before .found .given .1))
+cart-at-requires c κs = let r = c .before .before .before in
+    let s = start r in
+    (s .pre .0, one-within (s .args .copy .now) (s .args .title .now) _ (r .search .ensures) _ (c .before .found .given .1))
 
 sub-copy-all : tie.Need-sub-copy-all
 sub-copy-all c = search needs
@@ -62,13 +66,14 @@ same-length-2 : tie.Need-same-length-2
 same-length-2 c = search needs
 
 returns-2 : tie.Need-returns-2
-returns-2 c = let k = c .before .before .before .before .before .before in
-    let s = k .before .before .before .before .before .before in
+returns-2 c = let y = c .before .before in
+    let k = y .before .before .before .before in
+    let s = start (k .before .before) in
     let found = k .before .before .search .ensures in
     let one = k .found .given .1 in
     let out = s .args .output .now in (
       one-found (s .args .copy .now) (s .args .title .now) _ found _ one,
-      ap (λ (ys : List ℕ). ys ++ drop 80 out) (c .before .before .copy-all .ensures ∙ c .before .before .before .before .cart-at .ensures .0 ∙ one-shown (s .args .copy .now) (s .args .title .now) _ found _ one),
+      ap (λ (ys : List ℕ). ys ++ drop 80 out) (y .copy-all .ensures ∙ y .before .before .cart-at .ensures .0 ∙ one-shown (s .args .copy .now) (s .args .title .now) _ found _ one),
     )
 
 pub show-title-spec : {M : Type 1} → statement M

@@ -17,7 +17,10 @@ same-length c = search needs
 returns : tie.Need-returns
 returns c = refresh-refused _ _ _ _ (c .before .decide-refresh .ensures) (c .if1 .taken)
 
-known : (c : tie.Else1) → let g = c .before .before .before .before .before .before .args in Refreshable (g .control) (memory (g .library .now) (g .log .now) (g .sessions .now)) (g .studio)
+abbrev start : tie.After-decide-refresh → tie.Start
+start c = c .before .before .before .before .before
+
+known : (c : tie.Else1) → let g = start (c .before) .args in Refreshable (g .control) (memory (g .library .now) (g .log .now) (g .sessions .now)) (g .studio)
 known c = refresh-known _ _ _ _ (c .before .decide-refresh .ensures) (c .if1 .left)
 
 applied-by-requires : tie.Need-applied-by-requires
@@ -43,15 +46,19 @@ part-apply-transaction-end c = let k = known (c .before .before) in omega (arith
 
 apply-transaction-requires : tie.Need-apply-transaction-requires
 apply-transaction-requires c κs = let w = c .before in
-    let k = known (w .before .before) in
-    let g = c .before .before .before .before .before .before .before .before .before .args in
+    let e = w .before .before in
+    let k = known e in
+    let g = start (e .before) .args in
     (length-lent 10240 (g .studio) (g .library .now) (omega (arith, k .library, k .high)), (k .log, rw (w .transaction-after .ensures, w .before .applied-by .ensures) (k .acts)))
 
+abbrev counted : tie.After-slice-known2 → tie.After-applied-by
+counted c = c .before .before .before .before .before
+
 add-n : tie.Need-add-n
-add-n c = let k = known (c .before .before .before .before .before .before) in omega (arith, k .few, c .before .before .before .before .before .applied-by .ensures)
+add-n c = let k = known (counted c .before) in omega (arith, k .few, counted c .applied-by .ensures)
 
 with-applied-requires : tie.Need-with-applied-requires
-with-applied-requires c κs = let k = known (c .before .before .before .before .before .before) in (k .low, k .high)
+with-applied-requires c κs = let k = known (counted c .before) in (k .low, k .high)
 
 same-length-2 : tie.Need-same-length-2
 same-length-2 c = search needs
@@ -61,7 +68,7 @@ returns-2 c = let t = c .before .before .before in
     let w = t .before .before in
     let a = w .before in
     let e = a .before in
-    let g = c .before .before .before .before .before .before .before .before .before .before .before .before .before .args in
+    let g = start (e .before) .args in
     refresh-accepted _ _ _ _ (e .before .decide-refresh .ensures) (e .if1 .left) _ (ap (λ (n : ℕ). n + 1) (a .applied-by .ensures)) _ (c .with-applied .ensures) _
     (library-after (g .library .now) (g .log .now) (g .studio) _ _ _ _ _ (t .apply-transaction .ensures) (w .transaction-after .ensures) (a .applied-by .ensures))
 

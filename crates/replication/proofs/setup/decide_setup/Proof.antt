@@ -16,7 +16,10 @@ returns c = setup-lengths _ _ _ (sym (c .before .are-lengths .ensures) ∙ not-t
 is-within-requires : tie.Need-is-within-requires
 is-within-requires c κs = search needs
 
-right : (c : tie.Else1) → let g = c .before .before .before .before .before .before .args in lengthsForm (memory (g .library .now) (g .log .now) (g .sessions .now)) ≡ true
+abbrev start : tie.After-are-lengths → tie.Start
+start c = c .before .before .before .before .before
+
+right : (c : tie.Else1) → let g = start (c .before) .args in lengthsForm (memory (g .library .now) (g .log .now) (g .sessions .now)) ≡ true
 right c = sym (c .before .are-lengths .ensures) ∙ not-false (c .before .are-lengths .result) (c .if1 .left)
 
 returns-2 : tie.Need-returns-2

@@ -36,8 +36,14 @@ clear-requires-2 c κs = search needs
 clear-requires-3 : tie.Need-clear-requires-3
 clear-requires-3 c κs = search needs
 
+abbrev start : tie.After-decide-setup → tie.Start
+start c = c .before .before .before .before .before .before .before .before
+
+abbrev decided : tie.After-clear3 → tie.Else1
+decided c = c .before .before .before .before .before .before .before .before .before .before
+
 numbers-of-requires : tie.Need-numbers-of-requires
-numbers-of-requires c κs = let e = c .before .before .before .before .before .before .before .before .before .before .before .before in setup-known _ _ _ _ (e .before .decide-setup .ensures) (e .if1 .left) .1
+numbers-of-requires c κs = let e = decided (c .before .before) in setup-known _ _ _ _ (e .before .decide-setup .ensures) (e .if1 .left) .1
 
 new-requires-2 : tie.Need-new-requires-2
 new-requires-2 c κs = search needs
@@ -53,11 +59,11 @@ same-length-6 c = search needs
 
 returns-2 : tie.Need-returns-2
 returns-2 c = let z = c .before .before .before .before in
-    let y = c .before .before .before .before .before .before .before .before in
-    let x = c .before .before .before .before .before .before .before .before .before .before .before .before in
-    let e = x .before .before in
+    let y = z .before .before .before .before in
+    let x = y .before .before .before .before in
+    let e = decided z in
     setup-accepted _ _ _ _ (e .before .decide-setup .ensures) (e .if1 .left) _ _ _ _
-    (c .new2 .ensures ∙ ap (λ (l : List ℕ). controlOf (c .before .before .before .before .before .before .before .before .before .before .before .before .before .before .before .before .before .before .before .before .before .before .before .args .studios) l) (c .before .numbers-of .ensures))
+    (c .new2 .ensures ∙ ap (λ (l : List ℕ). controlOf (start (e .before) .args .studios) l) (c .before .numbers-of .ensures))
     (x .clear .ensures) (y .clear2 .ensures) (z .clear3 .ensures)
 
 pub setup-spec : {M : Type 1} → statement M
