@@ -18,8 +18,11 @@ same-length-2 c = search needs
 same-length-3 : tie.Need-same-length-3
 same-length-3 c = search needs
 
+abbrev called : tie.After-of-setup → tie.After-setup
+called c = c .before .before .before .before .before .before .before
+
 returns : tie.Need-returns
-returns c = crosses _ _ _ _ _ _ (c .before .before .before .before .before .before .before .setup .ensures) (c .of-setup .ensures)
+returns c = crosses _ _ _ _ _ _ (called c .setup .ensures) (c .of-setup .ensures)
 
 pub sulyobak-setup-spec : {M : Type 1} → statement M
 sulyobak-setup-spec =
