@@ -1,3 +1,4 @@
 -- What the contracts of the journal cite.
 pub mod History
 pub mod Progress
+pub mod Status

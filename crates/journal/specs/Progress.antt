@@ -1,5 +1,5 @@
 -- What a player of a transcript carries from line to line, and how each answer changes it.
-use mathlib.Core.Bool.{cond}
+use mathlib.Core.Bool.{Bool, true, cond, _&&_}
 use mathlib.Core.List.{List}
 use Prim.Native.Nat.{ℕ, _+_, _*_, _%_}
 use lib.ListN.{length, replicate}
@@ -28,14 +28,20 @@ oneMore n = (n + 1) % 4294967296
 
 -- one line more of an outcome
 unfoldable pub counted : Tally → Outcome → Tally
-counted t Accepted = record { accepted = oneMore (t .accepted); waited = t .waited; refused = t .refused; unreadable = t .unreadable }
-counted t Waited = record { accepted = t .accepted; waited = oneMore (t .waited); refused = t .refused; unreadable = t .unreadable }
-counted t Refused = record { accepted = t .accepted; waited = t .waited; refused = oneMore (t .refused); unreadable = t .unreadable }
-counted t Unreadable = record { accepted = t .accepted; waited = t .waited; refused = t .refused; unreadable = oneMore (t .unreadable) }
+counted t Accepted = record { accepted = oneMore (t .accepted); waited = t .waited; refused = t .refused; unreadable = t .unreadable; same = t .same }
+counted t Waited = record { accepted = t .accepted; waited = oneMore (t .waited); refused = t .refused; unreadable = t .unreadable; same = t .same }
+counted t Refused = record { accepted = t .accepted; waited = t .waited; refused = oneMore (t .refused); unreadable = t .unreadable; same = t .same }
+counted t Unreadable = record { accepted = t .accepted; waited = t .waited; refused = t .refused; unreadable = oneMore (t .unreadable); same = t .same }
 
 -- before the first line: no system and no entry
 unfoldable pub start : Progress
-start = record { line = 0; control = controlOf 0 (replicate 16 0); history = emptyHistory; tally = record { accepted = 0; waited = 0; refused = 0; unreadable = 0 } }
+start = record { line = 0; control = controlOf 0 (replicate 16 0); history = emptyHistory; tally = record { accepted = 0; waited = 0; refused = 0; unreadable = 0; same = true } }
+
+-- the entries of a system were compared: all are the same on the single library, or not
+unfoldable pub compared : Progress → Bool → Progress
+compared p same =
+    let t = p .tally in
+    record { line = p .line; control = p .control; history = p .history; tally = record { accepted = t .accepted; waited = t .waited; refused = t .refused; unreadable = t .unreadable; same = t .same && same } }
 
 -- one line more
 unfoldable pub nextLine : Progress → Progress
@@ -63,10 +69,10 @@ unfoldable pub withEntry : Progress → Control → Entry → List ℕ → List 
 withEntry p control e payload cells store =
     kept (addedCells (p .history) e payload cells store) (addedStore (p .history) e payload cells store) (stepped p control (addedHistory (p .history) e payload cells store) Accepted)
 
--- a setup: accepted, the entries begin anew
+-- a setup: accepted, the entries begin anew; refused, memory is unchanged, and the control that there was is kept
 unfoldable pub afterSetup : Progress → Control → SetupAnswer → Progress
 afterSetup p control Setup.Ready = stepped p control emptyHistory Accepted
-afterSetup p control (Setup.Refused n) = stepped p control (p .history) Refused
+afterSetup p control (Setup.Refused n) = stepped p (p .control) (p .history) Refused
 
 -- a send or a refresh
 unfoldable pub afterMove : Progress → Control → CountAnswer → Progress

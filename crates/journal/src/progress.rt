@@ -15,7 +15,7 @@ ghost use mathlib.Core.Path.{_≡_};
 ghost use Prim.Native.Nat.{ℕ, _*_, _<_, _≤_};
 ghost use lib.ListN.{length};
 ghost use Rattle.journal.specs.declared.progress.Outcome.the-variants.{Unreadable};
-ghost use Rattle.journal.specs.Progress.{oneMore, counted, start, nextLine, stepped, kept, entryOf, withEntry, afterSetup, afterMove, afterCommit, placesOf, afterRead, requestIn};
+ghost use Rattle.journal.specs.Progress.{oneMore, counted, start, compared, nextLine, stepped, kept, entryOf, withEntry, afterSetup, afterMove, afterCommit, placesOf, afterRead, requestIn};
 
 // What came of a line: a call was accepted, waits or was refused, or the line could not be read.
 pub enum Outcome {
@@ -25,12 +25,13 @@ pub enum Outcome {
     Unreadable,
 }
 
-// How many lines had each outcome.
+// How many lines had each outcome, and whether every answer that was kept is the same on the single library so far.
 pub struct Tally {
     pub accepted: u32,
     pub waited: u32,
     pub refused: u32,
     pub unreadable: u32,
+    pub same: bool,
 }
 
 // What is carried from line to line; memory is lent beside it.
@@ -104,8 +105,20 @@ impl Progress {
                 waited: 0,
                 refused: 0,
                 unreadable: 0,
+                same: true,
             },
         }
+    }
+
+    // The entries of a system were compared: all are the same, or not.
+    pub fn compared(self, same: bool) -> Progress
+        ensures { λ r. ⌜ (r ≡ compared self same) × (r .history .entries ≤ self .history .entries) ⌝ }
+    {
+        let mut tally = self.tally;
+        tally.same = tally.same & same;
+        let mut next = self;
+        next.tally = tally;
+        next
     }
 
     // One line more.
@@ -148,7 +161,7 @@ impl Progress {
         self.stepped(control, next, Outcome::Accepted)
     }
 
-    // A setup was answered: accepted, the entries begin anew.
+    // A setup was answered: accepted, the entries begin anew; refused, the system before it goes on.
     pub fn after_setup(self, result: SetupResult) -> Progress
         ensures { λ r. ⌜ (r ≡ afterSetup self (result .control) (result .answer)) × (r .history .entries ≤ self .history .entries) ⌝ }
     {
@@ -157,8 +170,9 @@ impl Progress {
         match answer {
             SetupAnswer::Ready => self.stepped(control, History::new(), Outcome::Accepted),
             SetupAnswer::Refused(_) => {
+                let before = self.control;
                 let history = self.history;
-                self.stepped(control, history, Outcome::Refused)
+                self.stepped(before, history, Outcome::Refused)
             }
         }
     }

@@ -1,15 +1,17 @@
 -- Laws of the single library's answers.
 use Prim.Native.Nat.{ℕ, suc, _+_, _-_, _*_, _<_, _≤_}
 use mathlib.Core.Path.{_≡_, refl}
-use mathlib.Core.Bool.{Bool, _&&_}
+use mathlib.Core.Bool.{Bool, cond, _&&_}
 use mathlib.Core.List.{List}
 use native.Mathlib.Omega.{arith}
+use native.Mathlib.Numerals.{add-one}
 use lib.Dec.{eqb}
 use borrow.Author.Tests.{le-leb}
 use Rattle.carts.specs.Bytes.{byte}
 use Rattle.carts.proofs.ScanLaws.{test-end}
 use Rattle.lines.specs.Text.{partIn}
 use Rattle.lines.specs.Build.{askedAt}
+use Rattle.one_copy.specs.Fault.{allowed, firstFault}
 use Rattle.one_copy.specs.Replay.{placeAgrees, heldAt, placesAgree, heldPlaces, numbersAgree}
 
 -- the places left of n, of which i have been passed
@@ -31,3 +33,9 @@ module _ (copy request shown : List ℕ) (n i : ℕ) where
       let a : ok ≡ placesAgree copy request shown 0 n = test-end ok (rw z at p) refl in
       let b : held ≡ heldPlaces copy request 0 n = let r = rw z at q in omega arith in
       rw (a, b, ← e, le-leb n 32 h)
+
+-- one operation more
+pub fault-more : (copy : List ℕ) (byForm : Bool) (ops : List ℕ) (i : ℕ) → firstFault copy byForm ops (i + 1)
+    ≡ cond (eqb (firstFault copy byForm ops i) 0) (cond (allowed copy byForm (partIn ops 0 (80 * (i + 1)))) 0 (i + 1)) (firstFault copy byForm ops i)
+unfolding firstFault
+fault-more copy byForm ops i = rw add-one

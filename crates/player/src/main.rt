@@ -3,6 +3,8 @@
 mod play;
 
 use journal::progress::Progress;
+use journal::status;
+use lines::input;
 use lines::parse;
 use lines::text;
 use lines::text::Class;
@@ -60,7 +62,21 @@ fn play_lines(
     player
 }
 
-// Every line, then the summary and the order of what came last.
+// The summary, the reads that wait and the order of what came last; the status goes to `play`.
+fn tell_end(player: Progress, sessions: &[u8], cells: &[u32], store: &[u8], cut: bool)
+    requires { ⌜ player .history .entries ≤ 1024 ⌝ }
+{
+    if cut {
+        print::summary::cut_after(player.line);
+    }
+    print::summary::summary(player);
+    print::show::waiting(player.control, sessions);
+    let same = print::order::show_order(player.history, cells, store);
+    let last = player.compared(same);
+    print::line::status(status::status(!cut, last.tally));
+}
+
+// Every line, then the end.
 fn play_all(
     library: &mut [u8],
     log: &mut [u8],
@@ -73,11 +89,7 @@ fn play_all(
     requires { ⌜ length (now cells) ≡ 8192 ⌝ }
 {
     let player = play_lines(library, log, sessions, cells, store, bytes, cut);
-    if cut {
-        print::summary::cut_after(player.line);
-    }
-    print::summary::summary(player);
-    print::order::show_order(player.history, cells, store);
+    tell_end(player, sessions, cells, store, cut);
 }
 
 // All memory is on the stack.
@@ -98,13 +110,39 @@ fn play_text(bytes: &[u8], cut: bool) {
     );
 }
 
-// The transcript is cut where there is more to read than the buffer holds.
+// A text after its byte-order mark; any other input is named once, and not played.
+fn play_input(bytes: &[u8], cut: bool) {
+    if !input::is_text(bytes) {
+        print::summary::no_text();
+        print::line::status(2);
+        return;
+    }
+    let start = input::mark_length(bytes);
+    if start <= bytes.len() {
+        play_text(&bytes[start..], cut);
+    }
+}
+
+// What could not be opened or read is told on standard error.
+fn fail(what: &[u8]) {
+    os::fail(what);
+    print::line::status(2);
+}
+
+// The transcript is cut where there is more to read than the buffer holds. os::arg sets errno to 0, and only a read that
+// fails sets it after that.
 fn play_from(fd: i32) {
     let mut text = io::large_buffer();
+    let mut name = io::buffer();
+    os::arg(0, &mut name);
     let n = io::read_full(fd, &mut text);
+    if os::errno() != 0 {
+        fail(b"play: the transcript cannot be read");
+        return;
+    }
     let mut one = [0u8; 1];
     let cut = (n == 65536) & (libc::read(fd, &mut one) > 0);
-    play_text(&text[..n], cut);
+    play_input(&text[..n], cut);
 }
 
 fn main() {
@@ -115,12 +153,12 @@ fn main() {
     let mut path = io::buffer();
     let length = os::arg(1, &mut path);
     if os::errno() != 0 {
-        os::fail(b"path");
+        fail(b"path");
         return;
     }
     let fd = os::open_read(&path[..length]);
     if fd < 0 {
-        os::fail(&path[..length]);
+        fail(&path[..length]);
         return;
     }
     play_from(fd);

@@ -6,6 +6,7 @@ use lines::parse::Call;
 use lines::text;
 use replication::answer::CountResult;
 use replication::answer::ReadResult;
+use replication::answer::SetupResult;
 use replication::collect::collect;
 use replication::commit::commit;
 use replication::read::read;
@@ -15,6 +16,25 @@ use replication::setup::setup;
 ghost use mathlib.Core.Path.{_≡_};
 ghost use Prim.Native.Nat.{_≤_};
 ghost use lib.ListN.{length};
+
+// A setup was answered.
+fn finish_setup(
+    p: Progress,
+    result: SetupResult,
+    cells: &[u32],
+    store: &[u8],
+    studios: u32,
+) -> Progress
+    requires { ⌜ p .history .entries ≤ 1024 ⌝ }
+    ensures { λ r. ⌜ r .history .entries ≤ 1024 ⌝ }
+{
+    let answer = result.answer;
+    let history = p.history;
+    let control = p.control;
+    let is_running = control.studios != 0;
+    let same = print::answer::made(answer, history, cells, store, studios, is_running);
+    p.compared(same).after_setup(result)
+}
 
 fn play_setup(
     p: Progress,
@@ -31,10 +51,7 @@ fn play_setup(
 {
     let places = text::part_of(payload, 0, 16);
     let result = setup(library, log, sessions, studios, places);
-    let answer = result.answer;
-    let history = p.history;
-    print::answer::made(answer, history, cells, store, studios);
-    p.after_setup(result)
+    finish_setup(p, result, cells, store, studios)
 }
 
 fn play_commit(
@@ -52,7 +69,7 @@ fn play_commit(
 {
     let result = commit(p.control, library, log, sessions, session, ops);
     let answer = result.answer;
-    print::answer::committed(answer);
+    print::answer::committed(answer, library, session, ops);
     p.after_commit(result, cells, store, session, ops)
 }
 
@@ -79,7 +96,8 @@ fn finish_read(
     ensures { λ r. ⌜ r .history .entries ≤ 1024 ⌝ }
 {
     let answer = result.answer;
-    print::answer::read(answer, block);
+    let control = p.control;
+    print::answer::read(answer, control.commits, session, block);
     p.after_read(result, cells, store, session, block)
 }
 

@@ -1,27 +1,29 @@
 // What came of a call, printed.
 use crate::line;
 use crate::order;
+use carts::bytes;
 use journal::history::History;
 use journal::progress;
 use lines::build;
 use lines::cursor::Mistake;
 use lines::text;
+use one_copy::fault;
 use replication::answer::CountAnswer;
 use replication::answer::ReadAnswer;
 use replication::answer::SetupAnswer;
 ghost use Prim.Native.Nat.{_<_, _≤_};
 
-// A setup ends the system before it: the order of its answers, where there are any.
-fn ended(h: History, cells: &[u32], store: &[u8])
+// A setup ends the system before it: the order of its answers, where there are any; the answer is whether all are the same.
+fn ended(h: History, cells: &[u32], store: &[u8]) -> bool
     requires { ⌜ h .entries ≤ 1024 ⌝ }
 {
     if h.entries == 0 {
-        return;
+        return true;
     }
     let mut page = io::buffer();
     let n = words::answer::ended(&mut page);
     line::told(&page, n);
-    order::show_order(h, cells, store);
+    order::show_order(h, cells, store)
 }
 
 fn fresh(studios: u32) {
@@ -30,28 +32,82 @@ fn fresh(studios: u32) {
     line::told(&page, n);
 }
 
-// What a setup of so many studios answered, after the history so far.
-pub fn made(answer: SetupAnswer, h: History, cells: &[u32], store: &[u8], studios: u32)
+// A refused setup leaves the system before it, where there is one.
+fn goes_on(is_running: bool) {
+    if !is_running {
+        return;
+    }
+    let mut page = io::buffer();
+    let n = words::answer::goes_on(&mut page);
+    line::told(&page, n);
+}
+
+// What a setup of so many studios answered, after the history so far; the answer is whether that history is the same on a
+// single library.
+pub fn made(
+    answer: SetupAnswer,
+    h: History,
+    cells: &[u32],
+    store: &[u8],
+    studios: u32,
+    is_running: bool,
+) -> bool
     requires { ⌜ h .entries ≤ 1024 ⌝ }
 {
     match answer {
         SetupAnswer::Ready => {
-            ended(h, cells, store);
+            let same = ended(h, cells, store);
             fresh(studios);
+            same
         }
-        SetupAnswer::Refused(row) => line::refusal(row),
+        SetupAnswer::Refused(row) => {
+            line::refusal(row);
+            goes_on(is_running);
+            true
+        }
     }
 }
 
-// What a commit answered.
-pub fn committed(answer: CountAnswer) {
+// Operation i, counted from 1, and its cart.
+fn at_operation(ops: &[u8], i: u32) {
+    if i == 0 {
+        return;
+    }
+    let op = text::part_of(ops, 80 * (i as usize - 1), 80);
+    if op.len() != 80 {
+        return;
+    }
+    let mut page = io::buffer();
+    let n = words::refusal::at_operation(&mut page, i, bytes::u16_at(op, 2));
+    line::told(&page, n);
+}
+
+// The first operation that is at fault at the head end.
+fn show_fault(library: &[u8], ops: &[u8], by_form: bool) {
+    let copy = text::part_of(library, 0, 10240);
+    if copy.len() != 10240 {
+        return;
+    }
+    at_operation(ops, fault::first_fault(copy, ops, by_form));
+}
+
+// A refused commit: refusals 6 and 8 name the operation.
+fn refused_commit(row: u32, library: &[u8], session: u32, ops: &[u8]) {
+    line::refusal_of_session(row, session);
+    if (row == 6) | (row == 8) {
+        show_fault(library, ops, row == 6);
+    }
+}
+
+// What a commit answered, with the head end's copy at the start of the library.
+pub fn committed(answer: CountAnswer, library: &[u8], session: u32, ops: &[u8]) {
     match answer {
         CountAnswer::Number(edit) => {
             let mut page = io::buffer();
             let n = words::answer::committed(&mut page, edit);
             line::told(&page, n);
         }
-        CountAnswer::Refused(row) => line::refusal(row),
+        CountAnswer::Refused(row) => refused_commit(row, library, session, ops),
     }
 }
 
@@ -71,7 +127,7 @@ fn moved_edit(edit: u32, studio: u32, is_sent: bool) {
 pub fn moved(answer: CountAnswer, studio: u32, is_sent: bool) {
     match answer {
         CountAnswer::Number(edit) => moved_edit(edit, studio, is_sent),
-        CountAnswer::Refused(row) => line::refusal(row),
+        CountAnswer::Refused(row) => line::refusal_of_studio(row, studio),
     }
 }
 
@@ -116,9 +172,9 @@ fn found_by_title(block: &[u8], found: u32) {
 }
 
 // An answered read: its request stands at the start of the block, its output after it.
-fn answered(block: &[u8], state: u32, found: u32) {
+fn answered(block: &[u8], state: u32, behind: u32, found: u32) {
     let mut page = io::buffer();
-    let n = words::answer::answered(&mut page, state, found);
+    let n = words::answer::answered(&mut page, state, behind, found);
     line::told(&page, n);
     if text::letter(block, 0) == 2 {
         found_by_title(block, found);
@@ -133,12 +189,14 @@ fn waits(edit: u32) {
     line::told(&page, n);
 }
 
-// What a read or a collect answered.
-pub fn read(answer: ReadAnswer, block: &[u8]) {
+// What a read or a collect of a session answered, with so many edits at the head end.
+pub fn read(answer: ReadAnswer, commits: u32, session: u32, block: &[u8]) {
     match answer {
-        ReadAnswer::Answered { state, found } => answered(block, state, found),
+        ReadAnswer::Answered { state, found } => {
+            answered(block, state, words::answer::behind(commits, state), found)
+        }
         ReadAnswer::Waits(edit) => waits(edit),
-        ReadAnswer::Refused(row) => line::refusal(row),
+        ReadAnswer::Refused(row) => line::refusal_of_session(row, session),
     }
 }
 

@@ -49,7 +49,9 @@ fn studio_line(control: Control, library: &[u8], i: u32)
         return;
     }
     let mut page = io::buffer();
-    let n = report::state::studio(&mut page, i, control.sent_to(i), control.applied_by(i));
+    let applied = control.applied_by(i);
+    let behind = words::answer::behind(control.commits, applied);
+    let n = report::state::studio(&mut page, i, control.sent_to(i), applied, behind);
     line::told(&page, n);
     carts_of(library, i as usize);
 }
@@ -98,4 +100,34 @@ pub fn show(control: Control, library: &[u8], sessions: &[u8]) {
     carts_of(library, 0);
     studios(control, library);
     sessions_of(control, sessions);
+}
+
+fn waiting_heading() {
+    let mut page = io::buffer();
+    let n = report::state::still_waiting(&mut page);
+    line::told(&page, n);
+}
+
+// Session j, where its read waits, after a heading where it is the first; the answer is whether there is a heading now.
+fn waiting_line(control: Control, sessions: &[u8], j: u32, has_heading: bool) -> bool
+    requires { ⌜ (1 ≤ j) × (j ≤ 16) ⌝ }
+{
+    if text::letter(sessions, 80 * (j as usize - 1)) == 0 {
+        return has_heading;
+    }
+    if !has_heading {
+        waiting_heading();
+    }
+    session_line(control, sessions, j);
+    true
+}
+
+// The sessions whose reads wait.
+pub fn waiting(control: Control, sessions: &[u8]) {
+    let mut has_heading = false;
+    let mut j: u32 = 1;
+    while j <= 16 {
+        has_heading = waiting_line(control, sessions, j, has_heading);
+        j += 1;
+    }
 }

@@ -10,6 +10,7 @@ use Rattle.lines.specs.Text.{partIn}
 use Rattle.lines.specs.Words.{bytesOf}
 use Rattle.journal.specs.declared.history.Entry.{Entry}
 use Rattle.journal.specs.declared.progress.Tally.{Tally}
+use Rattle.words.specs.Answers.{behindText}
 use Rattle.words.specs.Page.{decimal, numbered, countOf, quoted}
 
 -- a held cart, by the fields in its 80 bytes; its title stands from byte 16 on
@@ -36,24 +37,32 @@ noSystemText = bytesOf "  there is no system yet\n"
 unfoldable pub headText : ℕ → ℕ → List ℕ
 headText commits used = bytesOf "  head end: " ++ countOf commits (bytesOf "edit") ++ numbered ", " used ++ bytesOf " of 512 log records\n"
 
-unfoldable pub studioText : ℕ → ℕ → ℕ → List ℕ
-studioText i sent applied = numbered "  studio " i ++ numbered ": sent " sent ++ numbered ", applied " applied ++ bytesOf "\n"
+unfoldable pub studioText : ℕ → ℕ → ℕ → ℕ → List ℕ
+studioText i sent applied behind = numbered "  studio " i ++ numbered ": sent " sent ++ numbered ", applied " applied ++ behindText behind ++ bytesOf "\n"
 
 -- the first n numbers that a request asks for, each after a space
 unfoldable pub askedNumbers : List ℕ → ℕ → List ℕ
 askedNumbers request zero = []
 askedNumbers request (suc n) = askedNumbers request n ++ numbered " " (askedAt request n)
 
+-- the edit that a session's read waits for is the session's number
+unfoldable pub untilText : List ℕ → List ℕ
+untilText own = numbered " waits for edit " (u16 own 2) ++ bytesOf "\n"
+
 -- the read that a session has waiting, by byte 0 of its 80 bytes: 1 for so many numbers as byte 1 says, 2 for a title of so many letters
 unfoldable pub waitingText : List ℕ → List ℕ
 waitingText own =
-    cond (eqb (byte own 0) 1) (bytesOf ", a read waits for carts" ++ askedNumbers own (byte own 1) ++ bytesOf "\n")
-    (cond (eqb (byte own 0) 2) (bytesOf ", a read waits for title " ++ quoted (partIn own 16 (byte own 1)) ++ bytesOf "\n")
+    cond (eqb (byte own 0) 1) (bytesOf ", its read of carts" ++ askedNumbers own (byte own 1) ++ untilText own)
+    (cond (eqb (byte own 0) 2) (bytesOf ", its read of title " ++ quoted (partIn own 16 (byte own 1)) ++ untilText own)
     (bytesOf ", nothing waits\n"))
 
 -- a session at a studio: its number in bytes 2 and 3, and its waiting read
 unfoldable pub sessionText : ℕ → ℕ → List ℕ → List ℕ
 sessionText j studio own = numbered "  session " j ++ numbered " at studio " studio ++ numbered ": number " (u16 own 2) ++ waitingText own
+
+-- reads that wait when the transcript ends
+unfoldable pub stillWaitingText : List ℕ
+stillWaitingText = bytesOf "Reads that still wait:\n"
 
 -- the one-copy order begins
 unfoldable pub orderText : List ℕ
@@ -94,3 +103,10 @@ tallyText tally =
 
 unfoldable pub summaryText : ℕ → Tally → List ℕ
 summaryText lines tally = bytesOf "\nSummary: " ++ countOf lines (bytesOf "line") ++ tallyText tally ++ bytesOf "\n"
+
+-- no line was a call; the input is no text
+unfoldable pub noCallText : List ℕ
+noCallText = bytesOf "No call was made: no line of the input is a call\n"
+
+unfoldable pub noTextText : List ℕ
+noTextText = bytesOf "The input is no text: it has a zero byte or a byte-order mark of UTF-16. Nothing was played\n"

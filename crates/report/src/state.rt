@@ -1,13 +1,14 @@
 // The state of copies and sessions in words.
 use carts::bytes;
 use lines::build;
+use words::answer;
 use words::page;
 ghost use mathlib.Core.Path.{_≡_};
 ghost use Prim.Native.Nat.{ℕ, _+_, _≤_};
 ghost use lib.ListN.{length};
 ghost use Prim.Native.Nat.{_*_};
 ghost use Rattle.words.specs.Page.{pageSize, Put, Told};
-ghost use Rattle.report.specs.Lines.{noSystemText, headText, studioText, askedNumbers, waitingText, sessionText};
+ghost use Rattle.report.specs.Lines.{noSystemText, headText, studioText, askedNumbers, untilText, waitingText, stillWaitingText, sessionText};
 
 // There is no system.
 pub fn no_system(out: &mut [u8]) -> usize
@@ -28,15 +29,16 @@ pub fn head_end(out: &mut [u8], commits: u32, used: u32) -> usize
     page::put(out, c, b" of 512 log records\n")
 }
 
-// A studio's counts.
-pub fn studio(out: &mut [u8], i: u32, sent: u32, applied: u32) -> usize
+// A studio's counts, and how many edits its copy is behind the head end.
+pub fn studio(out: &mut [u8], i: u32, sent: u32, applied: u32, behind: u32) -> usize
     requires { ⌜ length (now out) ≡ pageSize ⌝ }
-    ensures { λ r. ⌜ Told (studioText i sent applied) (now (out .entry)) (now (out .exit)) r ⌝ }
+    ensures { λ r. ⌜ Told (studioText i sent applied behind) (now (out .entry)) (now (out .exit)) r ⌝ }
 {
     let a = page::put_numbered(out, 0, b"  studio ", i);
     let b = page::put_numbered(out, a, b": sent ", sent);
     let c = page::put_numbered(out, b, b", applied ", applied);
-    page::put(out, c, b"\n")
+    let d = answer::put_behind(out, c, behind);
+    page::put(out, d, b"\n")
 }
 
 // The first n numbers that a request asks for.
@@ -53,6 +55,15 @@ fn put_asked(out: &mut [u8], at: usize, request: &[u8], n: u32) -> usize
     end
 }
 
+// The edit that a session's read waits for, and the line's end.
+fn put_until(out: &mut [u8], at: usize, own: &[u8]) -> usize
+    requires { ⌜ (at + 32 ≤ length (now out)) × (length (now own) ≡ 80) ⌝ }
+    ensures { λ r. ⌜ Put (untilText (now (own .entry))) (now (out .entry)) at (now (out .exit)) r ⌝ }
+{
+    let a = page::put_numbered(out, at, b" waits for edit ", bytes::u16_at(own, 2));
+    page::put(out, a, b"\n")
+}
+
 // The read that a session has waiting, and the line's end.
 fn put_waiting(out: &mut [u8], at: usize, own: &[u8]) -> usize
     requires { ⌜ (at + 3000 ≤ length (now out)) × (length (now own) ≡ 80) ⌝ }
@@ -60,14 +71,14 @@ fn put_waiting(out: &mut [u8], at: usize, own: &[u8]) -> usize
 {
     let n = bytes::byte_at(own, 1);
     if own[0] == 1 {
-        let a = page::put(out, at, b", a read waits for carts");
+        let a = page::put(out, at, b", its read of carts");
         let b = put_asked(out, a, own, n);
-        return page::put(out, b, b"\n");
+        return put_until(out, b, own);
     }
     if own[0] == 2 {
-        let a = page::put(out, at, b", a read waits for title ");
+        let a = page::put(out, at, b", its read of title ");
         let b = page::put_title(out, a, own, n);
-        return page::put(out, b, b"\n");
+        return put_until(out, b, own);
     }
     page::put(out, at, b", nothing waits\n")
 }
@@ -81,4 +92,12 @@ pub fn session(out: &mut [u8], j: u32, studio: u32, own: &[u8]) -> usize
     let b = page::put_numbered(out, a, b" at studio ", studio);
     let c = page::put_numbered(out, b, b": number ", bytes::u16_at(own, 2));
     put_waiting(out, c, own)
+}
+
+// Reads that wait when the transcript ends.
+pub fn still_waiting(out: &mut [u8]) -> usize
+    requires { ⌜ length (now out) ≡ pageSize ⌝ }
+    ensures { λ r. ⌜ Told stillWaitingText (now (out .entry)) (now (out .exit)) r ⌝ }
+{
+    page::put(out, 0, b"Reads that still wait:\n")
 }

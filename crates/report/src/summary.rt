@@ -5,7 +5,7 @@ ghost use mathlib.Core.Path.{_≡_};
 ghost use Prim.Native.Nat.{ℕ, _+_, _≤_};
 ghost use lib.ListN.{length};
 ghost use Rattle.words.specs.Page.{pageSize, Put, Told};
-ghost use Rattle.report.specs.Lines.{echoText, cutText, tallyText, summaryText};
+ghost use Rattle.report.specs.Lines.{echoText, cutText, tallyText, summaryText, noCallText, noTextText};
 
 // A line's number, before the line itself.
 pub fn echo(out: &mut [u8], line: u32) -> usize
@@ -45,4 +45,28 @@ pub fn summary(out: &mut [u8], lines: u32, tally: Tally) -> usize
     let b = page::put_count(out, a, lines, b"line");
     let c = put_tally(out, b, tally);
     page::put(out, c, b"\n")
+}
+
+// No line was a call.
+pub fn no_call(out: &mut [u8]) -> usize
+    requires { ⌜ length (now out) ≡ pageSize ⌝ }
+    ensures { λ r. ⌜ Told noCallText (now (out .entry)) (now (out .exit)) r ⌝ }
+{
+    page::put(
+        out,
+        0,
+        b"No call was made: no line of the input is a call\n",
+    )
+}
+
+// The input is no text.
+pub fn no_text(out: &mut [u8]) -> usize
+    requires { ⌜ length (now out) ≡ pageSize ⌝ }
+    ensures { λ r. ⌜ Told noTextText (now (out .entry)) (now (out .exit)) r ⌝ }
+{
+    page::put(
+        out,
+        0,
+        b"The input is no text: it has a zero byte or a byte-order mark of UTF-16. Nothing was played\n",
+    )
 }

@@ -9,7 +9,8 @@ use lib.Seq.{take-at, drop-at, drop-drop, length-take-le, set-split}
 use native.Mathlib.Numerals.{add-one}
 use lib.Dec.{ltb, leb, eqb}
 use borrow.Author.Tests.{lt-ltb, le-ltb, ltb-false, eq-eqb, ne-eqb}
-use Rattle.words.specs.Page.{Put, Told, digitsOf, decimal, countOf, oneOf}
+use Rattle.words.specs.Page.{Put, Told, digitsOf, decimal, countOf, oneOf, shownByte, shownTo}
+use Rattle.carts.specs.Bytes.{byte}
 use Rattle.lines.specs.Parse.{begunWith}
 use Rattle.lines.specs.Words.{bytesOf}
 use Rattle.words.specs.Sentences.{refusalSentence}
@@ -58,6 +59,11 @@ put-one before at v h = record {
   page = set-split before at v h ∙ ap (λ r. take at before ++ (v ∷ r)) (sym (drop-drop 1 at before ∙ ap (λ k. drop k before) (add-one at)));
   end = refl;
 }
+
+-- one byte more of a line as it is shown
+pub shown-more : (s : List ℕ) (i : ℕ) → shownTo s (i + 1) ≡ shownTo s i ++ shownByte (byte s i)
+unfolding shownTo
+shown-more s i = rw add-one
 
 -- ten, k times multiplied by itself
 abbrev tens : ℕ → ℕ

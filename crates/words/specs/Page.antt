@@ -1,12 +1,13 @@
 -- A page of lent memory, and text in it.
 use mathlib.Core.Path.{_≡_}
-use mathlib.Core.Bool.{cond}
+use mathlib.Core.Bool.{cond, _||_}
 use mathlib.Core.List.{List, [], _∷_, _++_}
 use Prim.Native.Nat.{ℕ, zero, suc, _+_, _/_, _%_, _≤_}
 use Prim.Native.String.{String}
 use lib.ListN.{length}
 use lib.Dec.{eqb, ltb}
-use Rattle.carts.specs.Bytes.{over}
+use Rattle.carts.specs.Bytes.{byte, over}
+use Rattle.carts.specs.Cart.{printable}
 use Rattle.lines.specs.Words.{bytesOf}
 use Rattle.lines.specs.Parse.{begunWith}
 
@@ -49,3 +50,18 @@ quoted letters = bytesOf "\"" ++ letters ++ bytesOf "\""
 -- text k of four, counted from 0; the last where k is more than 2
 unfoldable pub oneOf : ℕ → List ℕ → List ℕ → List ℕ → List ℕ → List ℕ
 oneOf k a b c d = cond (eqb k 0) a (cond (eqb k 1) b (cond (eqb k 2) c d))
+
+-- a byte as it is shown: a printable one and a tab as they are, any other by its number in base 16
+unfoldable pub hexDigit : ℕ → ℕ
+hexDigit n = cond (ltb n 10) (48 + n) (55 + n)
+
+unfoldable pub shownByte : ℕ → List ℕ
+shownByte b = cond (printable b || eqb b 9) (b ∷ []) (bytesOf "\\x" ++ (hexDigit (b / 16) ∷ []) ++ (hexDigit (b % 16) ∷ []))
+
+-- the first n bytes of a line, and all of them, as they are shown
+unfoldable pub shownTo : List ℕ → ℕ → List ℕ
+shownTo s zero = []
+shownTo s (suc n) = shownTo s n ++ shownByte (byte s n)
+
+unfoldable pub shown : List ℕ → List ℕ
+shown s = shownTo s (length s)

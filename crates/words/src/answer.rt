@@ -1,12 +1,12 @@
 // Answers in words.
 use crate::page;
 ghost use mathlib.Core.Path.{_≡_};
-ghost use Prim.Native.Nat.{ℕ, _+_, _≤_};
+ghost use Prim.Native.Nat.{ℕ, _+_, _-_, _≤_};
 ghost use lib.ListN.{length};
 ghost use mathlib.Core.List.{_++_};
 ghost use Rattle.lines.specs.Words.{bytesOf};
-ghost use Rattle.words.specs.Page.{pageSize, Told, decimal, numbered};
-ghost use Rattle.words.specs.Answers.{freshText, endedText, committedText, sentText, appliedText, answeredText, waitsText, untitledText, severalText};
+ghost use Rattle.words.specs.Page.{pageSize, Put, Told, decimal, numbered};
+ghost use Rattle.words.specs.Answers.{freshText, endedText, goesOnText, committedText, sentText, appliedText, behindText, answeredText, waitsText, untitledText, severalText};
 
 // A setup was accepted.
 pub fn fresh(out: &mut [u8], studios: u32) -> usize
@@ -24,6 +24,14 @@ pub fn ended(out: &mut [u8]) -> usize
     ensures { λ r. ⌜ Told endedText (now (out .entry)) (now (out .exit)) r ⌝ }
 {
     page::put(out, 0, b"  the system before this line ends here\n")
+}
+
+// A setup was refused: memory and control are as they were.
+pub fn goes_on(out: &mut [u8]) -> usize
+    requires { ⌜ length (now out) ≡ pageSize ⌝ }
+    ensures { λ r. ⌜ Told goesOnText (now (out .entry)) (now (out .exit)) r ⌝ }
+{
+    page::put(out, 0, b"  the system before this line goes on unchanged\n")
 }
 
 // A commit was accepted.
@@ -61,14 +69,37 @@ pub fn applied(out: &mut [u8], n: u32, studio: u32) -> usize
     moved(out, n, b" is applied by studio ", studio)
 }
 
-// A read was answered at an edit, with so many carts found.
-pub fn answered(out: &mut [u8], state: u32, found: u32) -> usize
+// How many edits a copy that applied so many is behind the head end.
+pub fn behind(commits: u32, applied: u32) -> u32
+    ensures { λ r. ⌜ r ≡ commits - applied ⌝ }
+{
+    if applied < commits {
+        return commits - applied;
+    }
+    0
+}
+
+// So many edits behind the head end, in words.
+pub fn put_behind(out: &mut [u8], at: usize, edits: u32) -> usize
+    requires { ⌜ at + 64 ≤ length (now out) ⌝ }
+    ensures { λ r. ⌜ Put (behindText edits) (now (out .entry)) at (now (out .exit)) r × (r ≤ at + 64) ⌝ }
+{
+    if edits == 0 {
+        return page::put(out, at, b", level with the head end");
+    }
+    let a = page::put_numbered(out, at, b", ", edits);
+    page::put(out, a, b" behind the head end")
+}
+
+// A read was answered at an edit, so many behind the head end, with so many carts found.
+pub fn answered(out: &mut [u8], state: u32, behind: u32, found: u32) -> usize
     requires { ⌜ length (now out) ≡ pageSize ⌝ }
-    ensures { λ r. ⌜ Told (answeredText state found) (now (out .entry)) (now (out .exit)) r ⌝ }
+    ensures { λ r. ⌜ Told (answeredText state behind found) (now (out .entry)) (now (out .exit)) r ⌝ }
 {
     let a = page::put_numbered(out, 0, b"  answered at edit ", state);
-    let b = page::put_numbered(out, a, b", found ", found);
-    page::put(out, b, b":\n")
+    let b = put_behind(out, a, behind);
+    let c = page::put_numbered(out, b, b", found ", found);
+    page::put(out, c, b":\n")
 }
 
 // A read waits for an edit.

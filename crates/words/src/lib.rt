@@ -3,3 +3,4 @@ pub mod answer;
 pub mod mistake;
 pub mod page;
 pub mod refusal;
+pub mod shown;

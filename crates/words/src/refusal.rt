@@ -5,7 +5,7 @@ ghost use Prim.Native.Nat.{ℕ, _+_, _<_, _≤_};
 ghost use lib.ListN.{length};
 ghost use Rattle.words.specs.Page.{pageSize, Put, Told};
 ghost use Rattle.words.specs.Sentences.{refusalSentence};
-ghost use Rattle.words.specs.Answers.{refusalText};
+ghost use Rattle.words.specs.Answers.{refusalText, noSessionText, noStudioText, atOperationText};
 
 // What refusals 1 to 3 mean; there is no refusal 0.
 fn put_to_3(out: &mut [u8], at: usize, n: u32) -> usize
@@ -100,4 +100,32 @@ pub fn refusal(out: &mut [u8], n: u32) -> usize
     let b = page::put(out, a, b"): ");
     let c = put_sentence(out, b, n);
     page::put(out, c, b"\n")
+}
+
+// Refusal 3 of a call that names a session.
+pub fn no_session(out: &mut [u8], session: u32) -> usize
+    requires { ⌜ length (now out) ≡ pageSize ⌝ }
+    ensures { λ r. ⌜ Told (noSessionText session) (now (out .entry)) (now (out .exit)) r ⌝ }
+{
+    let a = page::put_numbered(out, 0, b"  refused (3): there is no session ", session);
+    page::put(out, a, b", or it is unused\n")
+}
+
+// Refusal 3 of a call that names a studio.
+pub fn no_studio(out: &mut [u8], studio: u32) -> usize
+    requires { ⌜ length (now out) ≡ pageSize ⌝ }
+    ensures { λ r. ⌜ Told (noStudioText studio) (now (out .entry)) (now (out .exit)) r ⌝ }
+{
+    let a = page::put_numbered(out, 0, b"  refused (3): there is no studio ", studio);
+    page::put(out, a, b"\n")
+}
+
+// The operation for which a commit was refused, counted from 1, and its cart.
+pub fn at_operation(out: &mut [u8], i: u32, cart: u32) -> usize
+    requires { ⌜ length (now out) ≡ pageSize ⌝ }
+    ensures { λ r. ⌜ Told (atOperationText i cart) (now (out .entry)) (now (out .exit)) r ⌝ }
+{
+    let a = page::put_numbered(out, 0, b"    it is operation ", i);
+    let b = page::put_numbered(out, a, b" of the commit, on cart ", cart);
+    page::put(out, b, b"\n")
 }

@@ -1,4 +1,3 @@
-use native.Mathlib.Omega.{arith}
 use borrow.Author.Needs.{needs}
 use Rattle.player.proofs.play.play_setup.Statement.{statement}
 use Rattle.player.proofs.play.play_setup.Tie as tie
@@ -9,11 +8,8 @@ part-of-requires c κs = search needs
 setup-requires : tie.Need-setup-requires
 setup-requires c κs = search needs
 
-made-requires : tie.Need-made-requires
-made-requires c κs = search needs
-
-after-setup-requires : tie.Need-after-setup-requires
-after-setup-requires c κs = search needs
+finish-setup-requires : tie.Need-finish-setup-requires
+finish-setup-requires c κs = search needs
 
 same-length : tie.Need-same-length
 same-length c = search needs
@@ -25,17 +21,7 @@ same-length-3 : tie.Need-same-length-3
 same-length-3 c = search needs
 
 returns : tie.Need-returns
-returns c = omega (arith, c .after-setup .ensures .1, c .before .before .before .before .before .before .before .before .before .before .before .before .before .before .before .before .before .before .before .before .pre)
+returns c = search needs
 
 pub play-setup-spec : {M : Type 1} → statement M
-play-setup-spec =
-    tie.close
-    (tie.spec
-    part-of-requires
-    setup-requires
-    made-requires
-    after-setup-requires
-    same-length
-    same-length-2
-    same-length-3
-    returns)
+play-setup-spec = tie.close (tie.spec part-of-requires setup-requires finish-setup-requires same-length same-length-2 same-length-3 returns)

@@ -22,6 +22,9 @@ slice-aggregate-put-numbered-3 c = search needs
 put-numbered-requires-3 : tie.Need-put-numbered-requires-3
 put-numbered-requires-3 c κs = search needs
 
+put-behind-requires : tie.Need-put-behind-requires
+put-behind-requires c κs = search needs
+
 slice-aggregate-put : tie.Need-slice-aggregate-put
 slice-aggregate-put c = search needs
 
@@ -33,7 +36,7 @@ same-length c = search needs
 
 returns : tie.Need-returns
 unfolding studioText
-returns c = told-more (told-more (told-more (told-more (told-none _) (c .before .before .before .before .before .before .before .before .before .before .before .before .before .before .before .before .before .put-numbered .ensures .0)) (c .before .before .before .before .before .before .before .before .before .before .before .before .put-numbered2 .ensures .0)) (c .before .before .before .before .before .before .before .put-numbered3 .ensures .0)) (c .before .before .put .ensures)
+returns c = told-more (told-more (told-more (told-more (told-more (told-none _) (c .before .before .before .before .before .before .before .before .before .before .before .before .before .before .before .before .before .before .before .before .before .put-numbered .ensures .0)) (c .before .before .before .before .before .before .before .before .before .before .before .before .before .before .before .before .put-numbered2 .ensures .0)) (c .before .before .before .before .before .before .before .before .before .before .before .put-numbered3 .ensures .0)) (c .before .before .before .before .before .before .before .put-behind .ensures .0)) (c .before .before .put .ensures)
 
 pub studio-spec : {M : Type 1} → statement M
-studio-spec = tie.close (tie.spec slice-aggregate-put-numbered put-numbered-requires slice-aggregate-put-numbered-2 put-numbered-requires-2 slice-aggregate-put-numbered-3 put-numbered-requires-3 slice-aggregate-put put-requires same-length returns)
+studio-spec = tie.close (tie.spec slice-aggregate-put-numbered put-numbered-requires slice-aggregate-put-numbered-2 put-numbered-requires-2 slice-aggregate-put-numbered-3 put-numbered-requires-3 put-behind-requires slice-aggregate-put put-requires same-length returns)

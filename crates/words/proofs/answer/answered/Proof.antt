@@ -10,6 +10,9 @@ slice-aggregate-put-numbered c = search needs
 put-numbered-requires : tie.Need-put-numbered-requires
 put-numbered-requires c κs = search needs
 
+put-behind-requires : tie.Need-put-behind-requires
+put-behind-requires c κs = search needs
+
 slice-aggregate-put-numbered-2 : tie.Need-slice-aggregate-put-numbered-2
 slice-aggregate-put-numbered-2 c = search needs
 
@@ -27,7 +30,7 @@ same-length c = search needs
 
 returns : tie.Need-returns
 unfolding answeredText
-returns c = told-more (told-more (told-more (told-none _) (c .before .before .before .before .before .before .before .before .before .before .before .before .put-numbered .ensures .0)) (c .before .before .before .before .before .before .before .put-numbered2 .ensures .0)) (c .before .before .put .ensures)
+returns c = told-more (told-more (told-more (told-more (told-none _) (c .before .before .before .before .before .before .before .before .before .before .before .before .before .before .before .before .put-numbered .ensures .0)) (c .before .before .before .before .before .before .before .before .before .before .before .before .put-behind .ensures .0)) (c .before .before .before .before .before .before .before .put-numbered2 .ensures .0)) (c .before .before .put .ensures)
 
 pub answered-spec : {M : Type 1} → statement M
-answered-spec = tie.close (tie.spec slice-aggregate-put-numbered put-numbered-requires slice-aggregate-put-numbered-2 put-numbered-requires-2 slice-aggregate-put put-requires same-length returns)
+answered-spec = tie.close (tie.spec slice-aggregate-put-numbered put-numbered-requires put-behind-requires slice-aggregate-put-numbered-2 put-numbered-requires-2 slice-aggregate-put put-requires same-length returns)

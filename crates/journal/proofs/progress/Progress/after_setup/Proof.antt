@@ -26,7 +26,7 @@ returns c = rw (c .before .before .enum-told .given .1, c .stepped .ensures, c .
 
 returns-2 : tie.Need-returns-2
 unfolding stepped afterSetup
-returns-2 c = rw (c .before .before .enum-told2 .given .1, c .stepped2 .ensures) (refl, omega arith)
+returns-2 c = rw (c .before .before .before .enum-told2 .given .1, c .stepped2 .ensures) (refl, omega arith)
 
 pub after-setup-spec : {M : Type 1} → statement M
 after-setup-spec =
