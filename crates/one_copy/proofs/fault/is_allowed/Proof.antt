@@ -1,4 +1,4 @@
-use Rattle.one_copy.proofs.ReplayLaws.{forms-fields}
+use Rattle.carts.proofs.OperationLaws.{forms-fields}
 use Rattle.one_copy.specs.Fault.{allowed}
 use mathlib.Core.Path.{sym, _∙_}
 use borrow.Author.Tests.{not-true, not-false}
