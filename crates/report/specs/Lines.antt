@@ -2,7 +2,7 @@
 use mathlib.Core.Bool.{Bool, cond, _&&_}
 use mathlib.Core.List.{List, [], _++_}
 use Prim.Native.Nat.{ℕ, zero, suc}
-use lib.Dec.{eqb}
+use lib.Dec.{eqb, ltb}
 use Rattle.carts.specs.Bytes.{byte, u16}
 use Rattle.carts.specs.Fields.{cartFields}
 use Rattle.lines.specs.Build.{askedAt}
@@ -68,12 +68,41 @@ stillWaitingText = bytesOf "Reads that still wait:\n"
 unfoldable pub orderText : List ℕ
 orderText = bytesOf "One-copy order:\n"
 
--- an entry: a commit (kind 1) or a read, where it stood, and whether its answer is the same on a single library
-unfoldable pub kindText : Entry → List ℕ
-kindText e = cond (eqb (e .kind) 1) (numbered "  edit " (e .number)) (numbered "  read at edit " (e .number))
+-- an entry of the order: its line and session, and what it did: an edit's number and, one by one, its operations
+unfoldable pub placeText : Entry → List ℕ
+placeText e = numbered "  line " (e .line) ++ numbered ", session " (e .session)
 
-unfoldable pub entryText : Entry → Bool → List ℕ
-entryText e same = kindText e ++ numbered " (line " (e .line) ++ numbered ", session " (e .session) ++ cond same (bytesOf "): same\n") (bytesOf "): DIFFERENT\n")
+unfoldable pub editText : Entry → List ℕ
+editText e = placeText e ++ numbered ": edit " (e .number) ++ bytesOf ":"
+
+unfoldable pub operationText : List ℕ → List ℕ
+operationText op =
+    let cart = u16 op 2 in
+    cond (eqb (byte op 0) 1) (numbered " new cart " cart)
+    (cond (eqb (byte op 0) 2) (numbered " retitle cart " cart)
+    (cond (eqb (byte op 0) 3) (numbered " re-cut cart " cart) (numbered " withdraw cart " cart)))
+
+-- or what a read asked for, by byte 0 of its request: 1 for so many numbers as byte 1 says, else a title of so many letters
+unfoldable pub requestText : List ℕ → List ℕ
+requestText request =
+    cond (eqb (byte request 0) 1) (bytesOf ": asked for carts" ++ askedNumbers request (byte request 1))
+    (bytesOf ": asked for title " ++ quoted (partIn request 16 (byte request 1)))
+
+unfoldable pub askedText : Entry → List ℕ → List ℕ
+askedText e request = placeText e ++ requestText request
+
+-- and what it was shown; where the next commit of the order is on an earlier line, that the read stands before it
+unfoldable pub reasonText : Entry → Entry → List ℕ
+reasonText e next =
+    cond (eqb (next .kind) 1 && ltb (next .line) (e .line))
+    (numbered ", so it stands before edit " (next .number) ++ numbered " of line " (next .line)) []
+
+unfoldable pub shownText : Entry → Entry → List ℕ
+shownText e next = numbered ", shown edit " (e .number) ++ numbered " (found " (e .found) ++ bytesOf ")" ++ reasonText e next
+
+-- the entry's end: whether its answer is the same on a single library
+unfoldable pub sameText : Bool → List ℕ
+sameText same = cond same (bytesOf "\n") (bytesOf ": DIFFERENT on a single library\n")
 
 -- what the comparison came to: of so many entries, so many were compared, and so many answers differ
 unfoldable pub unlikeText : ℕ → ℕ → List ℕ

@@ -1,11 +1,13 @@
 // The one-copy order in words.
+use crate::state;
+use carts::bytes;
 use journal::history::Entry;
 use words::page;
 ghost use mathlib.Core.Path.{_≡_};
 ghost use Prim.Native.Nat.{ℕ, _+_, _≤_};
 ghost use lib.ListN.{length};
 ghost use Rattle.words.specs.Page.{pageSize, Put, Told};
-ghost use Rattle.report.specs.Lines.{orderText, kindText, entryText, unlikeText, verdictText, leftOutText};
+ghost use Rattle.report.specs.Lines.{orderText, placeText, editText, operationText, requestText, askedText, reasonText, shownText, sameText, unlikeText, verdictText, leftOutText};
 
 // The order begins.
 pub fn heading(out: &mut [u8]) -> usize
@@ -15,29 +17,98 @@ pub fn heading(out: &mut [u8]) -> usize
     page::put(out, 0, b"One-copy order:\n")
 }
 
-// An entry's kind and number.
-fn put_kind(out: &mut [u8], e: Entry) -> usize
-    requires { ⌜ 26 ≤ length (now out) ⌝ }
-    ensures { λ r. ⌜ Put (kindText e) (now (out .entry)) 0 (now (out .exit)) r × (r ≤ 26) ⌝ }
+// An entry's line and session.
+fn put_place(out: &mut [u8], e: Entry) -> usize
+    requires { ⌜ 64 ≤ length (now out) ⌝ }
+    ensures { λ r. ⌜ Put (placeText e) (now (out .entry)) 0 (now (out .exit)) r × (r ≤ 64) ⌝ }
 {
-    if e.kind == 1 {
-        return page::put_numbered(out, 0, b"  edit ", e.number);
-    }
-    page::put_numbered(out, 0, b"  read at edit ", e.number)
+    let a = page::put_numbered(out, 0, b"  line ", e.line);
+    page::put_numbered(out, a, b", session ", e.session)
 }
 
-// An entry, where it stood, and whether its answer is the same on a single library.
-pub fn entry(out: &mut [u8], e: Entry, same: bool) -> usize
+// A commit, before its operations.
+pub fn edit(out: &mut [u8], e: Entry) -> usize
     requires { ⌜ length (now out) ≡ pageSize ⌝ }
-    ensures { λ r. ⌜ Told (entryText e same) (now (out .entry)) (now (out .exit)) r ⌝ }
+    ensures { λ r. ⌜ Told (editText e) (now (out .entry)) (now (out .exit)) r ⌝ }
 {
-    let a = put_kind(out, e);
-    let b = page::put_numbered(out, a, b" (line ", e.line);
-    let c = page::put_numbered(out, b, b", session ", e.session);
-    if same {
-        return page::put(out, c, b"): same\n");
+    let a = put_place(out, e);
+    let b = page::put_numbered(out, a, b": edit ", e.number);
+    page::put(out, b, b":")
+}
+
+// An operation of a commit, and its cart.
+pub fn operation(out: &mut [u8], op: &[u8]) -> usize
+    requires { ⌜ (length (now out) ≡ pageSize) × (length (now op) ≡ 80) ⌝ }
+    ensures { λ r. ⌜ Told (operationText (now (op .entry))) (now (out .entry)) (now (out .exit)) r ⌝ }
+{
+    let cart = bytes::u16_at(op, 2);
+    if op[0] == 1 {
+        return page::put_numbered(out, 0, b" new cart ", cart);
     }
-    page::put(out, c, b"): DIFFERENT\n")
+    if op[0] == 2 {
+        return page::put_numbered(out, 0, b" retitle cart ", cart);
+    }
+    if op[0] == 3 {
+        return page::put_numbered(out, 0, b" re-cut cart ", cart);
+    }
+    page::put_numbered(out, 0, b" withdraw cart ", cart)
+}
+
+// What a request asks for.
+fn put_request(out: &mut [u8], at: usize, request: &[u8]) -> usize
+    requires { ⌜ (at + 3000 ≤ length (now out)) × (length (now request) ≡ 80) ⌝ }
+    ensures { λ r. ⌜ Put (requestText (now (request .entry))) (now (out .entry)) at (now (out .exit)) r ⌝ }
+{
+    let n = bytes::byte_at(request, 1);
+    if request[0] == 1 {
+        let a = page::put(out, at, b": asked for carts");
+        return state::put_asked(out, a, request, n);
+    }
+    let a = page::put(out, at, b": asked for title ");
+    page::put_title(out, a, request, n)
+}
+
+// A read, and what it asked for.
+pub fn asked(out: &mut [u8], e: Entry, request: &[u8]) -> usize
+    requires { ⌜ (length (now out) ≡ pageSize) × (length (now request) ≡ 80) ⌝ }
+    ensures { λ r. ⌜ Told (askedText e (now (request .entry))) (now (out .entry)) (now (out .exit)) r ⌝ }
+{
+    let a = put_place(out, e);
+    put_request(out, a, request)
+}
+
+// Why a read stands before the next commit of the order, where that is on an earlier line.
+fn put_reason(out: &mut [u8], at: usize, e: Entry, next: Entry) -> usize
+    requires { ⌜ at + 64 ≤ length (now out) ⌝ }
+    ensures { λ r. ⌜ Put (reasonText e next) (now (out .entry)) at (now (out .exit)) r ⌝ }
+{
+    if (next.kind == 1) & (next.line < e.line) {
+        let a = page::put_numbered(out, at, b", so it stands before edit ", next.number);
+        return page::put_numbered(out, a, b" of line ", next.line);
+    }
+    at
+}
+
+// What a read was shown, and why it stands where it does.
+pub fn shown(out: &mut [u8], e: Entry, next: Entry) -> usize
+    requires { ⌜ length (now out) ≡ pageSize ⌝ }
+    ensures { λ r. ⌜ Told (shownText e next) (now (out .entry)) (now (out .exit)) r ⌝ }
+{
+    let a = page::put_numbered(out, 0, b", shown edit ", e.number);
+    let b = page::put_numbered(out, a, b" (found ", e.found);
+    let c = page::put(out, b, b")");
+    put_reason(out, c, e, next)
+}
+
+// The end of an entry's line: whether its answer is the same on a single library.
+pub fn same(out: &mut [u8], same: bool) -> usize
+    requires { ⌜ length (now out) ≡ pageSize ⌝ }
+    ensures { λ r. ⌜ Told (sameText same) (now (out .entry)) (now (out .exit)) r ⌝ }
+{
+    if same {
+        return page::put(out, 0, b"\n");
+    }
+    page::put(out, 0, b": DIFFERENT on a single library\n")
 }
 
 // How many answers differ, and how many were to be compared.

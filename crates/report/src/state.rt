@@ -42,7 +42,7 @@ pub fn studio(out: &mut [u8], i: u32, sent: u32, applied: u32, behind: u32) -> u
 }
 
 // The first n numbers that a request asks for.
-fn put_asked(out: &mut [u8], at: usize, request: &[u8], n: u32) -> usize
+pub fn put_asked(out: &mut [u8], at: usize, request: &[u8], n: u32) -> usize
     requires { ⌜ at + 11 * n ≤ length (now out) ⌝ }
     ensures { λ r. ⌜ Put (askedNumbers (now (request .entry)) n) (now (out .entry)) at (now (out .exit)) r × (r ≤ at + 11 * n) ⌝ }
 {
