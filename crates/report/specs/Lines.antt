@@ -64,9 +64,9 @@ sessionText j studio own = numbered "  session " j ++ numbered " at studio " stu
 unfoldable pub stillWaitingText : List ℕ
 stillWaitingText = bytesOf "Reads that still wait:\n"
 
--- the one-copy order begins
-unfoldable pub orderText : List ℕ
-orderText = bytesOf "One-copy order:\n"
+-- the one-copy order begins: how many edits and reads it has
+unfoldable pub orderText : ℕ → ℕ → List ℕ
+orderText edits reads = bytesOf "One-copy order of " ++ countOf edits (bytesOf "edit") ++ bytesOf " and " ++ countOf reads (bytesOf "read") ++ bytesOf ":\n"
 
 -- an entry of the order: its line and session, and what it did: an edit's number and, one by one, its operations
 unfoldable pub placeText : Entry → List ℕ

@@ -10,11 +10,15 @@ ghost use Rattle.words.specs.Page.{pageSize, Put, Told};
 ghost use Rattle.report.specs.Lines.{orderText, placeText, editText, operationText, requestText, askedText, reasonText, shownText, sameText, unlikeText, verdictText, leftOutText};
 
 // The order begins.
-pub fn heading(out: &mut [u8]) -> usize
+pub fn heading(out: &mut [u8], edits: u32, reads: u32) -> usize
     requires { ⌜ length (now out) ≡ pageSize ⌝ }
-    ensures { λ r. ⌜ Told orderText (now (out .entry)) (now (out .exit)) r ⌝ }
+    ensures { λ r. ⌜ Told (orderText edits reads) (now (out .entry)) (now (out .exit)) r ⌝ }
 {
-    page::put(out, 0, b"One-copy order:\n")
+    let a = page::put(out, 0, b"One-copy order of ");
+    let b = page::put_count(out, a, edits, b"edit");
+    let c = page::put(out, b, b" and ");
+    let d = page::put_count(out, c, reads, b"read");
+    page::put(out, d, b":\n")
 }
 
 // An entry's line and session.
