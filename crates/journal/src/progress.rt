@@ -236,11 +236,11 @@ impl Progress {
         match answer {
             ReadAnswer::Answered { state, found } => {
                 let e = entry_of(2, self.line, session, state, found);
-                let payload = text::part_of(block, 0, 80 + 80 * places(block));
+                let payload = text::part_of(block, 0, Entry::SLOT + Entry::SLOT * places(block));
                 self.with_entry(control, cells, store, e, payload)
             }
             ReadAnswer::Waits(_) => {
-                history::keep_request(store, session, text::part_of(block, 0, 80));
+                history::keep_request(store, session, text::part_of(block, 0, Entry::SLOT));
                 self.stepped(control, history, Outcome::Waited)
             }
             ReadAnswer::Refused(_) => self.stepped(control, history, Outcome::Refused),
@@ -275,5 +275,5 @@ pub fn put_request(block: &mut [u8], request: &[u8])
     if request.len() != Entry::SLOT {
         return;
     }
-    bytes::copy_all(&mut block[0..80], request);
+    bytes::copy_all(&mut block[0..Entry::SLOT], request);
 }

@@ -1,6 +1,7 @@
 // The bytes of operations, requests and studios.
 use crate::text;
 use carts::bytes;
+use carts::cart::Cart;
 ghost use mathlib.Core.Path.{_≡_};
 ghost use Prim.Native.Nat.{ℕ, _+_, _*_, _-_, _<_, _≤_};
 ghost use mathlib.Core.List.{_++_};
@@ -25,11 +26,11 @@ fn put_title(field: &mut [u8], title: &[u8])
     ensures { λ _. ⌜ now (field .exit) ≡ take 64 (now (title .entry)) ++ drop (length (now (title .entry))) (now (field .entry)) ⌝ }
 {
     let n = title.len();
-    if n <= 64 {
+    if n <= Cart::TITLE_SIZE {
         bytes::copy_all(&mut field[..n], title);
         return;
     }
-    bytes::copy_all(field, &title[..64]);
+    bytes::copy_all(field, &title[..Cart::TITLE_SIZE]);
 }
 
 // An operation of a kind, or a request by title (kind 2, the numbers zero). What its kind leaves out is zero or empty.
@@ -40,10 +41,10 @@ pub fn put_operation(s: &mut [u8], kind: u8, cart: u32, audio: u32, milliseconds
     bytes::clear(s);
     s[0] = kind;
     s[1] = title.len() as u8;
-    bytes::put_u16(s, 2, cart);
-    put_u32(s, 4, audio);
-    put_u32(s, 8, milliseconds);
-    put_title(&mut s[16..80], title);
+    bytes::put_u16(s, Cart::NUMBER_AT, cart);
+    put_u32(s, Cart::AUDIO_AT, audio);
+    put_u32(s, Cart::LENGTH_AT, milliseconds);
+    put_title(&mut s[Cart::TITLE_AT..Cart::SIZE], title);
 }
 
 // A request by at most 32 cart numbers.
@@ -54,7 +55,7 @@ pub fn put_numbers(request: &mut [u8], numbers: &[u32])
     bytes::clear(request);
     request[0] = 1;
     request[1] = numbers.len() as u8;
-    put_u16s(&mut request[16..80], numbers);
+    put_u16s(&mut request[Cart::TITLE_AT..Cart::SIZE], numbers);
 }
 
 // Numbers of two bytes, one after the other at the start of a field.
@@ -73,7 +74,7 @@ fn put_u16s(field: &mut [u8], numbers: &[u32])
 pub fn asked(request: &[u8], i: u32) -> u32
     ensures { λ r. ⌜ r ≡ askedAt (now (request .entry)) i ⌝ }
 {
-    let at = 16 + 2 * (i as usize);
+    let at = Cart::TITLE_AT + 2 * (i as usize);
     text::wide(text::letter(request, at)) + 256 * text::wide(text::letter(request, at + 1))
 }
 

@@ -8,6 +8,7 @@ use crate::cursor::Taken;
 use crate::text;
 use crate::text::Class;
 use carts::bytes;
+use carts::cart::Cart;
 ghost use mathlib.Core.Path.{_≡_};
 ghost use Prim.Native.Nat.{ℕ, _+_, _*_, _-_, _<_, _≤_};
 ghost use lib.ListN.{length};
@@ -133,7 +134,7 @@ fn operations(s: &[u8], c: Cursor, payload: &mut [u8]) -> Counted
     requires { ⌜ length (now payload) ≡ 640 ⌝ }
     ensures { λ r. ⌜ Stored 80 (operationsAt (now (s .entry)) c) (now (payload .entry)) (now (payload .exit)) r × (1 ≤ r .count) × (r .count ≤ 8) ⌝ }
 {
-    let mut next = operation(s, c, &mut payload[0..80]);
+    let mut next = operation(s, c, &mut payload[0..Cart::SIZE]);
     let mut n: usize = 1;
     while n < 8 {
         if cursor::peek(s, next) != 59 {
@@ -142,8 +143,8 @@ fn operations(s: &[u8], c: Cursor, payload: &mut [u8]) -> Counted
                 cursor: next,
             };
         }
-        let start = 80 * n;
-        let end = start + 80;
+        let start = Cart::SIZE * n;
+        let end = start + Cart::SIZE;
         next = operation(
             s,
             cursor::mark(s, next, 59, Mistake::TooMuch),
@@ -249,10 +250,10 @@ fn read(s: &[u8], c: Cursor, payload: &mut [u8]) -> Call
     let colon = cursor::mark(s, session.cursor, 58, Mistake::ColonMissing);
     let next = cursor::peek(s, colon);
     if (next == 34) | (next == 39) {
-        let end = title_request(s, colon, &mut payload[0..80]);
+        let end = title_request(s, colon, &mut payload[0..Cart::SIZE]);
         return whole(s, end, Call::Read(session.value));
     }
-    let end = numbers_request(s, colon, &mut payload[0..80]);
+    let end = numbers_request(s, colon, &mut payload[0..Cart::SIZE]);
     whole(s, end, Call::Read(session.value))
 }
 

@@ -1,4 +1,5 @@
 // Which operation of a refused commit is at fault.
+use carts::cart::Cart;
 use carts::operation;
 use lines::text;
 ghost use mathlib.Core.Path.{_≡_};
@@ -45,7 +46,7 @@ pub fn first_fault(copy: &[u8], ops: &[u8], by_form: bool) -> u32
     let mut i: u32 = 0;
     while i < 8 {
         i += 1;
-        let prefix = text::part_of(ops, 0, 80 * (i as usize));
+        let prefix = text::part_of(ops, 0, Cart::SIZE * (i as usize));
         first = next_fault(first, i, is_allowed(copy, prefix, by_form));
     }
     first

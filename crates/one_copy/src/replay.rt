@@ -1,10 +1,12 @@
 // The single library of the one-copy order: a lent copy of 10,240 bytes and a count. It is fed operations and requests, and its answers are compared.
 use carts::bytes;
 use carts::cart;
+use carts::cart::Cart;
 use carts::operation;
 use carts::titles;
 use carts::titles::Found;
 use lines::text;
+use replication::session::Session;
 ghost use mathlib.Core.Path.{_≡_};
 ghost use mathlib.Core.Bool.{cond, _&&_};
 ghost use Prim.Native.Nat.{ℕ, _+_, _*_, _-_, _<_, _≤_};
@@ -34,7 +36,7 @@ fn place_agrees(copy: &[u8], c: u32, place: &[u8]) -> bool
     requires { ⌜ length (now copy) ≡ 10240 ⌝ }
     ensures { λ r. ⌜ r ≡ placeAgrees (now (copy .entry)) c (now (place .entry)) ⌝ }
 {
-    if !bytes::is_within(1, 128, c) {
+    if !bytes::is_within(1, Cart::COUNT, c) {
         return false;
     }
     text::same(cart::cart_at(copy, c), place)
@@ -45,7 +47,7 @@ fn held_at(copy: &[u8], c: u32) -> u32
     requires { ⌜ length (now copy) ≡ 10240 ⌝ }
     ensures { λ r. ⌜ (r ≡ heldAt (now (copy .entry)) c) × (r ≤ 1) ⌝ }
 {
-    if !bytes::is_within(1, 128, c) {
+    if !bytes::is_within(1, Cart::COUNT, c) {
         return 0;
     }
     if cart::is_held(cart::cart_at(copy, c)) {
@@ -60,15 +62,15 @@ pub fn numbers_agree(copy: &[u8], request: &[u8], found: u32, shown: &[u8]) -> b
     ensures { λ r. ⌜ r ≡ numbersAgree (now (copy .entry)) (now (request .entry)) found (now (shown .entry)) ⌝ }
 {
     let n = bytes::byte_at(request, 1) as usize;
-    if 32 < n {
+    if Session::NUMBERS_MOST < n {
         return false;
     }
     let mut ok = true;
     let mut held: u32 = 0;
     let mut i = 0;
     while i < n {
-        let c = bytes::u16_at(request, 16 + 2 * i);
-        ok &= place_agrees(copy, c, text::part_of(shown, 80 * i, 80));
+        let c = bytes::u16_at(request, Session::PAYLOAD_AT + 2 * i);
+        ok &= place_agrees(copy, c, text::part_of(shown, Cart::SIZE * i, Cart::SIZE));
         held += held_at(copy, c);
         i += 1;
     }
@@ -82,9 +84,9 @@ pub fn title_agrees(copy: &[u8], title: &[u8], found: u32, shown: &[u8]) -> bool
 {
     let result = titles::search(copy, title);
     let count = titles::found_count(result);
-    let place = text::part_of(shown, 0, 80);
+    let place = text::part_of(shown, 0, Cart::SIZE);
     let Found::One(c) = result else {
-        let nothing = [0u8; 80];
+        let nothing = [0u8; Cart::SIZE];
         return (count == found) & text::same(&nothing, place);
     };
     (count == found) & text::same(cart::cart_at(copy, c), place)
@@ -105,7 +107,7 @@ pub fn read_agrees(
     if state != count {
         return false;
     }
-    if request.len() != 80 {
+    if request.len() != Session::SIZE {
         return false;
     }
     if request[0] == 1 {
@@ -115,9 +117,9 @@ pub fn read_agrees(
         return false;
     }
     let n = bytes::byte_at(request, 1) as usize;
-    if 64 < n {
+    if Cart::TITLE_SIZE < n {
         return false;
     }
-    let end = 16 + n;
-    title_agrees(copy, &request[16..end], found, shown)
+    let end = Session::PAYLOAD_AT + n;
+    title_agrees(copy, &request[Session::PAYLOAD_AT..end], found, shown)
 }

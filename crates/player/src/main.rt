@@ -8,6 +8,9 @@ use lines::input;
 use lines::parse;
 use lines::text;
 use lines::text::Class;
+use replication::control::Control;
+use replication::record::Record;
+use replication::session::Session;
 ghost use mathlib.Core.Path.{_≡_};
 ghost use Prim.Native.Nat.{_≤_};
 ghost use lib.ListN.{length};
@@ -30,7 +33,7 @@ fn play_line(
         return p;
     }
     let next = p.next_line();
-    let mut payload = [0u8; 640];
+    let mut payload = [0u8; Record::TRANSACTION_SIZE];
     let call = parse::parse(line, &mut payload);
     print::summary::echo(next.line, line, call);
     play::play_call(next, library, log, sessions, cells, store, call, &payload)
@@ -94,9 +97,9 @@ fn play_all(
 
 // All memory is on the stack.
 fn play_text(bytes: &[u8], cut: bool) {
-    let mut library = [0u8; 51200];
-    let mut log = [0u8; 40960];
-    let mut sessions = [0u8; 1280];
+    let mut library = [0u8; Control::LIBRARY_SIZE];
+    let mut log = [0u8; Record::LOG_SIZE];
+    let mut sessions = [0u8; Session::MEMORY_SIZE];
     let mut cells = [0u32; 8192];
     let mut store = [0u8; 262144];
     play_all(

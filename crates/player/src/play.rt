@@ -10,8 +10,10 @@ use replication::answer::SetupResult;
 use replication::collect::collect;
 use replication::commit::commit;
 use replication::read::read;
+use replication::record::Record;
 use replication::refresh::refresh;
 use replication::send::send;
+use replication::session::Session;
 use replication::setup::setup;
 ghost use mathlib.Core.Path.{_≡_};
 ghost use Prim.Native.Nat.{_≤_};
@@ -116,7 +118,7 @@ fn play_read(
 {
     let mut block = [0u8; 2640];
     progress::put_request(&mut block, request);
-    let output = &mut block[80..2640];
+    let output = &mut block[Session::SIZE..2640];
     let result = read(p.control, library, log, sessions, session, request, output);
     finish_read(p, result, cells, store, session, &block)
 }
@@ -135,7 +137,7 @@ fn play_collect(
 {
     let mut block = [0u8; 2640];
     progress::put_request(&mut block, history::kept_request(store, session));
-    let output = &mut block[80..2640];
+    let output = &mut block[Session::SIZE..2640];
     let result = collect(p.control, library, log, sessions, session, output);
     finish_read(p, result, cells, store, session, &block)
 }
@@ -188,11 +190,11 @@ pub fn play_call(
             session,
             operations,
         } => {
-            let ops = text::part_of(payload, 0, 80 * (operations as usize));
+            let ops = text::part_of(payload, 0, Record::SIZE * (operations as usize));
             play_commit(p, library, log, sessions, cells, store, session, ops)
         }
         Call::Read(session) => {
-            let request = text::part_of(payload, 0, 80);
+            let request = text::part_of(payload, 0, Session::SIZE);
             play_read(p, library, log, sessions, cells, store, session, request)
         }
         Call::Collect(session) => { play_collect(p, library, log, sessions, cells, store, session) }

@@ -2,6 +2,7 @@
 use crate::line;
 use crate::order;
 use carts::bytes;
+use carts::cart::Cart;
 use journal::history::History;
 use journal::progress;
 use lines::build;
@@ -73,8 +74,8 @@ fn at_operation(ops: &[u8], i: u32) {
     if i == 0 {
         return;
     }
-    let op = text::part_of(ops, 80 * (i as usize - 1), 80);
-    if op.len() != 80 {
+    let op = text::part_of(ops, Cart::SIZE * (i as usize - 1), Cart::SIZE);
+    if op.len() != Cart::SIZE {
         return;
     }
     let mut page = io::buffer();
@@ -84,8 +85,8 @@ fn at_operation(ops: &[u8], i: u32) {
 
 // The first operation that is at fault at the head end.
 fn show_fault(library: &[u8], ops: &[u8], by_form: bool) {
-    let copy = text::part_of(library, 0, 10240);
-    if copy.len() != 10240 {
+    let copy = text::part_of(library, 0, Cart::COPY_SIZE);
+    if copy.len() != Cart::COPY_SIZE {
         return;
     }
     at_operation(ops, fault::first_fault(copy, ops, by_form));
@@ -135,7 +136,7 @@ pub fn moved(answer: CountAnswer, studio: u32, is_sent: bool) {
 fn shown_at(block: &[u8], i: usize)
     requires { ⌜ i < 256 ⌝ }
 {
-    let cart = text::part_of(block, 80 + 80 * i, 80);
+    let cart = text::part_of(block, Cart::SIZE + Cart::SIZE * i, Cart::SIZE);
     if text::letter(cart, 0) == 1 {
         line::cart(cart);
         return;
@@ -158,7 +159,7 @@ fn shown(block: &[u8], n: usize)
 // What a read by title found.
 fn found_by_title(block: &[u8], found: u32) {
     if found == 1 {
-        line::cart(text::part_of(block, 80, 80));
+        line::cart(text::part_of(block, Cart::SIZE, Cart::SIZE));
         return;
     }
     let mut page = io::buffer();

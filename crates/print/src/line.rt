@@ -1,4 +1,5 @@
 // A page, a cart and a refusal, printed.
+use carts::cart::Cart;
 use libc::STDOUT_FILENO;
 use lines::text;
 ghost use Prim.Native.Nat.{_≤_};
@@ -28,7 +29,7 @@ pub fn told(page: &[u8], n: usize)
 
 // What a held cart has.
 pub fn cart(s: &[u8]) {
-    if s.len() != 80 {
+    if s.len() != Cart::SIZE {
         return;
     }
     let mut page = io::buffer();

@@ -1,7 +1,9 @@
 // The state of all copies and sessions.
 use crate::line;
+use carts::cart::Cart;
 use lines::text;
 use replication::control::Control;
+use replication::session::Session;
 ghost use mathlib.Core.Path.{_≡_};
 ghost use Prim.Native.Nat.{_+_, _*_, _<_, _≤_};
 ghost use lib.Dec.{eqb};
@@ -13,7 +15,7 @@ fn cart_of(library: &[u8], copy: usize, c: usize) -> bool
     requires { ⌜ (copy < 5) × (c < 128) ⌝ }
     ensures { λ r. ⌜ r ≡ eqb (byte (partIn (now (library .entry)) (10240 * copy + 80 * c) 80) 0) 1 ⌝ }
 {
-    let cart = text::part_of(library, 10240 * copy + 80 * c, 80);
+    let cart = text::part_of(library, Cart::COPY_SIZE * copy + Cart::SIZE * c, Cart::SIZE);
     if text::letter(cart, 0) != 1 {
         return false;
     }
@@ -63,8 +65,8 @@ fn session_line(control: Control, sessions: &[u8], j: u32)
     if at == 0 {
         return;
     }
-    let own = text::part_of(sessions, 80 * (j as usize - 1), 80);
-    if own.len() != 80 {
+    let own = text::part_of(sessions, Session::SIZE * (j as usize - 1), Session::SIZE);
+    if own.len() != Session::SIZE {
         return;
     }
     let mut page = io::buffer();
@@ -82,7 +84,7 @@ fn studios(control: Control, library: &[u8]) {
 
 fn sessions_of(control: Control, sessions: &[u8]) {
     let mut j: u32 = 1;
-    while j <= 16 {
+    while j <= Session::COUNT {
         session_line(control, sessions, j);
         j += 1;
     }
@@ -112,7 +114,7 @@ fn waiting_heading() {
 fn waiting_line(control: Control, sessions: &[u8], j: u32, has_heading: bool) -> bool
     requires { ⌜ (1 ≤ j) × (j ≤ 16) ⌝ }
 {
-    if text::letter(sessions, 80 * (j as usize - 1)) == 0 {
+    if text::letter(sessions, Session::SIZE * (j as usize - 1)) == 0 {
         return has_heading;
     }
     if !has_heading {
@@ -126,7 +128,7 @@ fn waiting_line(control: Control, sessions: &[u8], j: u32, has_heading: bool) ->
 pub fn waiting(control: Control, sessions: &[u8]) {
     let mut has_heading = false;
     let mut j: u32 = 1;
-    while j <= 16 {
+    while j <= Session::COUNT {
         has_heading = waiting_line(control, sessions, j, has_heading);
         j += 1;
     }

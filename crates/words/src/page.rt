@@ -1,5 +1,6 @@
 // A page of lent memory: words and numbers put in at a place. The answer is the place after them.
 use carts::bytes;
+use carts::cart::Cart;
 use lines::text;
 ghost use mathlib.Core.Path.{_≡_};
 ghost use mathlib.Core.List.{List, [], _∷_, _++_};
@@ -121,5 +122,5 @@ pub fn put_title(out: &mut [u8], at: usize, s: &[u8], n: u32) -> usize
     requires { ⌜ (at + 82 ≤ length (now out)) × (length (now s) ≡ 80) ⌝ }
     ensures { λ r. ⌜ Put (quoted (partIn (now (s .entry)) 16 n)) (now (out .entry)) at (now (out .exit)) r × (r ≤ at + 82) ⌝ }
 {
-    put_quoted(out, at, text::part_of(s, 16, n as usize))
+    put_quoted(out, at, text::part_of(s, Cart::TITLE_AT, n as usize))
 }
