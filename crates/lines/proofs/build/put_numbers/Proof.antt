@@ -32,10 +32,10 @@ put-u16s-requires : tie.Need-put-u16s-requires
 put-u16s-requires c κs = search needs
 
 same-length : tie.Need-same-length
-same-length c = let xs = set (set (c .before .before .before .before .before .before .clear .last .0) 0 1) 1 (length (c .before .before .before .before .before .before .before .before .before .before .args .numbers .now)) in same-len-mid 16 64 xs (c .before .before .put-u16s .last .0) (c .before .before .put-u16s .kept .0) ∙ simp length-set (c .before .before .before .before .before .before .clear .kept .0)
+same-length c = let at-clear = c .before .before .before .before .before .before in let xs = set (set (at-clear .clear .last .0) 0 1) 1 (length (at-clear .before .before .before .before .args .numbers .now)) in same-len-mid 16 64 xs (c .before .before .put-u16s .last .0) (c .before .before .put-u16s .kept .0) ∙ simp length-set (at-clear .clear .kept .0)
 
 returns : tie.Need-returns
-returns c = rw (c .before .before .put-u16s .ensures, c .before .before .before .before .before .before .clear .ensures, c .before .before .before .before .before .before .before .before .before .before .pre .0) (numbers-stored (c .before .before .before .before .before .before .before .before .before .before .args .numbers .now))
+returns c = let at-clear = c .before .before .before .before .before .before in rw (c .before .before .put-u16s .ensures, at-clear .clear .ensures, at-clear .before .before .before .before .pre .0) (numbers-stored (at-clear .before .before .before .before .args .numbers .now))
 
 pub put-numbers-spec : {M : Type 1} → statement M
 put-numbers-spec =

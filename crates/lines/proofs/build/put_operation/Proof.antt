@@ -26,7 +26,7 @@ put-u32-requires : tie.Need-put-u32-requires
 put-u32-requires c κs = omega (arith, simp length-set at (c .before .before .before .put-u16 .kept .0))
 
 put-u32-requires-2 : tie.Need-put-u32-requires-2
-put-u32-requires-2 c κs = omega (arith, c .before .before .before .put-u32 .kept .0, simp length-set at (c .before .before .before .before .before .before .before .put-u16 .kept .0))
+put-u32-requires-2 c κs = let at-put-u16 = c .before .before .before .before .before .before .before in omega (arith, c .before .before .before .put-u32 .kept .0, simp length-set at (at-put-u16 .put-u16 .kept .0))
 
 sub-put-title : tie.Need-sub-put-title
 sub-put-title c = search needs
@@ -35,17 +35,17 @@ part-put-title-start : tie.Need-part-put-title-start
 part-put-title-start c = search needs
 
 part-put-title-end : tie.Need-part-put-title-end
-part-put-title-end c = omega (arith, c .before .before .put-u322 .kept .0, c .before .before .before .before .before .before .put-u32 .kept .0, simp length-set at (c .before .before .before .before .before .before .before .before .before .before .put-u16 .kept .0))
+part-put-title-end c = let at-put-u32 = c .before .before .before .before .before .before in omega (arith, c .before .before .put-u322 .kept .0, at-put-u32 .put-u32 .kept .0, simp length-set at (at-put-u32 .before .before .before .before .put-u16 .kept .0))
 
 put-title-requires : tie.Need-put-title-requires
 put-title-requires c κs = search needs
 
 same-length : tie.Need-same-length
-same-length c = same-len-mid 16 64 (c .before .before .before .before .before .before .put-u322 .last .0) (c .before .before .put-title .last .0) (c .before .before .put-title .kept .0) ∙ c .before .before .before .before .before .before .put-u322 .kept .0 ∙ c .before .before .before .before .before .before .before .before .before .before .put-u32 .kept .0 ∙ c .before .before .before .before .before .before .before .before .before .before .before .before .before .before .put-u16 .kept .0 ∙ simp length-set (c .before .before .before .before .before .before .before .before .before .before .before .before .before .before .before .before .before .before .clear .kept .0)
+same-length c = let at-put-u322 = c .before .before .before .before .before .before in let at-put-u16 = c .before .before .before .before .before .before .before .before .before .before .before .before .before .before in same-len-mid 16 64 (at-put-u322 .put-u322 .last .0) (c .before .before .put-title .last .0) (c .before .before .put-title .kept .0) ∙ at-put-u322 .put-u322 .kept .0 ∙ at-put-u322 .before .before .before .before .put-u32 .kept .0 ∙ at-put-u16 .put-u16 .kept .0 ∙ simp length-set (at-put-u16 .before .before .before .before .clear .kept .0)
 
 returns : tie.Need-returns
-returns c = let a = c .before .before .before .before .before .before .before .before .before .before .before .before .before .before .before .before .before .before .before .before .before .before .args in
-    rw (c .before .before .put-title .ensures, c .before .before .before .before .before .before .put-u322 .ensures, c .before .before .before .before .before .before .before .before .before .before .put-u32 .ensures, c .before .before .before .before .before .before .before .before .before .before .before .before .before .before .put-u16 .ensures, c .before .before .before .before .before .before .before .before .before .before .before .before .before .before .before .before .before .before .clear .ensures, c .before .before .before .before .before .before .before .before .before .before .before .before .before .before .before .before .before .before .before .before .before .before .pre .0)
+returns c = let at-put-u322 = c .before .before .before .before .before .before in let at-put-u16 = c .before .before .before .before .before .before .before .before .before .before .before .before .before .before in let start = c .before .before .before .before .before .before .before .before .before .before .before .before .before .before .before .before .before .before .before .before .before .before in let a = start .args in
+    rw (c .before .before .put-title .ensures, at-put-u322 .put-u322 .ensures, at-put-u322 .before .before .before .before .put-u32 .ensures, at-put-u16 .put-u16 .ensures, at-put-u16 .before .before .before .before .clear .ensures, start .pre .0)
     (operation-stored (a .kind) (a .cart) (a .audio) (a .milliseconds) (a .title .now))
 
 pub put-operation-spec : {M : Type 1} → statement M

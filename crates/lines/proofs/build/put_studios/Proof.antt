@@ -20,7 +20,7 @@ clear-requires c κs = tt
 
 loop-holds : tie.Need-loop-holds Inv-loop μ-loop
 unfolding lowBytes zeros
-loop-holds c = let k = c .before .before .clear in (omega arith, k .kept .0 ∙ c .before .before .before .before .before .before .pre .0, rw (k .ensures, c .before .before .before .before .before .before .pre .0))
+loop-holds c = let start = c .before .before .before .before .before .before in let k = c .before .before .clear in (omega arith, k .kept .0 ∙ start .pre .0, rw (k .ensures, start .pre .0))
 
 mul-places : tie.Need-mul-places Inv-loop μ-loop
 mul-places c = omega arith
@@ -41,13 +41,13 @@ loop-less : tie.Need-loop-less Inv-loop μ-loop
 loop-less c = omega arith
 
 loop-again : tie.Need-loop-again Inv-loop μ-loop
-loop-again c = let t = c .before .before in (omega arith, rw length-set (t .loop .inv .1), rw (t .loop .inv .2) (low-more (c .before .before .before .before .before .before .before .before .before .args .studios .now) (t .loop .i) (omega arith) (omega arith)))
+loop-again c = let start = c .before .before .before .before .before .before .before .before .before in let t = c .before .before in (omega arith, rw length-set (t .loop .inv .1), rw (t .loop .inv .2) (low-more (start .args .studios .now) (t .loop .i) (omega arith) (omega arith)))
 
 same-length : tie.Need-same-length Inv-loop μ-loop
-same-length c = c .before .loop .inv .1 ∙ sym (c .before .before .before .before .before .before .before .before .pre .0)
+same-length c = let start = c .before .before .before .before .before .before .before .before in c .before .loop .inv .1 ∙ sym (start .pre .0)
 
 returns : tie.Need-returns Inv-loop μ-loop
-returns c = let ns = c .before .before .before .before .before .before .before .before .args .studios .now in let e : c .before .loop .i ≡ length ns = omega arith in c .before .loop .inv .2 ∙ low-end ns (c .before .loop .i) e
+returns c = let start = c .before .before .before .before .before .before .before .before in let ns = start .args .studios .now in let e : c .before .loop .i ≡ length ns = omega arith in c .before .loop .inv .2 ∙ low-end ns (c .before .loop .i) e
 
 pub put-studios-spec : {M : Type 1} → statement M
 put-studios-spec =

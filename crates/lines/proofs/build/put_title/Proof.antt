@@ -23,7 +23,7 @@ same-length : tie.Need-same-length
 same-length c = search needs
 
 returns : tie.Need-returns
-returns c = let t = c .before .before .before .before .before .before .before .args .title .now in rw (c .before .before .copy-all .ensures, take-all 64 t (omega arith))
+returns c = let start = c .before .before .before .before .before .before .before in let t = start .args .title .now in rw (c .before .before .copy-all .ensures, take-all 64 t (omega arith))
 
 slice-aggregate-copy-all-2 : tie.Need-slice-aggregate-copy-all-2
 slice-aggregate-copy-all-2 c = let t = c .before .before .before .before .before .args .title .now in let h : 64 ≤ length t = omega arith in sym (length-take-le 64 t h)

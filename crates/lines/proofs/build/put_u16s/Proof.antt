@@ -37,8 +37,8 @@ loop-less : tie.Need-loop-less Inv-loop μ-loop
 loop-less c = omega arith
 
 loop-again : tie.Need-loop-again Inv-loop μ-loop
-loop-again c = let t = c .before .before .before .before .before .before in let p = c .before .before .put-u16 in
-    (omega arith, p .kept .0 ∙ t .loop .inv .1, p .ensures ∙ rw (t .loop .inv .2) (u16s-more (c .before .before .before .before .before .before .before .before .before .args .numbers .now) (c .before .before .before .before .before .before .before .before .before .args .field .now) (t .loop .i) (omega arith)))
+loop-again c = let start = c .before .before .before .before .before .before .before .before .before in let t = c .before .before .before .before .before .before in let p = c .before .before .put-u16 in
+    (omega arith, p .kept .0 ∙ t .loop .inv .1, p .ensures ∙ rw (t .loop .inv .2) (u16s-more (start .args .numbers .now) (start .args .field .now) (t .loop .i) (omega arith)))
 
 same-length : tie.Need-same-length Inv-loop μ-loop
 same-length c = c .before .loop .inv .1 ∙ sym (c .before .before .before .before .pre .0)

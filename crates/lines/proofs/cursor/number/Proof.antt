@@ -40,16 +40,16 @@ stopped-requires-2 : tie.Need-stopped-requires-2
 stopped-requires-2 c κs = search needs
 
 returns : tie.Need-returns
-returns c = let n = c .before .before .before .before .number-of in
-    (rw (c .moved .ensures) (number-by-parts (c .before .before .before .before .before .before .before .before .before .args .s .now) (c .before .before .before .before .before .before .before .before .before .args .c) (c .before .before .before .before .before .before .before .before .before .args .most) (c .before .before .before .before .before .before .before .run-end .result) (c .before .before .before .before .before .before .run-end2 .result) (c .before .before .before .before .before .part-of .result .now) _ (c .before .before .before .before .before .before .before .run-end .ensures .0) (c .before .before .before .before .before .before .run-end2 .ensures .0) (c .before .before .before .before .before .part-of .ensures) (sym (c .before .before .value .given .1) ∙ n .ensures)), number-at-most (c .before .before .before .before .before .before .before .before .before .args .most) (c .before .before .value .given .0 .0) _ (sym (n .ensures) ∙ c .before .before .value .given .1))
+returns c = let at-run-end2 = c .before .before .before .before .before .before in let n = c .before .before .before .before .number-of in
+    (rw (c .moved .ensures) (number-by-parts (at-run-end2 .before .before .before .args .s .now) (at-run-end2 .before .before .before .args .c) (at-run-end2 .before .before .before .args .most) (at-run-end2 .before .run-end .result) (at-run-end2 .run-end2 .result) (c .before .before .before .before .before .part-of .result .now) _ (at-run-end2 .before .run-end .ensures .0) (at-run-end2 .run-end2 .ensures .0) (c .before .before .before .before .before .part-of .ensures) (sym (c .before .before .value .given .1) ∙ n .ensures)), number-at-most (at-run-end2 .before .before .before .args .most) (c .before .before .value .given .0 .0) _ (sym (n .ensures) ∙ c .before .before .value .given .1))
 
 returns-2 : tie.Need-returns-2
-returns-2 c = let n = c .before .before .before .number-of in
-    (rw (c .stopped .ensures) (number-by-parts (c .before .before .before .before .before .before .before .before .args .s .now) (c .before .before .before .before .before .before .before .before .args .c) (c .before .before .before .before .before .before .before .before .args .most) (c .before .before .before .before .before .before .run-end .result) (c .before .before .before .before .before .run-end2 .result) (c .before .before .before .before .part-of .result .now) _ (c .before .before .before .before .before .before .run-end .ensures .0) (c .before .before .before .before .before .run-end2 .ensures .0) (c .before .before .before .before .part-of .ensures) (sym (c .before .enum-told .given .1) ∙ n .ensures)), omega arith)
+returns-2 c = let at-run-end = c .before .before .before .before .before .before in let n = c .before .before .before .number-of in
+    (rw (c .stopped .ensures) (number-by-parts (at-run-end .before .before .args .s .now) (at-run-end .before .before .args .c) (at-run-end .before .before .args .most) (at-run-end .run-end .result) (c .before .before .before .before .before .run-end2 .result) (c .before .before .before .before .part-of .result .now) _ (at-run-end .run-end .ensures .0) (c .before .before .before .before .before .run-end2 .ensures .0) (c .before .before .before .before .part-of .ensures) (sym (c .before .enum-told .given .1) ∙ n .ensures)), omega arith)
 
 returns-3 : tie.Need-returns-3
-returns-3 c = let n = c .before .before .before .number-of in
-    (rw (c .stopped2 .ensures) (number-by-parts (c .before .before .before .before .before .before .before .before .args .s .now) (c .before .before .before .before .before .before .before .before .args .c) (c .before .before .before .before .before .before .before .before .args .most) (c .before .before .before .before .before .before .run-end .result) (c .before .before .before .before .before .run-end2 .result) (c .before .before .before .before .part-of .result .now) _ (c .before .before .before .before .before .before .run-end .ensures .0) (c .before .before .before .before .before .run-end2 .ensures .0) (c .before .before .before .before .part-of .ensures) (sym (c .before .enum-told2 .given .1) ∙ n .ensures)), omega arith)
+returns-3 c = let at-run-end = c .before .before .before .before .before .before in let n = c .before .before .before .number-of in
+    (rw (c .stopped2 .ensures) (number-by-parts (at-run-end .before .before .args .s .now) (at-run-end .before .before .args .c) (at-run-end .before .before .args .most) (at-run-end .run-end .result) (c .before .before .before .before .before .run-end2 .result) (c .before .before .before .before .part-of .result .now) _ (at-run-end .run-end .ensures .0) (c .before .before .before .before .before .run-end2 .ensures .0) (c .before .before .before .before .part-of .ensures) (sym (c .before .enum-told2 .given .1) ∙ n .ensures)), omega arith)
 
 pub number-spec : {M : Type 1} → statement M
 number-spec =

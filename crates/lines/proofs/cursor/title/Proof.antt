@@ -28,7 +28,7 @@ no-title-requires-2 c κs = search needs
 
 returns-2 : tie.Need-returns-2
 unfolding titleAt
-returns-2 c = (rw (c .no-title2 .ensures, ← c .before .before .before .before .run-end .ensures .0, List·getD-eq-default {A = ℕ} (c .before .before .before .before .before .before .args .s .now) 0 (c .before .if2 .taken)), no-title _ _ (c .before .before .before .before .before .before .args .c) TitleMissing (c .no-title2 .ensures))
+returns-2 c = let start = c .before .before .before .before .before .before in (rw (c .no-title2 .ensures, ← c .before .before .before .before .run-end .ensures .0, List·getD-eq-default {A = ℕ} (start .args .s .now) 0 (c .before .if2 .taken)), no-title _ _ (start .args .c) TitleMissing (c .no-title2 .ensures))
 
 add-start : tie.Need-add-start
 add-start c = search needs
@@ -48,7 +48,7 @@ no-title-requires-3 c κs = search needs
 
 returns-3 : tie.Need-returns-3
 unfolding titleFrom
-returns-3 c = (rw (c .no-title3 .ensures, ← opened (c .before .before), le-leb _ _ (c .before .if3 .taken)), no-title _ _ (c .before .before .before .before .before .before .before .before .args .c) TitleOpen (c .no-title3 .ensures))
+returns-3 c = let start = c .before .before .before .before .before .before .before .before in (rw (c .no-title3 .ensures, ← opened (c .before .before), le-leb _ _ (c .before .if3 .taken)), no-title _ _ (start .args .c) TitleOpen (c .no-title3 .ensures))
 
 sub-length : tie.Need-sub-length
 sub-length c = search needs
@@ -58,14 +58,14 @@ no-title-requires-4 c κs = search needs
 
 returns-4 : tie.Need-returns-4
 unfolding titleFrom
-returns-4 c = (rw (c .no-title4 .ensures, ← opened (c .before .before .before), lt-leb _ _ (c .before .before .if3 .left), eq-eqb _ _ (c .before .if4 .taken)), no-title _ _ (c .before .before .before .before .before .before .before .before .before .args .c) TitleEmpty (c .no-title4 .ensures))
+returns-4 c = let start = c .before .before .before .before .before .before .before .before .before in (rw (c .no-title4 .ensures, ← opened (c .before .before .before), lt-leb _ _ (c .before .before .if3 .left), eq-eqb _ _ (c .before .if4 .taken)), no-title _ _ (start .args .c) TitleEmpty (c .no-title4 .ensures))
 
 no-title-requires-5 : tie.Need-no-title-requires-5
 no-title-requires-5 c κs = search needs
 
 returns-5 : tie.Need-returns-5
 unfolding titleFrom
-returns-5 c = (rw (c .no-title5 .ensures, ← opened (c .before .before .before .before), lt-leb _ _ (c .before .before .before .if3 .left), ne-eqb _ _ (c .before .before .if4 .left), lt-ltb _ _ (c .before .if5 .taken)), no-title _ _ (c .before .before .before .before .before .before .before .before .before .before .args .c) TitleTooLong (c .no-title5 .ensures))
+returns-5 c = let start = c .before .before .before .before .before .before .before .before .before .before in (rw (c .no-title5 .ensures, ← opened (c .before .before .before .before), lt-leb _ _ (c .before .before .before .if3 .left), ne-eqb _ _ (c .before .before .if4 .left), lt-ltb _ _ (c .before .if5 .taken)), no-title _ _ (start .args .c) TitleTooLong (c .no-title5 .ensures))
 
 sub-all-printable : tie.Need-sub-all-printable
 sub-all-printable c = search needs
@@ -84,7 +84,7 @@ no-title-requires-6 c κs = search needs
 
 returns-6 : tie.Need-returns-6
 unfolding titleFrom
-returns-6 c = (rw (c .no-title6 .ensures, ← opened (c .before .before .before .before .before .before .before), lt-leb _ _ (c .before .before .before .before .before .before .if3 .left), ne-eqb _ _ (c .before .before .before .before .before .if4 .left), le-ltb _ _ (c .before .before .before .before .if5 .left), ← c .before .before .all-printable .ensures, c .before .if6 .taken), no-title _ _ (c .before .before .before .before .before .before .before .before .before .before .before .before .before .args .c) TitleUnprintable (c .no-title6 .ensures))
+returns-6 c = let else3 = c .before .before .before .before .before .before in let start = c .before .before .before .before .before .before .before .before .before .before .before .before .before in (rw (c .no-title6 .ensures, ← opened (else3 .before), lt-leb _ _ (else3 .if3 .left), ne-eqb _ _ (c .before .before .before .before .before .if4 .left), le-ltb _ _ (c .before .before .before .before .if5 .left), ← c .before .before .all-printable .ensures, c .before .if6 .taken), no-title _ _ (start .args .c) TitleUnprintable (c .no-title6 .ensures))
 
 add-moved : tie.Need-add-moved
 add-moved c = search needs
@@ -94,8 +94,8 @@ moved-requires c κs = search needs
 
 returns-7 : tie.Need-returns-7
 unfolding titleFrom
-returns-7 c = let p = c .before .before .all-printable in
-    (rw (c .moved .ensures, ← opened (c .before .before .before .before .before .before .before), lt-leb _ _ (c .before .before .before .before .before .before .if3 .left), ne-eqb _ _ (c .before .before .before .before .before .if4 .left), le-ltb _ _ (c .before .before .before .before .if5 .left), ← c .before .before .all-printable .ensures, c .before .if6 .left), record { inside = omega arith; few = omega arith; letters = sym (p .ensures) ∙ not-false (p .result) (c .before .if6 .left) })
+returns-7 c = let else3 = c .before .before .before .before .before .before in let p = c .before .before .all-printable in
+    (rw (c .moved .ensures, ← opened (else3 .before), lt-leb _ _ (else3 .if3 .left), ne-eqb _ _ (c .before .before .before .before .before .if4 .left), le-ltb _ _ (c .before .before .before .before .if5 .left), ← c .before .before .all-printable .ensures, c .before .if6 .left), record { inside = omega arith; few = omega arith; letters = sym (p .ensures) ∙ not-false (p .result) (c .before .if6 .left) })
 
 pub title-spec : {M : Type 1} → statement M
 title-spec =

@@ -30,7 +30,7 @@ whole-requires-2 c κs = search needs
 
 returns-2 : tie.Need-returns-2
 unfolding numberCallAt
-returns-2 c = (rw (c .whole2 .ensures .0, c .before .before .before .before .before .before .before .number .ensures .0, ← c .before .before .before .before .before .same .ensures, c .before .before .before .before .if1 .left, ← c .before .before .same2 .ensures, c .before .if2 .taken), c .whole2 .ensures .1)
+returns-2 c = let at-number = c .before .before .before .before .before .before .before in (rw (c .whole2 .ensures .0, at-number .number .ensures .0, ← c .before .before .before .before .before .same .ensures, c .before .before .before .before .if1 .left, ← c .before .before .same2 .ensures, c .before .if2 .taken), c .whole2 .ensures .1)
 
 slice-aggregate-same-3 : tie.Need-slice-aggregate-same-3
 slice-aggregate-same-3 c = search needs
@@ -43,11 +43,11 @@ whole-requires-3 c κs = search needs
 
 returns-3 : tie.Need-returns-3
 unfolding numberCallAt
-returns-3 c = (rw (c .whole3 .ensures .0, c .before .before .before .before .before .before .before .before .before .before .number .ensures .0, ← c .before .before .before .before .before .before .before .before .same .ensures, c .before .before .before .before .before .before .before .if1 .left, ← c .before .before .before .before .before .same2 .ensures, c .before .before .before .before .if2 .left, ← c .before .before .same3 .ensures, c .before .if3 .taken), c .whole3 .ensures .1)
+returns-3 c = let else1 = c .before .before .before .before .before .before .before in (rw (c .whole3 .ensures .0, else1 .before .before .before .number .ensures .0, ← else1 .before .same .ensures, else1 .if1 .left, ← c .before .before .before .before .before .same2 .ensures, c .before .before .before .before .if2 .left, ← c .before .before .same3 .ensures, c .before .if3 .taken), c .whole3 .ensures .1)
 
 returns-4 : tie.Need-returns-4
 unfolding numberCallAt
-returns-4 c = (rw (← c .before .before .before .before .before .before .before .same .ensures, c .before .before .before .before .before .before .if1 .left, ← c .before .before .before .before .same2 .ensures, c .before .before .before .if2 .left, ← c .before .same3 .ensures, c .if3 .left), tt)
+returns-4 c = let else1 = c .before .before .before .before .before .before in (rw (← else1 .before .same .ensures, else1 .if1 .left, ← c .before .before .before .before .same2 .ensures, c .before .before .before .if2 .left, ← c .before .same3 .ensures, c .if3 .left), tt)
 
 pub by-number-spec : {M : Type 1} → statement M
 by-number-spec =

@@ -22,7 +22,7 @@ same-length : tie.Need-same-length
 same-length c = search needs
 
 returns : tie.Need-returns
-returns c = commit-by-parts _ _ (c .before .before .before .before .before .before .mark .result) (c .before .before .before .before .before .before .before .number .result) (c .before .before .before .before .operations .result) _ _ _ (c .before .before .before .before .before .before .before .number .ensures .0) (c .before .before .before .before .before .before .mark .ensures) (c .before .before .before .before .operations .ensures .0) (c .whole .ensures .0) (c .whole .ensures .1)
+returns c = let at-mark = c .before .before .before .before .before .before in commit-by-parts _ _ (at-mark .mark .result) (at-mark .before .number .result) (c .before .before .before .before .operations .result) _ _ _ (at-mark .before .number .ensures .0) (at-mark .mark .ensures) (c .before .before .before .before .operations .ensures .0) (c .whole .ensures .0) (c .whole .ensures .1)
 
 pub commit-spec : {M : Type 1} → statement M
 commit-spec =

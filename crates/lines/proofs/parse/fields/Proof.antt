@@ -41,7 +41,7 @@ same-length : tie.Need-same-length
 same-length c = search needs
 
 returns : tie.Need-returns
-returns c = rw (c .before .before .before .put-operation .ensures, add-sub-cancel-left) (fields-by-parts _ _ _ _ _ (c .before .before .before .before .before .before .before .before .before .before .before .before .number .result) (c .before .before .before .before .before .before .before .before .before .before .before .title-if .result) (c .before .before .before .before .before .before .before .before .before .number-if .result) (c .before .before .before .before .before .before .before .number-if2 .result) (c .before .before .before .before .before .before .before .before .before .before .before .before .number .ensures .0) (c .before .before .before .before .before .before .before .before .before .before .before .title-if .ensures .0) (c .before .before .before .before .before .before .before .before .before .number-if .ensures) (c .before .before .before .before .before .before .before .number-if2 .ensures))
+returns c = let at-number-if2 = c .before .before .before .before .before .before .before in rw (c .before .before .before .put-operation .ensures, add-sub-cancel-left) (fields-by-parts _ _ _ _ _ (at-number-if2 .before .before .before .before .before .number .result) (at-number-if2 .before .before .before .before .title-if .result) (at-number-if2 .before .before .number-if .result) (at-number-if2 .number-if2 .result) (at-number-if2 .before .before .before .before .before .number .ensures .0) (at-number-if2 .before .before .before .before .title-if .ensures .0) (at-number-if2 .before .before .number-if .ensures) (at-number-if2 .number-if2 .ensures))
 
 pub fields-spec : {M : Type 1} → statement M
 fields-spec =

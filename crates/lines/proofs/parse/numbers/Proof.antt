@@ -52,7 +52,7 @@ turn c =
     rw (← c .before .peek .ensures, ← c .is-in .ensures) at (numbers-turn _ (a .s .now) (t .next) (a .most) (t .n) (a .out .now) (t .out) (one .result) (t .inv) (omega arith) (one .ensures .0))
 
 same-length : tie.Need-same-length Inv-loop μ-loop
-same-length c = rw length-set (c .before .before .before .before .before .before .loop .inv .kept)
+same-length c = let at-loop = c .before .before .before .before .before .before in rw length-set (at-loop .loop .inv .kept)
 
 returns : tie.Need-returns Inv-loop μ-loop
 returns c = let p = rw (not-true (c .before .is-in .result) (c .if1 .taken)) at (turn (c .before)) in (passed-all _ 1 _ _ _ _ p, omega arith)

@@ -21,13 +21,13 @@ slice-aggregate-put-numbers : tie.Need-slice-aggregate-put-numbers
 slice-aggregate-put-numbers c = let n = c .before .before .before .numbers in let h : n .result .count ≤ length (n .last .1 .1 .1 .0) = omega arith in sym (length-take-le _ _ h)
 
 put-numbers-requires : tie.Need-put-numbers-requires
-put-numbers-requires c κs = let n = c .before .before .before .numbers in let h : n .result .count ≤ length (n .last .1 .1 .1 .0) = omega arith in (c .before .before .before .before .before .before .before .pre, rw (length-take-le _ _ h) (omega arith))
+put-numbers-requires c κs = let start = c .before .before .before .before .before .before .before in let n = c .before .before .before .numbers in let h : n .result .count ≤ length (n .last .1 .1 .1 .0) = omega arith in (start .pre, rw (length-take-le _ _ h) (omega arith))
 
 same-length : tie.Need-same-length
 same-length c = search needs
 
 returns : tie.Need-returns
-returns c = rw (c .before .before .before .put-numbers .ensures) (numbers-request _ _ _ _ (c .before .before .before .before .before .before .before .numbers .result) (c .before .before .before .before .before .before .before .numbers .ensures .0))
+returns c = let at-numbers = c .before .before .before .before .before .before .before in rw (c .before .before .before .put-numbers .ensures) (numbers-request _ _ _ _ (at-numbers .numbers .result) (at-numbers .numbers .ensures .0))
 
 pub numbers-request-spec : {M : Type 1} → statement M
 numbers-request-spec =

@@ -34,7 +34,7 @@ operation-requires : tie.Need-operation-requires Inv-loop μ-loop
 operation-requires c κs = let p = c .before .before .before .args .payload .now in let h : 80 ≤ length p = omega arith in length-take-le 80 p h
 
 loop-holds : tie.Need-loop-holds Inv-loop μ-loop
-loop-holds c = (omega arith, omega arith, same-len-mid 0 80 (c .before .before .before .before .before .before .args .payload .now) (c .before .before .operation .last .1 .1 .0) (c .before .before .operation .kept .1 .1 .0) ∙ c .before .before .before .before .before .before .pre, λ w m p. p)
+loop-holds c = let start = c .before .before .before .before .before .before in (omega arith, omega arith, same-len-mid 0 80 (start .args .payload .now) (c .before .before .operation .last .1 .1 .0) (c .before .before .operation .kept .1 .1 .0) ∙ start .pre, λ w m p. p)
 
 peek-requires : tie.Need-peek-requires Inv-loop μ-loop
 peek-requires c κs = tt
@@ -50,10 +50,10 @@ first c =
     operations-first (a .s .now) (a .c) (one .result) (a .payload .now) (one .last .1 .1 .0) (one .ensures) (one .kept .1 .1 .0 ∙ length-take-le 80 (a .payload .now) (omega arith)) (omega arith)
 
 same-length : tie.Need-same-length Inv-loop μ-loop
-same-length c = c .before .before .before .loop .inv .2 ∙ sym (c .before .before .before .before .before .before .before .before .before .before .pre)
+same-length c = let start = c .before .before .before .before .before .before .before .before .before .before in c .before .before .before .loop .inv .2 ∙ sym (start .pre)
 
 returns : tie.Need-returns Inv-loop μ-loop
-returns c = let t = c .before .before .before in let a = c .before .before .before .before .before .before .before .before .before .before .args in
+returns c = let start = c .before .before .before .before .before .before .before .before .before .before in let t = c .before .before .before in let a = start .args in
     let p = operations-last _ (a .s .now) (t .loop .next) (t .loop .n) _ (t .loop .payload) (t .loop .inv .3 _ _ (first t)) (omega arith) (λ e. c .if1 .taken (c .before .peek .ensures ∙ e)) in
     (passed-all _ 80 _ _ _ _ p, omega arith, omega arith)
 
@@ -85,14 +85,14 @@ loop-less : tie.Need-loop-less Inv-loop μ-loop
 loop-less c = omega arith
 
 loop-again : tie.Need-loop-again Inv-loop μ-loop
-loop-again c = let t = c .before .before .before .before .before .before .before .before in let s = c .before .before .before .before .before .before .before .before .before .before .before .before .before .before .before .args .s .now in let p = c .before .before .operation2 in let a = 80 * t .loop .n in let item = p .last .1 .1 .0 in
+loop-again c = let at-peek = c .before .before .before .before .before .before in let start = c .before .before .before .before .before .before .before .before .before .before .before .before .before .before .before in let t = c .before .before .before .before .before .before .before .before in let s = start .args .s .now in let p = c .before .before .operation2 in let a = 80 * t .loop .n in let item = p .last .1 .1 .0 in
     let h : a + 80 ≤ length (t .loop .payload) = omega arith in
     let l : length item ≡ 80 = p .kept .1 .1 .0 ∙ rw add-sub-cancel-left (length-part (t .loop .payload) a 80 h) in (
       omega arith,
       omega arith,
       same-len-mid a (a + 80 - a) (t .loop .payload) item (p .kept .1 .1 .0) ∙ t .loop .inv .2,
       λ w m q. let r = t .loop .inv .3 w m q in let k = r .kept in
-          rw add-sub-cancel-left (operations-more w s (t .loop .next) (p .result) (t .loop .n) m (t .loop .payload) item r (omega arith) (sym (c .before .before .before .before .before .before .peek .ensures) ∙ c .before .before .before .before .before .if1 .left) (rw (c .before .before .before .before .mark .ensures) at (p .ensures)) l (omega arith)),
+          rw add-sub-cancel-left (operations-more w s (t .loop .next) (p .result) (t .loop .n) m (t .loop .payload) item r (omega arith) (sym (at-peek .peek .ensures) ∙ c .before .before .before .before .before .if1 .left) (rw (c .before .before .before .before .mark .ensures) at (p .ensures)) l (omega arith)),
     )
 
 peek-requires-2 : tie.Need-peek-requires-2 Inv-loop μ-loop
@@ -102,18 +102,18 @@ stopped-requires : tie.Need-stopped-requires Inv-loop μ-loop
 stopped-requires c κs = tt
 
 same-length-2 : tie.Need-same-length-2 Inv-loop μ-loop
-same-length-2 c = c .before .before .before .before .loop .inv .2 ∙ sym (c .before .before .before .before .before .before .before .before .before .before .before .pre)
+same-length-2 c = let start = c .before .before .before .before .before .before .before .before .before .before .before in c .before .before .before .before .loop .inv .2 ∙ sym (start .pre)
 
 returns-2 : tie.Need-returns-2 Inv-loop μ-loop
-returns-2 c = let t = c .before .before .before .before in let a = c .before .before .before .before .before .before .before .before .before .before .before .args in
+returns-2 c = let start = c .before .before .before .before .before .before .before .before .before .before .before in let t = c .before .before .before .before in let a = start .args in
     let p = operations-full _ (a .s .now) (t .loop .next) (t .loop .n) _ (t .loop .payload) (t .loop .inv .3 _ _ (first t)) (omega arith) in
     (rw (c .stopped .ensures) (rw (← c .before .before .peek2 .ensures, c .before .if2 .taken) at (passed-all _ 80 _ _ _ _ p)), omega arith, omega arith)
 
 same-length-3 : tie.Need-same-length-3 Inv-loop μ-loop
-same-length-3 c = c .before .before .before .loop .inv .2 ∙ sym (c .before .before .before .before .before .before .before .before .before .before .pre)
+same-length-3 c = let start = c .before .before .before .before .before .before .before .before .before .before in c .before .before .before .loop .inv .2 ∙ sym (start .pre)
 
 returns-3 : tie.Need-returns-3 Inv-loop μ-loop
-returns-3 c = let t = c .before .before .before in let a = c .before .before .before .before .before .before .before .before .before .before .args in
+returns-3 c = let start = c .before .before .before .before .before .before .before .before .before .before in let t = c .before .before .before in let a = start .args in
     let p = operations-full _ (a .s .now) (t .loop .next) (t .loop .n) _ (t .loop .payload) (t .loop .inv .3 _ _ (first t)) (omega arith) in
     (rw (← c .before .peek2 .ensures, ne-eqb _ _ (c .if2 .left)) at (passed-all _ 80 _ _ _ _ p), omega arith, omega arith)
 

@@ -13,10 +13,10 @@ use Rattle.lines.proofs.parse.parse.Tie as tie
 over : (c : tie.Else1) → isOver (c .before .before .before .before .before .args .s .now) (newAt 0) ≡ false
 over c = rw (c .before .before .new .ensures) at (sym (c .before .is-over .ensures) ∙ c .if1 .left)
 
-word : (c : tie.After-past-word) → c .before .peek-word .result .now ≡ nextWord (c .before .before .before .before .before .before .before .args .s .now) (newAt 0)
+word : (c : tie.After-past-word) → let start = c .before .before .before .before .before .before .before in c .before .peek-word .result .now ≡ nextWord (start .args .s .now) (newAt 0)
 word c = rw (c .before .before .before .before .new .ensures) at (c .before .peek-word .ensures)
 
-next : (c : tie.After-past-word) → c .past-word .result ≡ movedTo (newAt 0) (wordEnd (c .before .before .before .before .before .before .before .args .s .now) (newAt 0))
+next : (c : tie.After-past-word) → let start = c .before .before .before .before .before .before .before in c .past-word .result ≡ movedTo (newAt 0) (wordEnd (start .args .s .now) (newAt 0))
 next c = rw (c .before .before .before .before .new .ensures) at (c .past-word .ensures)
 
 new-requires : tie.Need-new-requires
@@ -47,7 +47,7 @@ whole-requires c κs = search needs
 
 returns-2 : tie.Need-returns-2
 unfolding lineOf
-returns-2 c = line-means _ (line (wholeCall _ (c .before .before .before .before .past-word .result) Show) []) _ _ _ (record { call = c .whole .ensures .0; payload = refl; fits = c .whole .ensures .1 }) (rw (next (c .before .before .before .before), over (c .before .before .before .before .before .before), ← word (c .before .before .before .before), ← c .before .before .same .ensures, c .before .if2 .taken))
+returns-2 c = let else1 = c .before .before .before .before .before .before in line-means _ (line (wholeCall _ (c .before .before .before .before .past-word .result) Show) []) _ _ _ (record { call = c .whole .ensures .0; payload = refl; fits = c .whole .ensures .1 }) (rw (next (c .before .before .before .before), over (else1), ← word (c .before .before .before .before), ← c .before .before .same .ensures, c .before .if2 .taken))
 
 slice-aggregate-same-2 : tie.Need-slice-aggregate-same-2
 slice-aggregate-same-2 c = search needs
@@ -63,7 +63,7 @@ same-length c = search needs
 
 returns-3 : tie.Need-returns-3
 unfolding lineOf
-returns-3 c = line-means _ _ _ _ _ (c .before .before .setup .ensures) (rw (next (c .before .before .before .before .before .before .before .before .before .before), over (c .before .before .before .before .before .before .before .before .before .before .before .before), ← word (c .before .before .before .before .before .before .before .before .before .before), ← c .before .before .before .before .before .before .before .before .same .ensures, c .before .before .before .before .before .before .before .if2 .left, ← c .before .before .before .before .before .same2 .ensures, c .before .before .before .before .if3 .taken))
+returns-3 c = let else2 = c .before .before .before .before .before .before .before in line-means _ _ _ _ _ (c .before .before .setup .ensures) (rw (next (else2 .before .before .before), over (else2 .before .before .before .before .before), ← word (else2 .before .before .before), ← else2 .before .same .ensures, else2 .if2 .left, ← c .before .before .before .before .before .same2 .ensures, c .before .before .before .before .if3 .taken))
 
 slice-aggregate-same-3 : tie.Need-slice-aggregate-same-3
 slice-aggregate-same-3 c = search needs
@@ -79,7 +79,7 @@ same-length-2 c = search needs
 
 returns-4 : tie.Need-returns-4
 unfolding lineOf
-returns-4 c = line-means _ _ _ _ _ (c .before .before .commit .ensures) (rw (next (c .before .before .before .before .before .before .before .before .before .before .before .before .before), over (c .before .before .before .before .before .before .before .before .before .before .before .before .before .before .before), ← word (c .before .before .before .before .before .before .before .before .before .before .before .before .before), ← c .before .before .before .before .before .before .before .before .before .before .before .same .ensures, c .before .before .before .before .before .before .before .before .before .before .if2 .left, ← c .before .before .before .before .before .before .before .before .same2 .ensures, c .before .before .before .before .before .before .before .if3 .left, ← c .before .before .before .before .before .same3 .ensures, c .before .before .before .before .if4 .taken))
+returns-4 c = let else3 = c .before .before .before .before .before .before .before in let at-past-word = c .before .before .before .before .before .before .before .before .before .before .before .before .before in line-means _ _ _ _ _ (c .before .before .commit .ensures) (rw (next (at-past-word), over (at-past-word .before .before), ← word (at-past-word), ← else3 .before .before .before .before .same .ensures, else3 .before .before .before .if2 .left, ← else3 .before .same2 .ensures, else3 .if3 .left, ← c .before .before .before .before .before .same3 .ensures, c .before .before .before .before .if4 .taken))
 
 slice-aggregate-same-4 : tie.Need-slice-aggregate-same-4
 slice-aggregate-same-4 c = search needs
@@ -95,14 +95,14 @@ same-length-3 c = search needs
 
 returns-5 : tie.Need-returns-5
 unfolding lineOf
-returns-5 c = line-means _ _ _ _ _ (c .before .before .read .ensures) (rw (next (c .before .before .before .before .before .before .before .before .before .before .before .before .before .before .before .before), over (c .before .before .before .before .before .before .before .before .before .before .before .before .before .before .before .before .before .before), ← word (c .before .before .before .before .before .before .before .before .before .before .before .before .before .before .before .before), ← c .before .before .before .before .before .before .before .before .before .before .before .before .before .before .same .ensures, c .before .before .before .before .before .before .before .before .before .before .before .before .before .if2 .left, ← c .before .before .before .before .before .before .before .before .before .before .before .same2 .ensures, c .before .before .before .before .before .before .before .before .before .before .if3 .left, ← c .before .before .before .before .before .before .before .before .same3 .ensures, c .before .before .before .before .before .before .before .if4 .left, ← c .before .before .before .before .before .same4 .ensures, c .before .before .before .before .if5 .taken))
+returns-5 c = let else4 = c .before .before .before .before .before .before .before in let else2 = c .before .before .before .before .before .before .before .before .before .before .before .before .before in line-means _ _ _ _ _ (c .before .before .read .ensures) (rw (next (else2 .before .before .before), over (else2 .before .before .before .before .before), ← word (else2 .before .before .before), ← else2 .before .same .ensures, else2 .if2 .left, ← else4 .before .before .before .before .same2 .ensures, else4 .before .before .before .if3 .left, ← else4 .before .same3 .ensures, else4 .if4 .left, ← c .before .before .before .before .before .same4 .ensures, c .before .before .before .before .if5 .taken))
 
 by-number-requires : tie.Need-by-number-requires
 by-number-requires c κs = search needs
 
 returns-6 : tie.Need-returns-6
 unfolding lineOf
-returns-6 c = line-means _ (line (numberCallAt _ (c .before .before .before .before .before .before .before .before .before .before .before .before .before .past-word .result) (c .before .before .before .before .before .before .before .before .before .before .before .before .before .before .peek-word .result .now)) []) _ _ _ (record { call = c .by-number .ensures .0; payload = refl; fits = c .by-number .ensures .1 }) (rw (next (c .before .before .before .before .before .before .before .before .before .before .before .before .before), over (c .before .before .before .before .before .before .before .before .before .before .before .before .before .before .before), ← word (c .before .before .before .before .before .before .before .before .before .before .before .before .before), ← c .before .before .before .before .before .before .before .before .before .before .before .same .ensures, c .before .before .before .before .before .before .before .before .before .before .if2 .left, ← c .before .before .before .before .before .before .before .before .same2 .ensures, c .before .before .before .before .before .before .before .if3 .left, ← c .before .before .before .before .before .same3 .ensures, c .before .before .before .before .if4 .left, ← c .before .before .same4 .ensures, c .before .if5 .left))
+returns-6 c = let else3 = c .before .before .before .before .before .before .before in let at-past-word = c .before .before .before .before .before .before .before .before .before .before .before .before .before in line-means _ (line (numberCallAt _ (at-past-word .past-word .result) (at-past-word .before .peek-word .result .now)) []) _ _ _ (record { call = c .by-number .ensures .0; payload = refl; fits = c .by-number .ensures .1 }) (rw (next (at-past-word), over (at-past-word .before .before), ← word (at-past-word), ← else3 .before .before .before .before .same .ensures, else3 .before .before .before .if2 .left, ← else3 .before .same2 .ensures, else3 .if3 .left, ← c .before .before .before .before .before .same3 .ensures, c .before .before .before .before .if4 .left, ← c .before .before .same4 .ensures, c .before .if5 .left))
 
 pub parse-spec : {M : Type 1} → statement M
 parse-spec =

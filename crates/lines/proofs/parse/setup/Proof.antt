@@ -36,7 +36,7 @@ slice-aggregate-put-studios : tie.Need-slice-aggregate-put-studios
 slice-aggregate-put-studios c = let n = c .before .before .before .numbers in let h : n .result .count ≤ length (n .last .1 .1 .1 .0) = omega arith in sym (length-take-le _ _ h)
 
 put-studios-requires : tie.Need-put-studios-requires
-put-studios-requires c κs = let n = c .before .before .before .numbers in let h : n .result .count ≤ length (n .last .1 .1 .1 .0) = omega arith in let p = c .before .before .before .before .before .before .before .before .before .args .payload .now in let k : 16 ≤ length p = omega arith in
+put-studios-requires c κs = let start = c .before .before .before .before .before .before .before .before .before in let n = c .before .before .before .numbers in let h : n .result .count ≤ length (n .last .1 .1 .1 .0) = omega arith in let p = start .args .payload .now in let k : 16 ≤ length p = omega arith in
     (length-take-le 16 p k, rw (length-take-le _ _ h) (omega arith))
 
 whole-requires : tie.Need-whole-requires
@@ -46,8 +46,8 @@ same-length : tie.Need-same-length
 same-length c = search needs
 
 returns : tie.Need-returns
-returns c = let put = c .before .before .before .put-studios in let read = c .before .before .before .before .before .before .before .numbers in let p = c .before .before .before .before .before .before .before .before .before .before .before .before .before .args .payload .now in
-    rw (put .ensures) (setup-by-parts _ _ (c .before .before .before .before .before .before .before .before .before .mark .result) (c .before .before .before .before .before .before .before .before .before .before .number .result) _ (read .last .1 .1 .1 .0) (read .result) p _ (c .before .before .before .before .before .before .before .before .before .before .number .ensures .0) (c .before .before .before .before .before .before .before .before .before .mark .ensures) (read .ensures .0) (rw (put .ensures) at (put .kept .0 ∙ length-take-le 16 p (omega arith))) (c .whole .ensures .0) (c .whole .ensures .1))
+returns c = let at-numbers = c .before .before .before .before .before .before .before in let start = c .before .before .before .before .before .before .before .before .before .before .before .before .before in let put = c .before .before .before .put-studios in let read = at-numbers .numbers in let p = start .args .payload .now in
+    rw (put .ensures) (setup-by-parts _ _ (at-numbers .before .before .mark .result) (at-numbers .before .before .before .number .result) _ (read .last .1 .1 .1 .0) (read .result) p _ (at-numbers .before .before .before .number .ensures .0) (at-numbers .before .before .mark .ensures) (read .ensures .0) (rw (put .ensures) at (put .kept .0 ∙ length-take-le 16 p (omega arith))) (c .whole .ensures .0) (c .whole .ensures .1))
 
 pub setup-spec : {M : Type 1} → statement M
 setup-spec =

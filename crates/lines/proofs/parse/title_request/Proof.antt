@@ -27,7 +27,7 @@ same-length c = search needs
 
 returns : tie.Need-returns
 unfolding titleRequestAt
-returns c = rw (c .before .before .before .put-operation .ensures, add-sub-cancel-left, c .before .before .before .before .before .before .before .title .ensures .0)
+returns c = let at-title = c .before .before .before .before .before .before .before in rw (c .before .before .before .put-operation .ensures, add-sub-cancel-left, at-title .title .ensures .0)
 
 pub title-request-spec : {M : Type 1} → statement M
 title-request-spec =

@@ -24,7 +24,7 @@ is-in-requires : tie.Need-is-in-requires Inv-loop μ-loop
 is-in-requires c κs = tt
 
 returns : tie.Need-returns Inv-loop μ-loop
-returns c = let t = c .before .before .before .before in let s = c .before .before .before .before .before .before .args .s .now in let k = c .before .before .before .before .before .before .args .class in
+returns c = let start = c .before .before .before .before .before .before in let t = c .before .before .before .before in let s = start .args .s .now in let k = start .args .class in
     (sym (t .loop .inv .2 ∙ run-stops k s (t .loop .i) (omega arith) (sym (c .before .is-in .ensures) ∙ not-true (c .before .is-in .result) (c .if1 .taken))), t .loop .inv .0, t .loop .inv .1)
 
 add-i : tie.Need-add-i Inv-loop μ-loop
@@ -34,7 +34,7 @@ loop-less : tie.Need-loop-less Inv-loop μ-loop
 loop-less c = omega arith
 
 loop-again : tie.Need-loop-again Inv-loop μ-loop
-loop-again c = let t = c .before .before .before .before in let s = c .before .before .before .before .before .before .args .s .now in let k = c .before .before .before .before .before .before .args .class in
+loop-again c = let start = c .before .before .before .before .before .before in let t = c .before .before .before .before in let s = start .args .s .now in let k = start .args .class in
     (omega arith, (λ h. omega arith), t .loop .inv .2 ∙ run-more k s (t .loop .i) (omega arith) (sym (c .before .is-in .ensures) ∙ not-false (c .before .is-in .result) (c .if1 .left)))
 
 returns-2 : tie.Need-returns-2 Inv-loop μ-loop
