@@ -46,10 +46,10 @@ part-of-requires : tie.Need-part-of-requires Inv-loop μ-loop
 part-of-requires c κs = tt
 
 place-agrees-requires : tie.Need-place-agrees-requires Inv-loop μ-loop
-place-agrees-requires c κs = c .before .before .before .before .before .before .before .before .before .pre .0
+place-agrees-requires c κs = let start = c .before .before .before .before .before .before .before .before .before in start .pre .0
 
 held-at-requires : tie.Need-held-at-requires Inv-loop μ-loop
-held-at-requires c κs = c .before .before .before .before .before .before .before .before .before .before .pre .0
+held-at-requires c κs = let start = c .before .before .before .before .before .before .before .before .before .before in start .pre .0
 
 add-held : tie.Need-add-held Inv-loop μ-loop
 add-held c = omega arith

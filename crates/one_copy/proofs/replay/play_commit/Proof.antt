@@ -24,7 +24,7 @@ unfolding plays
 returns-2 c = let e = sym (c .before .before .before .before .all-operations .ensures) ∙ not-false (c .before .before .before .before .all-operations .result) (c .before .before .before .if1 .left) in let m = sym (c .before .meets-all .ensures) ∙ not-true (c .before .meets-all .result) (c .if2 .taken) in rw (e, m) (refl, refl)
 
 apply-all-requires : tie.Need-apply-all-requires
-apply-all-requires c κs = (c .before .before .before .before .before .before .before .before .pre .0, forms-fields _ (sym (c .before .before .before .before .before .all-operations .ensures) ∙ not-false (c .before .before .before .before .before .all-operations .result) (c .before .before .before .before .if1 .left)))
+apply-all-requires c κs = let start = c .before .before .before .before .before .before .before .before in (start .pre .0, forms-fields _ (sym (c .before .before .before .before .before .all-operations .ensures) ∙ not-false (c .before .before .before .before .before .all-operations .result) (c .before .before .before .before .if1 .left)))
 
 add-result : tie.Need-add-result
 add-result c = search needs
@@ -34,7 +34,7 @@ same-length-2 c = search needs
 
 returns-3 : tie.Need-returns-3
 unfolding plays
-returns-3 c = let e = sym (c .before .before .before .before .before .before .before .before .all-operations .ensures) ∙ not-false (c .before .before .before .before .before .before .before .before .all-operations .result) (c .before .before .before .before .before .before .before .if1 .left) in let m = sym (c .before .before .before .before .before .meets-all .ensures) ∙ not-false (c .before .before .before .before .before .meets-all .result) (c .before .before .before .before .if2 .left) in rw (e, m) (refl, c .before .before .apply-all .ensures)
+returns-3 c = let else1 = c .before .before .before .before .before .before .before in let e = sym (else1 .before .all-operations .ensures) ∙ not-false (else1 .before .all-operations .result) (else1 .if1 .left) in let m = sym (c .before .before .before .before .before .meets-all .ensures) ∙ not-false (c .before .before .before .before .before .meets-all .result) (c .before .before .before .before .if2 .left) in rw (e, m) (refl, c .before .before .apply-all .ensures)
 
 pub play-commit-spec : {M : Type 1} → statement M
 play-commit-spec =

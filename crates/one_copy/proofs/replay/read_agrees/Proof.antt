@@ -41,7 +41,7 @@ cast-n c = search needs
 
 returns-5 : tie.Need-returns-5
 unfolding readAgrees
-returns-5 c = let h : 64 < byte (c .before .before .before .before .before .before .before .before .before .before .before .args .request .now) 1 = omega arith in rw (eq-eqb _ _ (c .before .before .before .before .before .before .before .if1 .left), eq-eqb _ _ (c .before .before .before .before .before .before .if2 .left), ne-eqb _ _ (c .before .before .before .before .if3 .left), eq-eqb _ _ (c .before .before .if4 .left), lt-leb _ _ h)
+returns-5 c = let else2 = c .before .before .before .before .before .before in let h : 64 < byte (else2 .before .before .before .before .before .args .request .now) 1 = omega arith in rw (eq-eqb _ _ (else2 .before .if1 .left), eq-eqb _ _ (else2 .if2 .left), ne-eqb _ _ (c .before .before .before .before .if3 .left), eq-eqb _ _ (c .before .before .if4 .left), lt-leb _ _ h)
 
 add-end : tie.Need-add-end
 add-end c = search needs
@@ -60,8 +60,8 @@ title-agrees-requires c κs = search needs
 
 returns-6 : tie.Need-returns-6
 unfolding readAgrees
-returns-6 c = let h : byte (c .before .before .before .before .before .before .before .before .before .before .before .before .before .args .request .now) 1 ≤ 64 = omega arith in
-    rw (c .title-agrees .ensures, c .before .before .before .byte-at .ensures .0, add-sub-cancel-left, eq-eqb _ _ (c .before .before .before .before .before .before .before .before .before .if1 .left), eq-eqb _ _ (c .before .before .before .before .before .before .before .before .if2 .left), ne-eqb _ _ (c .before .before .before .before .before .before .if3 .left), eq-eqb _ _ (c .before .before .before .before .if4 .left), le-leb _ _ h)
+returns-6 c = let else3 = c .before .before .before .before .before .before in let start = c .before .before .before .before .before .before .before .before .before .before .before .before .before in let h : byte (start .args .request .now) 1 ≤ 64 = omega arith in
+    rw (c .title-agrees .ensures, c .before .before .before .byte-at .ensures .0, add-sub-cancel-left, eq-eqb _ _ (else3 .before .before .before .if1 .left), eq-eqb _ _ (else3 .before .before .if2 .left), ne-eqb _ _ (else3 .if3 .left), eq-eqb _ _ (c .before .before .before .before .if4 .left), le-leb _ _ h)
 
 pub read-agrees-spec : {M : Type 1} → statement M
 read-agrees-spec =

@@ -40,8 +40,8 @@ same-requires-2 c κs = search needs
 
 returns-2 : tie.Need-returns-2
 unfolding titleAgrees
-returns-2 c = let s = c .before .before .before .before .before .before .before .before .before .before .before .args in let q = c .before .before .before .before .before .before .before .search .ensures in
-    ap₂ (λ n b. eqb n (s .found) && b) (c .before .before .before .before .before .before .found-count .ensures ∙ title-found (s .copy .now) (s .title .now) _ q)
+returns-2 c = let at-found-count = c .before .before .before .before .before .before in let s = c .before .before .before .before .before .before .before .before .before .before .before .args in let q = c .before .before .before .before .before .before .before .search .ensures in
+    ap₂ (λ n b. eqb n (s .found) && b) (at-found-count .found-count .ensures ∙ title-found (s .copy .now) (s .title .now) _ q)
     (c .same2 .ensures ∙ ap₂ (λ x y. pairwise eqb x y) (c .before .cart-at .ensures .0 ∙ one-shown (s .copy .now) (s .title .now) _ q _ (c .before .before .before .result .given .1)) (c .before .before .before .before .before .part-of .ensures))
 
 pub title-agrees-spec : {M : Type 1} → statement M

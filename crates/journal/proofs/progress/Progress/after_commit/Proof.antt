@@ -27,9 +27,9 @@ same-length-2 : tie.Need-same-length-2
 same-length-2 c = search needs
 
 returns : tie.Need-returns
-returns c = let a = c .before .before .before .before .before .before .before .before .before .before .before .before .before .before .before .args in
+returns c = let at-entry-of = c .before .before .before .before .before .before .before in let start = c .before .before .before .before .before .before .before .before .before .before .before .before .before .before .before in let a = start .args in
     let w = c .before .before .before .before .with-entry .ensures in
-    (commit-entry (a .self) (a .result .control) (a .result .answer) (a .session) (a .ops .now) (a .cells .now) (a .store .now) _ (c .before .before .before .before .before .before .before .before .before .answer .given .1) (c .before .before .before .before .before .before .before .entry-of .ensures) (w .0), w .1)
+    (commit-entry (a .self) (a .result .control) (a .result .answer) (a .session) (a .ops .now) (a .cells .now) (a .store .now) _ (at-entry-of .before .before .answer .given .1) (at-entry-of .entry-of .ensures) (w .0), w .1)
 
 returns-2 : tie.Need-returns-2
 returns-2 c = let s = c .before .before .before .before .before .before .before .before in

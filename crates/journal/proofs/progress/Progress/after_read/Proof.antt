@@ -57,10 +57,10 @@ same-length-2 c = search needs
 
 returns : tie.Need-returns
 unfolding readBytes
-returns c = let a = c .before .before .before .before .before .before .before .before .before .before .before .before .before .before .before .before .before .before .args in
+returns c = let at-part-of = c .before .before .before .before .before .before .before in let start = c .before .before .before .before .before .before .before .before .before .before .before .before .before .before .before .before .before .before in let a = start .args in
     let w = c .before .before .before .before .with-entry .ensures in (
-      read-entry (a .self) (a .result .control) (a .result .answer) (a .session) (a .block .now) (a .cells .now) (a .store .now) _ _ (c .before .before .before .before .before .before .before .before .before .before .before .answer .given .1) (c .before .before .before .before .before .before .before .before .before .entry-of .ensures)
-          (c .before .before .before .before .before .before .before .part-of .ensures ∙ ap (λ k. partIn (a .block .now) 0 (80 + 80 * k)) (c .before .before .before .before .before .before .before .before .places .ensures .0)) (w .0),
+      read-entry (a .self) (a .result .control) (a .result .answer) (a .session) (a .block .now) (a .cells .now) (a .store .now) _ _ (at-part-of .before .before .before .before .answer .given .1) (at-part-of .before .before .entry-of .ensures)
+          (at-part-of .part-of .ensures ∙ ap (λ k. partIn (a .block .now) 0 (80 + 80 * k)) (at-part-of .before .places .ensures .0)) (w .0),
       w .1,
     )
 
@@ -68,9 +68,9 @@ same-length-3 : tie.Need-same-length-3
 same-length-3 c = search needs
 
 returns-2 : tie.Need-returns-2
-returns-2 c = let s = c .before .before .before .before .before .before .before .before .before .before .before .before .before in
+returns-2 c = let at-enum-told = c .before .before .before .before .before .before in let s = c .before .before .before .before .before .before .before .before .before .before .before .before .before in
     let a = s .args in (
-      read-waits (a .self) (a .result .control) (a .result .answer) (a .session) (a .block .now) (a .cells .now) (a .store .now) _ (c .before .before .before .before .before .before .enum-told .given .1)
+      read-waits (a .self) (a .result .control) (a .result .answer) (a .session) (a .block .now) (a .cells .now) (a .store .now) _ (at-enum-told .enum-told .given .1)
           (c .before .before .before .keep-request .ensures ∙ ap (λ x. keptIn (a .store .now) (a .session) x) (c .before .before .before .before .part-of2 .ensures)) (c .stepped .ensures),
       same-room (a .self) (a .result .control) Waited (length (a .cells .now)) (s .pre) (c .stepped .ensures),
     )
