@@ -2,9 +2,10 @@
 use mathlib.Core.Bool.{Bool, true, cond, _&&_}
 use mathlib.Core.List.{List}
 use Prim.Native.Nat.{ℕ, _+_, _*_, _%_}
-use lib.ListN.{length, replicate}
+use lib.ListN.{length}
 use lib.Dec.{eqb}
-use Rattle.carts.specs.Bytes.{byte, over}
+use Rattle.replication.specs.Memory.{sessionCount}
+use Rattle.carts.specs.Bytes.{byte, over, zeros}
 use Rattle.replication.specs.Calls.{controlOf}
 use Rattle.replication.specs.declared.control.Control.{Control}
 use Rattle.replication.specs.declared.answer.SetupAnswer.{SetupAnswer}
@@ -14,7 +15,7 @@ use Rattle.replication.specs.declared.answer.CountAnswer.the-variants as Count
 use Rattle.replication.specs.declared.answer.ReadAnswer.{ReadAnswer}
 use Rattle.replication.specs.declared.answer.ReadAnswer.the-variants as Read
 use Rattle.lines.specs.Text.{partIn}
-use Rattle.journal.specs.History.{addedCells, addedStore, addedHistory, emptyHistory, keptIn}
+use Rattle.journal.specs.History.{addedCells, addedStore, addedHistory, emptyHistory, keptIn, slotSize}
 use Rattle.journal.specs.declared.history.Entry.{Entry}
 use Rattle.journal.specs.declared.history.History.{History}
 use Rattle.journal.specs.declared.progress.Outcome.{Outcome}
@@ -35,7 +36,7 @@ counted t Unreadable = record { accepted = t .accepted; waited = t .waited; refu
 
 -- before the first line: no system and no entry
 unfoldable pub start : Progress
-start = record { line = 0; control = controlOf 0 (replicate 16 0); history = emptyHistory; tally = record { accepted = 0; waited = 0; refused = 0; unreadable = 0; same = true } }
+start = record { line = 0; control = controlOf 0 (zeros sessionCount); history = emptyHistory; tally = record { accepted = 0; waited = 0; refused = 0; unreadable = 0; same = true } }
 
 -- the entries of a system were compared: all are the same on the single library, or not
 unfoldable pub compared : Progress → Bool → Progress
@@ -90,14 +91,14 @@ placesOf block = cond (eqb (byte block 0) 2) 1 (byte block 1)
 
 -- the request and the carts shown after it
 unfoldable pub readBytes : List ℕ → List ℕ
-readBytes block = partIn block 0 (80 + 80 * placesOf block)
+readBytes block = partIn block 0 (slotSize + slotSize * placesOf block)
 
 -- a read or a collect: answered, it is an entry with its request and carts; where it waits, its request is kept
 unfoldable pub afterRead : Progress → Control → ReadAnswer → ℕ → List ℕ → List ℕ → List ℕ → Kept
 afterRead p control (Read.Answered state found) session block cells store = withEntry p control (entryOf 2 (p .line) session state found) (readBytes block) cells store
-afterRead p control (Read.Waits n) session block cells store = kept cells (keptIn store session (partIn block 0 80)) (stepped p control (p .history) Waited)
+afterRead p control (Read.Waits n) session block cells store = kept cells (keptIn store session (partIn block 0 slotSize)) (stepped p control (p .history) Waited)
 afterRead p control (Read.Refused n) session block cells store = kept cells store (stepped p control (p .history) Refused)
 
 -- a request, where it is one, at the start of a block
 unfoldable pub requestIn : List ℕ → List ℕ → List ℕ
-requestIn block request = cond (eqb (length request) 80) (over block 0 80 request) block
+requestIn block request = cond (eqb (length request) slotSize) (over block 0 slotSize request) block

@@ -14,6 +14,7 @@ use replication::control::Control;
 ghost use mathlib.Core.Path.{_≡_};
 ghost use Prim.Native.Nat.{ℕ, _*_, _<_, _≤_};
 ghost use lib.ListN.{length};
+ghost use Rattle.journal.specs.History.{slotSize};
 ghost use Rattle.journal.specs.declared.progress.Outcome.the-variants.{Unreadable};
 ghost use Rattle.journal.specs.Progress.{oneMore, counted, start, compared, nextLine, stepped, kept, entryOf, withEntry, afterSetup, afterMove, afterCommit, placesOf, afterRead, requestIn};
 
@@ -269,7 +270,7 @@ pub fn places(block: &[u8]) -> usize
 
 // A request, where it is one, stands at the start of a block.
 pub fn put_request(block: &mut [u8], request: &[u8])
-    requires { ⌜ 80 ≤ length (now block) ⌝ }
+    requires { ⌜ slotSize ≤ length (now block) ⌝ }
     ensures { λ _. ⌜ now (block .exit) ≡ requestIn (now (block .entry)) (now (request .entry)) ⌝ }
 {
     if request.len() != Entry::SLOT {

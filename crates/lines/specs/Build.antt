@@ -2,7 +2,18 @@
 use mathlib.Core.List.{List, [], _∷_, _++_}
 use Prim.Native.Nat.{ℕ, _+_, _-_, _*_, _/_, _%_}
 use lib.ListN.{length, take}
+use Rattle.carts.specs.Cart.{titleSize, numberAt, titleAt}
 use Rattle.carts.specs.Bytes.{zeros, u16, u16Bytes}
+
+-- what a line may hold: 8 operations, 32 numbers, the studios of 16 sessions
+abbrev pub payloadSize : ℕ
+payloadSize = 640
+
+abbrev pub mostNumbers : ℕ
+mostNumbers = 32
+
+abbrev pub mostStudios : ℕ
+mostStudios = 16
 
 -- the four bytes of a u32, little-endian
 unfoldable pub u32Bytes : ℕ → List ℕ
@@ -10,7 +21,7 @@ u32Bytes n = n % 256 ∷ n / 256 % 256 ∷ n / 65536 % 256 ∷ n / 16777216 ∷ 
 
 -- a title in its field of 64 bytes: as many of its letters as there is room for, then zeros
 unfoldable pub titleField : List ℕ → List ℕ
-titleField title = take 64 title ++ zeros (64 - length title)
+titleField title = take titleSize title ++ zeros (titleSize - length title)
 
 -- an operation, or a request by title (kind 2, the numbers zero): the length byte tells the title's true length
 unfoldable pub operationBytes : ℕ → ℕ → ℕ → ℕ → List ℕ → List ℕ
@@ -24,11 +35,11 @@ u16List (n ∷ ns) = u16Bytes (n % 65536) ++ u16List ns
 
 -- a request by at most 32 numbers
 unfoldable pub numbersBytes : List ℕ → List ℕ
-numbersBytes ns = 1 ∷ length ns ∷ (zeros 14 ++ (u16List ns ++ zeros (64 - 2 * length ns)))
+numbersBytes ns = 1 ∷ length ns ∷ (zeros (titleAt - numberAt) ++ (u16List ns ++ zeros (titleSize - 2 * length ns)))
 
 -- the number asked at place i of a request, counted from 0
 abbrev pub askedAt : List ℕ → ℕ → ℕ
-askedAt request i = u16 request (16 + 2 * i)
+askedAt request i = u16 request (titleAt + 2 * i)
 
 -- at most 16 studio bytes, the sessions left over unused
 unfoldable pub lowBytes : List ℕ → List ℕ
@@ -36,4 +47,4 @@ lowBytes [] = []
 lowBytes (n ∷ ns) = n % 256 ∷ lowBytes ns
 
 unfoldable pub studioBytes : List ℕ → List ℕ
-studioBytes ns = lowBytes ns ++ zeros (16 - length ns)
+studioBytes ns = lowBytes ns ++ zeros (mostStudios - length ns)

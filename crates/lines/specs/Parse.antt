@@ -5,6 +5,7 @@ use mathlib.Core.List.{List, [], _∷_, _++_}
 use Prim.Native.Nat.{ℕ, zero, suc, _*_, _/_, _≤_}
 use lib.ListN.{length, drop}
 use lib.Dec.{eqb}
+use Rattle.carts.specs.Cart.{cartSize}
 use Rattle.carts.specs.Bytes.{zeros}
 use Rattle.lines.specs.declared.text.Class.the-variants.{Digit}
 use Rattle.lines.specs.declared.cursor.Cursor.{Cursor}
@@ -17,7 +18,7 @@ use Rattle.lines.specs.declared.parse.Call.{Call}
 use Rattle.lines.specs.declared.parse.Call.the-variants.{Nothing, Show, Setup, Commit, Send, Refresh, Read, Collect, Unreadable}
 use Rattle.lines.specs.Text.{inClass}
 use Rattle.lines.specs.Cursor.{newAt, movedTo, stoppedBy, nextPlace, nextByte, nextWord, wordEnd, pastWord, pastMark, numberAt, titleAt, lettersOf, isOver, endedAt}
-use Rattle.lines.specs.Build.{operationBytes, numbersBytes, studioBytes}
+use Rattle.lines.specs.Build.{operationBytes, numbersBytes, studioBytes, mostNumbers, mostStudios}
 use Rattle.lines.specs.Words.{bytesOf, says}
 
 -- the largest u32, and the largest number that two bytes hold
@@ -64,7 +65,7 @@ operationAt s c =
     (cond (says word "retitle") (fieldsAt s next 2 true false)
     (cond (says word "re-cut") (fieldsAt s next 3 false true)
     (cond (says word "withdraw") (fieldsAt s next 4 false false)
-    (gathered (zeros 80) (stoppedBy c UnknownOperation)))))
+    (gathered (zeros cartSize) (stoppedBy c UnknownOperation)))))
 
 -- more operations, each after a semicolon (59), as many as there is room for; a semicolon past these is a mistake
 unfoldable pub moreOperations : ℕ → List ℕ → Cursor → Gathered
@@ -91,7 +92,7 @@ unfoldable pub titleRequestAt : List ℕ → Cursor → Gathered
 titleRequestAt s c = let title = titleAt s c in gathered (operationBytes 2 0 0 0 (lettersOf s title)) (title .cursor)
 
 unfoldable pub numbersRequestAt : List ℕ → Cursor → Gathered
-numbersRequestAt s c = let read = numbersAt 32 s c twoBytes in gathered (numbersBytes (read .items)) (read .cursor)
+numbersRequestAt s c = let read = numbersAt mostNumbers s c twoBytes in gathered (numbersBytes (read .items)) (read .cursor)
 
 unfoldable pub requestAt : List ℕ → Cursor → Gathered
 requestAt s c = cond (eqb (nextByte s c) 34 || eqb (nextByte s c) 39) (titleRequestAt s c) (numbersRequestAt s c)
@@ -114,7 +115,7 @@ line call bytes = record { call = call; bytes = bytes }
 unfoldable pub setupAt : List ℕ → Cursor → Line
 setupAt s c =
     let studios = numberAt s c anyNumber in
-    let read = numbersAt 16 s (pastMark s (studios .cursor) 58 ColonMissing) 255 in
+    let read = numbersAt mostStudios s (pastMark s (studios .cursor) 58 ColonMissing) 255 in
     line (wholeCall s (read .cursor) (Setup (studios .value))) (studioBytes (read .items))
 
 -- commit: the session, a colon, the operations
@@ -122,7 +123,7 @@ unfoldable pub commitAt : List ℕ → Cursor → Line
 commitAt s c =
     let session = numberAt s c anyNumber in
     let read = operationsAt s (pastMark s (session .cursor) 58 ColonMissing) in
-    line (wholeCall s (read .cursor) (Commit (session .value) (length (read .items) / 80))) (read .items)
+    line (wholeCall s (read .cursor) (Commit (session .value) (length (read .items) / cartSize))) (read .items)
 
 -- read: the session, a colon, the request
 unfoldable pub readAt : List ℕ → Cursor → Line

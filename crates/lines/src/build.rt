@@ -6,8 +6,9 @@ ghost use mathlib.Core.Path.{_≡_};
 ghost use Prim.Native.Nat.{ℕ, _+_, _*_, _-_, _<_, _≤_};
 ghost use mathlib.Core.List.{_++_};
 ghost use lib.ListN.{length, take, drop};
+ghost use Rattle.carts.specs.Cart.{cartSize, titleSize};
 ghost use Rattle.carts.specs.Bytes.{over};
-ghost use Rattle.lines.specs.Build.{u32Bytes, operationBytes, u16List, numbersBytes, askedAt, studioBytes};
+ghost use Rattle.lines.specs.Build.{u32Bytes, operationBytes, u16List, numbersBytes, askedAt, studioBytes, mostNumbers, mostStudios};
 
 // The u32 at an index becomes v.
 pub fn put_u32(s: &mut [u8], at: usize, v: u32)
@@ -22,8 +23,8 @@ pub fn put_u32(s: &mut [u8], at: usize, v: u32)
 
 // The title's letters, as many as the field has room for, stand at the field's start.
 fn put_title(field: &mut [u8], title: &[u8])
-    requires { ⌜ length (now field) ≡ 64 ⌝ }
-    ensures { λ _. ⌜ now (field .exit) ≡ take 64 (now (title .entry)) ++ drop (length (now (title .entry))) (now (field .entry)) ⌝ }
+    requires { ⌜ length (now field) ≡ titleSize ⌝ }
+    ensures { λ _. ⌜ now (field .exit) ≡ take titleSize (now (title .entry)) ++ drop (length (now (title .entry))) (now (field .entry)) ⌝ }
 {
     let n = title.len();
     if n <= Cart::TITLE_SIZE {
@@ -35,7 +36,7 @@ fn put_title(field: &mut [u8], title: &[u8])
 
 // An operation of a kind, or a request by title (kind 2, the numbers zero). What its kind leaves out is zero or empty.
 pub fn put_operation(s: &mut [u8], kind: u8, cart: u32, audio: u32, milliseconds: u32, title: &[u8])
-    requires { ⌜ (length (now s) ≡ 80) × (cart < 65536) × (length (now title) < 256) ⌝ }
+    requires { ⌜ (length (now s) ≡ cartSize) × (cart < 65536) × (length (now title) < 256) ⌝ }
     ensures { λ _. ⌜ now (s .exit) ≡ operationBytes kind cart audio milliseconds (now (title .entry)) ⌝ }
 {
     bytes::clear(s);
@@ -49,7 +50,7 @@ pub fn put_operation(s: &mut [u8], kind: u8, cart: u32, audio: u32, milliseconds
 
 // A request by at most 32 cart numbers.
 pub fn put_numbers(request: &mut [u8], numbers: &[u32])
-    requires { ⌜ (length (now request) ≡ 80) × (length (now numbers) ≤ 32) ⌝ }
+    requires { ⌜ (length (now request) ≡ cartSize) × (length (now numbers) ≤ mostNumbers) ⌝ }
     ensures { λ _. ⌜ now (request .exit) ≡ numbersBytes (now (numbers .entry)) ⌝ }
 {
     bytes::clear(request);
@@ -60,7 +61,7 @@ pub fn put_numbers(request: &mut [u8], numbers: &[u32])
 
 // Numbers of two bytes, one after the other at the start of a field.
 fn put_u16s(field: &mut [u8], numbers: &[u32])
-    requires { ⌜ (length (now field) ≡ 64) × (length (now numbers) ≤ 32) ⌝ }
+    requires { ⌜ (length (now field) ≡ titleSize) × (length (now numbers) ≤ mostNumbers) ⌝ }
     ensures { λ _. ⌜ now (field .exit) ≡ u16List (now (numbers .entry)) ++ drop (2 * length (now (numbers .entry))) (now (field .entry)) ⌝ }
 {
     let mut i = 0;
@@ -80,7 +81,7 @@ pub fn asked(request: &[u8], i: u32) -> u32
 
 // The studios of at most 16 sessions; the sessions left over are unused.
 pub fn put_studios(places: &mut [u8], studios: &[u32])
-    requires { ⌜ (length (now places) ≡ 16) × (length (now studios) ≤ 16) ⌝ }
+    requires { ⌜ (length (now places) ≡ mostStudios) × (length (now studios) ≤ mostStudios) ⌝ }
     ensures { λ _. ⌜ now (places .exit) ≡ studioBytes (now (studios .entry)) ⌝ }
 {
     bytes::clear(places);

@@ -12,6 +12,8 @@ use carts::cart::Cart;
 ghost use mathlib.Core.Path.{_≡_};
 ghost use Prim.Native.Nat.{ℕ, _+_, _*_, _-_, _<_, _≤_};
 ghost use lib.ListN.{length};
+ghost use Rattle.lines.specs.Build.{payloadSize};
+ghost use Rattle.carts.specs.Cart.{cartSize};
 ghost use Rattle.lines.specs.Cursor.{Titled};
 ghost use Rattle.lines.specs.Parse.{gathered, titleIf, numberIf, fieldsAt, operationAt, operationsAt, numbersAt, titleRequestAt, numbersRequestAt, wholeCall, setupAt, commitAt, readAt, numberCallAt, callOf, payloadOf, callFits, Means, Stored};
 
@@ -85,7 +87,7 @@ fn number_if(s: &[u8], c: Cursor, word: &[u8], mistake: Mistake, asked: bool) ->
 
 // The fields of an operation of a kind: its cart, a title and a recording where the kind has them.
 fn fields(s: &[u8], c: Cursor, op: &mut [u8], kind: u8, titled: bool, recorded: bool) -> Cursor
-    requires { ⌜ length (now op) ≡ 80 ⌝ }
+    requires { ⌜ length (now op) ≡ cartSize ⌝ }
     ensures { λ r. ⌜ gathered (now (op .exit)) r ≡ fieldsAt (now (s .entry)) c kind titled recorded ⌝ }
 {
     let cart = cursor::number(s, c, TWO_BYTES);
@@ -108,7 +110,7 @@ fn fields(s: &[u8], c: Cursor, op: &mut [u8], kind: u8, titled: bool, recorded: 
 
 // One operation, by its word.
 fn operation(s: &[u8], c: Cursor, op: &mut [u8]) -> Cursor
-    requires { ⌜ length (now op) ≡ 80 ⌝ }
+    requires { ⌜ length (now op) ≡ cartSize ⌝ }
     ensures { λ r. ⌜ gathered (now (op .exit)) r ≡ operationAt (now (s .entry)) c ⌝ }
 {
     let word = cursor::peek_word(s, c);
@@ -131,8 +133,8 @@ fn operation(s: &[u8], c: Cursor, op: &mut [u8]) -> Cursor
 
 // One to eight operations, with a semicolon between two.
 fn operations(s: &[u8], c: Cursor, payload: &mut [u8]) -> Counted
-    requires { ⌜ length (now payload) ≡ 640 ⌝ }
-    ensures { λ r. ⌜ Stored 80 (operationsAt (now (s .entry)) c) (now (payload .entry)) (now (payload .exit)) r × (1 ≤ r .count) × (r .count ≤ 8) ⌝ }
+    requires { ⌜ length (now payload) ≡ payloadSize ⌝ }
+    ensures { λ r. ⌜ Stored cartSize (operationsAt (now (s .entry)) c) (now (payload .entry)) (now (payload .exit)) r × (1 ≤ r .count) × (r .count ≤ 8) ⌝ }
 {
     let mut next = operation(s, c, &mut payload[0..Cart::SIZE]);
     let mut n: usize = 1;
@@ -187,7 +189,7 @@ fn numbers(s: &[u8], c: Cursor, most: u32, out: &mut [u32]) -> Counted
 
 // Setup: the number of studios, then each session's studio.
 fn setup(s: &[u8], c: Cursor, payload: &mut [u8]) -> Call
-    requires { ⌜ length (now payload) ≡ 640 ⌝ }
+    requires { ⌜ length (now payload) ≡ payloadSize ⌝ }
     ensures { λ r. ⌜ Means (setupAt (now (s .entry)) c) (now (payload .entry)) (now (payload .exit)) r ⌝ }
 {
     let studios = cursor::number(s, c, ANY);
@@ -201,7 +203,7 @@ fn setup(s: &[u8], c: Cursor, payload: &mut [u8]) -> Call
 
 // Commit: the session, then the operations.
 fn commit(s: &[u8], c: Cursor, payload: &mut [u8]) -> Call
-    requires { ⌜ length (now payload) ≡ 640 ⌝ }
+    requires { ⌜ length (now payload) ≡ payloadSize ⌝ }
     ensures { λ r. ⌜ Means (commitAt (now (s .entry)) c) (now (payload .entry)) (now (payload .exit)) r ⌝ }
 {
     let session = cursor::number(s, c, ANY);
@@ -219,7 +221,7 @@ fn commit(s: &[u8], c: Cursor, payload: &mut [u8]) -> Call
 
 // A request by title.
 fn title_request(s: &[u8], c: Cursor, request: &mut [u8]) -> Cursor
-    requires { ⌜ length (now request) ≡ 80 ⌝ }
+    requires { ⌜ length (now request) ≡ cartSize ⌝ }
     ensures { λ r. ⌜ gathered (now (request .exit)) r ≡ titleRequestAt (now (s .entry)) c ⌝ }
 {
     let title = cursor::title(s, c);
@@ -231,7 +233,7 @@ fn title_request(s: &[u8], c: Cursor, request: &mut [u8]) -> Cursor
 
 // A request by numbers.
 fn numbers_request(s: &[u8], c: Cursor, request: &mut [u8]) -> Cursor
-    requires { ⌜ length (now request) ≡ 80 ⌝ }
+    requires { ⌜ length (now request) ≡ cartSize ⌝ }
     ensures { λ r. ⌜ gathered (now (request .exit)) r ≡ numbersRequestAt (now (s .entry)) c ⌝ }
 {
     let mut carts = [0u32; 32];
@@ -243,7 +245,7 @@ fn numbers_request(s: &[u8], c: Cursor, request: &mut [u8]) -> Cursor
 
 // Read: the session, then cart numbers or a title.
 fn read(s: &[u8], c: Cursor, payload: &mut [u8]) -> Call
-    requires { ⌜ length (now payload) ≡ 640 ⌝ }
+    requires { ⌜ length (now payload) ≡ payloadSize ⌝ }
     ensures { λ r. ⌜ Means (readAt (now (s .entry)) c) (now (payload .entry)) (now (payload .exit)) r ⌝ }
 {
     let session = cursor::number(s, c, ANY);
@@ -279,7 +281,7 @@ fn by_number(s: &[u8], c: Cursor, word: &[u8]) -> Call
 
 // A line of a transcript.
 pub fn parse(s: &[u8], payload: &mut [u8]) -> Call
-    requires { ⌜ length (now payload) ≡ 640 ⌝ }
+    requires { ⌜ length (now payload) ≡ payloadSize ⌝ }
     ensures { λ r. ⌜ (r ≡ callOf (now (s .entry))) × (now (payload .exit) ≡ payloadOf (now (s .entry)) (now (payload .entry))) × callFits r ⌝ }
 {
     let c = Cursor::new(0);

@@ -3,6 +3,7 @@ use mathlib.Core.Bool.{Bool, true, cond, _&&_}
 use mathlib.Core.List.{List}
 use Prim.Native.Nat.{ℕ, zero, suc, _*_}
 use lib.Dec.{eqb}
+use Rattle.carts.specs.Cart.{cartSize}
 use Rattle.carts.specs.Bytes.{every}
 use Rattle.carts.specs.Operation.{operationForm, operationsOf, meetsAll}
 use Rattle.lines.specs.Text.{partIn}
@@ -16,4 +17,4 @@ unfoldable pub firstFault : List ℕ → Bool → List ℕ → ℕ → ℕ
 firstFault copy byForm ops zero = 0
 firstFault copy byForm ops (suc n) =
     let before = firstFault copy byForm ops n in
-    cond (eqb before 0) (cond (allowed copy byForm (partIn ops 0 (80 * suc n))) 0 (suc n)) before
+    cond (eqb before 0) (cond (allowed copy byForm (partIn ops 0 (cartSize * suc n))) 0 (suc n)) before

@@ -7,11 +7,12 @@ ghost use mathlib.Core.Bool.{cond};
 ghost use Prim.Native.Nat.{ℕ, _≤_};
 ghost use lib.ListN.{length};
 ghost use lib.Dec.{eqb};
+ghost use Rattle.carts.specs.Cart.{copySize};
 ghost use Rattle.one_copy.specs.Fault.{allowed, firstFault};
 
 // The operations are of their form; or, where that is not what is asked, each also meets its cart on the copy.
 fn is_allowed(copy: &[u8], ops: &[u8], by_form: bool) -> bool
-    requires { ⌜ length (now copy) ≡ 10240 ⌝ }
+    requires { ⌜ length (now copy) ≡ copySize ⌝ }
     ensures { λ r. ⌜ r ≡ allowed (now (copy .entry)) «by_form» (now (ops .entry)) ⌝ }
 {
     if !operation::all_operations(ops) {
@@ -39,7 +40,7 @@ fn next_fault(first: u32, i: u32, allowed: bool) -> u32
 // The first of at most eight operations that is at fault, counted from 1: out of form, or on its cart in the wrong state;
 // 0 where none is.
 pub fn first_fault(copy: &[u8], ops: &[u8], by_form: bool) -> u32
-    requires { ⌜ length (now copy) ≡ 10240 ⌝ }
+    requires { ⌜ length (now copy) ≡ copySize ⌝ }
     ensures { λ r. ⌜ r ≡ firstFault (now (copy .entry)) «by_form» (now (ops .entry)) 8 ⌝ }
 {
     let mut first: u32 = 0;

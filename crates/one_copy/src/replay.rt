@@ -12,12 +12,14 @@ ghost use mathlib.Core.Bool.{cond, _&&_};
 ghost use Prim.Native.Nat.{ℕ, _+_, _*_, _-_, _<_, _≤_};
 ghost use lib.ListN.{length};
 ghost use lib.Dec.{eqb};
+ghost use Rattle.replication.specs.Memory.{sessionSize};
+ghost use Rattle.carts.specs.Cart.{copySize, titleSize};
 ghost use Rattle.carts.specs.Operation.{operationsOf, actAll};
 ghost use Rattle.one_copy.specs.Replay.{plays, placeAgrees, heldAt, numbersAgree, titleAgrees, readAgrees};
 
 // The library plays a commit's operations: the answer is its number, or 0 where they are refused.
 pub fn play_commit(copy: &mut [u8], count: u32, ops: &[u8]) -> u32
-    requires { ⌜ (length (now copy) ≡ 10240) × (count < 65536) ⌝ }
+    requires { ⌜ (length (now copy) ≡ copySize) × (count < 65536) ⌝ }
     ensures { λ r. ⌜ (r ≡ cond (plays (now (copy .entry)) (now (ops .entry))) (count + 1) 0)
         × (now (copy .exit) ≡ cond (plays (now (copy .entry)) (now (ops .entry))) (actAll (now (copy .entry)) (operationsOf (now (ops .entry)))) (now (copy .entry))) ⌝ }
 {
@@ -33,7 +35,7 @@ pub fn play_commit(copy: &mut [u8], count: u32, ops: &[u8]) -> u32
 
 // Cart c of the library is what was shown in its place.
 fn place_agrees(copy: &[u8], c: u32, place: &[u8]) -> bool
-    requires { ⌜ length (now copy) ≡ 10240 ⌝ }
+    requires { ⌜ length (now copy) ≡ copySize ⌝ }
     ensures { λ r. ⌜ r ≡ placeAgrees (now (copy .entry)) c (now (place .entry)) ⌝ }
 {
     if !bytes::is_within(1, Cart::COUNT, c) {
@@ -44,7 +46,7 @@ fn place_agrees(copy: &[u8], c: u32, place: &[u8]) -> bool
 
 // 1 where cart c of the library is held, else 0.
 fn held_at(copy: &[u8], c: u32) -> u32
-    requires { ⌜ length (now copy) ≡ 10240 ⌝ }
+    requires { ⌜ length (now copy) ≡ copySize ⌝ }
     ensures { λ r. ⌜ (r ≡ heldAt (now (copy .entry)) c) × (r ≤ 1) ⌝ }
 {
     if !bytes::is_within(1, Cart::COUNT, c) {
@@ -58,7 +60,7 @@ fn held_at(copy: &[u8], c: u32) -> u32
 
 // The library answers a read by numbers with this found and these carts.
 pub fn numbers_agree(copy: &[u8], request: &[u8], found: u32, shown: &[u8]) -> bool
-    requires { ⌜ (length (now copy) ≡ 10240) × (length (now request) ≡ 80) ⌝ }
+    requires { ⌜ (length (now copy) ≡ copySize) × (length (now request) ≡ sessionSize) ⌝ }
     ensures { λ r. ⌜ r ≡ numbersAgree (now (copy .entry)) (now (request .entry)) found (now (shown .entry)) ⌝ }
 {
     let n = bytes::byte_at(request, 1) as usize;
@@ -79,7 +81,7 @@ pub fn numbers_agree(copy: &[u8], request: &[u8], found: u32, shown: &[u8]) -> b
 
 // The library answers a read by title with this found and this cart.
 pub fn title_agrees(copy: &[u8], title: &[u8], found: u32, shown: &[u8]) -> bool
-    requires { ⌜ (length (now copy) ≡ 10240) × (length (now title) ≤ 64) ⌝ }
+    requires { ⌜ (length (now copy) ≡ copySize) × (length (now title) ≤ titleSize) ⌝ }
     ensures { λ r. ⌜ r ≡ titleAgrees (now (copy .entry)) (now (title .entry)) found (now (shown .entry)) ⌝ }
 {
     let result = titles::search(copy, title);
@@ -101,7 +103,7 @@ pub fn read_agrees(
     found: u32,
     shown: &[u8],
 ) -> bool
-    requires { ⌜ length (now copy) ≡ 10240 ⌝ }
+    requires { ⌜ length (now copy) ≡ copySize ⌝ }
     ensures { λ r. ⌜ r ≡ readAgrees (now (copy .entry)) count (now (request .entry)) state found (now (shown .entry)) ⌝ }
 {
     if state != count {
