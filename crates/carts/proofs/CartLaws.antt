@@ -10,7 +10,7 @@ use lib.ListN.{length, getD, take, drop, drop-of-length-le}
 use lib.Seq.{drop-cons, take-nil, drop-nil}
 use lib.Dec.{ltb, eqb, eqb·suc-zero}
 use borrow.Author.Tests.{ltb-true, ltb-false, ne-eqb}
-use Rattle.carts.specs.Bytes.{byte, u32, within, isZero, every, allZero, all}
+use Rattle.carts.specs.Bytes.{byte, u32, within, every, allZero, all}
 use Rattle.carts.specs.Cart.{cartAt, printable, titleForm, noAudio, held, heldForm, cartForm}
 use Rattle.carts.proofs.FieldLaws.{Head, bytes, by-fields}
 use Rattle.carts.proofs.PartLaws.{length-part}
@@ -21,7 +21,7 @@ unfolding cartAt
 length-cart copy c e h = length-part copy (80 * (c - 1)) 80 (omega arith)
 
 -- a byte is a letter where one is asked for, else zero: it is one of the two, and zero where no letter is asked for
-pub title-byte : (b : ℕ) (p asked : Bool) → p ≡ printable b → ((eqb b 0 || p) && not (Bool·beq (eqb b 0) asked)) ≡ cond asked (printable b) (isZero b)
+pub title-byte : (b : ℕ) (p asked : Bool) → p ≡ printable b → ((eqb b 0 || p) && not (Bool·beq (eqb b 0) asked)) ≡ cond asked (printable b) (eqb b 0)
 unfolding printable within
 title-byte zero p true e = refl
 title-byte zero p false e = refl
@@ -32,18 +32,18 @@ title-byte (suc b) p false e = rw eqb·suc-zero (and-false p)
 abbrev pub letters : ℕ → List ℕ → Bool
 letters m t = every printable (take m t) && allZero (drop m t)
 
-letters-at : (n j x : ℕ) (t : List ℕ) (b : Bool) → ltb j n ≡ b → letters (n - j) (x ∷ t) ≡ (cond b (printable x) (isZero x) && letters (n - suc j) t)
+letters-at : (n j x : ℕ) (t : List ℕ) (b : Bool) → ltb j n ≡ b → letters (n - j) (x ∷ t) ≡ (cond b (printable x) (eqb x 0) && letters (n - suc j) t)
 unfolding allZero every
 letters-at n j x t true e = let h : j < n = ltb-true j n e in
     let q : n - j ≡ suc (n - suc j) = omega arith in
-    rw q (and-assoc (printable x) (every printable (take (n - suc j) t)) (every isZero (drop (n - suc j) t)))
+    rw q (and-assoc (printable x) (every printable (take (n - suc j) t)) (allZero (drop (n - suc j) t)))
 letters-at n j x t false e = let h : n ≤ j = ltb-false j n e in
     let q : n - j ≡ 0 = omega arith in
     let r : n - suc j ≡ 0 = omega arith in
     rw (q, r)
 
 -- the first byte left of a title's field, and the others
-pub letters-step : (n j : ℕ) (t : List ℕ) → j < length t → letters (n - j) (drop j t) ≡ (cond (ltb j n) (printable (getD t j 0)) (isZero (getD t j 0)) && letters (n - (j + 1)) (drop (j + 1) t))
+pub letters-step : (n j : ℕ) (t : List ℕ) → j < length t → letters (n - j) (drop j t) ≡ (cond (ltb j n) (printable (getD t j 0)) (eqb (getD t j 0) 0) && letters (n - (j + 1)) (drop (j + 1) t))
 letters-step n j t h = rw (add-one, drop-cons t j 0) (letters-at n j (getD t j 0) (drop (suc j) t) (ltb j n) refl)
 
 pub letters-end : (n j : ℕ) (t : List ℕ) → length t ≤ j → letters (n - j) (drop j t) ≡ true

@@ -3,11 +3,11 @@ use mathlib.Core.Path.{_≡_, refl}
 use mathlib.Core.Bool.{true, false}
 use mathlib.Core.List.{List, [], _∷_, _++_}
 use Prim.Native.Nat.{ℕ}
-use lib.ListN.{take, set}
+use lib.ListN.{length, take, set}
 use Rattle.carts.specs.Bytes.{zeros, u16, u32, u16Bytes, within, all, every, allZero, pairwise}
 use Rattle.carts.specs.Cart.{cartAt, printable, titleForm, hasTitle, noTitle, hasAudio, noAudio, held, heldForm, cartForm}
-use Rattle.carts.specs.Operation.{operationFields, operationForm, made, retitled, recut, withdrawn, meetsCart, effect, actedOn, meets, act, meetsAll, actAll}
-use Rattle.carts.specs.Title.{shownByNumbers, foundByNumbers, sameLetter, titled, titledFrom, titledIn, foundByTitle, theOne, shownByTitle, searchAnswer}
+use Rattle.carts.specs.Operation.{operationFields, operationForm, made, retitled, recut, meetsCart, effect, actedOn, meets, act, meetsAll, actAll}
+use Rattle.carts.specs.Title.{shownByNumbers, foundByNumbers, sameLetter, titled, titledFrom, titledIn, theOne, searchAnswer}
 use Rattle.carts.specs.declared.titles.Found.the-variants.{One, None, Several}
 use Rattle.carts.proofs.Samples.{u32Bytes, operation, newCart, retitleCart, recutCart, withdrawCart, topHourA, longTitle}
 
@@ -102,7 +102,7 @@ pub record Effects : Type 0 where
   gone : meetsAll one (withdrawCart 7 ∷ recutCart 7 1 1 ∷ []) ≡ false
 
 pub effects : Effects
-unfolding none A one zeros u16 u32 u16Bytes cartAt held made retitled recut withdrawn meetsCart effect actedOn meets act meetsAll actAll u32Bytes operation newCart retitleCart recutCart withdrawCart topHourA longTitle
+unfolding none A one zeros u16 u32 u16Bytes cartAt held made retitled recut meetsCart effect actedOn meets act meetsAll actAll u32Bytes operation newCart retitleCart recutCart withdrawCart topHourA longTitle
 effects = record {
   new = refl;
   new-before = refl;
@@ -129,16 +129,16 @@ pub record Reads : Type 0 where
   last-letter-2 : titledIn (longTitle 50) pair ≡ 2 ∷ []
   shorter : titledIn (take 63 (longTitle 49)) pair ≡ []
   longer : titledIn (topHourA ++ (32 ∷ [])) one ≡ []
-  title-one : shownByTitle one topHourA ≡ A
-  title-none : shownByTitle none topHourA ≡ zeros 80
-  title-several : shownByTitle twins topHourA ≡ zeros 80
-  title-found : foundByTitle twins topHourA ≡ 2
+  title-one : theOne one (titledIn topHourA one) ≡ A
+  title-none : theOne none (titledIn topHourA none) ≡ zeros 80
+  title-several : theOne twins (titledIn topHourA twins) ≡ zeros 80
+  title-found : length (titledIn topHourA twins) ≡ 2
   answer-one : searchAnswer (titledIn topHourA one) ≡ One 7
   answer-none : searchAnswer (titledIn topHourA pair) ≡ None
   answer-several : searchAnswer (titledIn topHourA twins) ≡ Several 2
 
 pub reads : Reads
-unfolding none A one pair twins zeros u16 u32 u16Bytes pairwise cartAt held made meetsCart effect actedOn act actAll shownByNumbers foundByNumbers sameLetter titled titledFrom titledIn foundByTitle theOne shownByTitle searchAnswer u32Bytes operation newCart topHourA longTitle
+unfolding none A one pair twins zeros u16 u32 u16Bytes pairwise cartAt held made meetsCart effect actedOn act actAll shownByNumbers foundByNumbers sameLetter titled titledFrom titledIn theOne searchAnswer u32Bytes operation newCart topHourA longTitle
 reads = record {
   numbers-found = refl;
   numbers-shown = refl;

@@ -8,9 +8,9 @@ use lib.Dec.{eqb}
 use lib.ListN.{length, getD, take, set, length-set}
 use lib.Seq.{getD-set-same, getD-set-other, drop-set-lt}
 use borrow.Author.Tests.{eq-eqb, eqb-true, eqb-false}
-use Rattle.carts.specs.Bytes.{byte, u16, part, over, all, every, allZero}
+use Rattle.carts.specs.Bytes.{zeros, byte, u16, part, over, all, every, allZero}
 use Rattle.carts.specs.Cart.{cartAt, hasTitle, hasAudio, held, heldForm, cartForm, copyForm}
-use Rattle.carts.specs.Operation.{isNew, isRetitle, isRecut, isWithdraw, operationFields, made, retitled, recut, withdrawn, meetsCart, effect, actedOn, act, actAll}
+use Rattle.carts.specs.Operation.{isNew, isRetitle, isRecut, isWithdraw, operationFields, made, retitled, recut, meetsCart, effect, actedOn, act, actAll}
 use Rattle.carts.proofs.CartLaws.{length-cart, cart-held}
 use Rattle.carts.proofs.OperationLaws.{operationTests, length-acted, length-act, length-actAll, fields-cart, Operations}
 use Rattle.carts.proofs.PartLaws.{length-part, length-over, part-over, over-before, over-after, part-in, byte-in, u16-in, u32-in}
@@ -142,15 +142,15 @@ module _ (op cart : List ℕ) (o : length op ≡ 80) (l : length cart ≡ 80) wh
         made-form (title-there fields (rw k refl)) (audio-there fields (rw k refl)) z
 
     other-kept : held cart ≡ true → (k₂ k₃ k₄ : Bool) → isRetitle (byte op 0) ≡ k₂ → isRecut (byte op 0) ≡ k₃
-        → cartForm (u16 op 2) (cond k₂ (retitled op cart) (cond k₃ (recut op cart) (cond k₄ withdrawn cart))) ≡ true
-    unfolding held withdrawn cartForm
+        → cartForm (u16 op 2) (cond k₂ (retitled op cart) (cond k₃ (recut op cart) (cond k₄ (zeros 80) cart))) ≡ true
+    unfolding held cartForm
     other-kept h k₂ k₃ k₄ e₂ e₃ =
         let b : byte cart 0 ≡ 1 = eqb-true (byte cart 0) 1 h in
         let f : heldForm (u16 op 2) cart ≡ true = sym (cart-held (u16 op 2) cart (λ e. omega arith)) ∙ form in
         pick k₂ k₃ k₄ e₂ e₃ f
       where
         pick : (k₂ k₃ k₄ : Bool) → isRetitle (byte op 0) ≡ k₂ → isRecut (byte op 0) ≡ k₃ → heldForm (u16 op 2) cart ≡ true
-            → cartForm (u16 op 2) (cond k₂ (retitled op cart) (cond k₃ (recut op cart) (cond k₄ withdrawn cart))) ≡ true
+            → cartForm (u16 op 2) (cond k₂ (retitled op cart) (cond k₃ (recut op cart) (cond k₄ (zeros 80) cart))) ≡ true
         pick true k₃ k₄ e₂ e₃ f = retitled-form (u16 op 2) (title-there fields (rw e₂ (or-true (isNew (byte op 0))))) f
         pick false true k₄ e₂ e₃ f = recut-form (u16 op 2) (audio-there fields (rw e₃ (or-true (isNew (byte op 0))))) f
         pick false false true e₂ e₃ f = rw (zero-zeros 80)
@@ -161,7 +161,7 @@ module _ (op cart : List ℕ) (o : length op ≡ 80) (l : length cart ≡ 80) wh
     cart-kept = pick (isNew (byte op 0)) (held cart) refl refl
       where
         pick : (n h : Bool) → isNew (byte op 0) ≡ n → held cart ≡ h
-            → cartForm (u16 op 2) (cond (cond n (not h) h) (cond n (made op cart) (cond (isRetitle (byte op 0)) (retitled op cart) (cond (isRecut (byte op 0)) (recut op cart) (cond (isWithdraw (byte op 0)) withdrawn cart)))) cart) ≡ true
+            → cartForm (u16 op 2) (cond (cond n (not h) h) (cond n (made op cart) (cond (isRetitle (byte op 0)) (retitled op cart) (cond (isRecut (byte op 0)) (recut op cart) (cond (isWithdraw (byte op 0)) (zeros 80) cart)))) cart) ≡ true
         pick true true e f = form
         pick true false e f = new-kept f e
         pick false true e f = other-kept f (isRetitle (byte op 0)) (isRecut (byte op 0)) (isWithdraw (byte op 0)) refl refl

@@ -10,7 +10,7 @@ use lib.ListN.{length, take, drop, set, length-set, length-replicate}
 use borrow.Author.Tests.{eqb-true}
 use Rattle.carts.specs.Bytes.{byte, u16, zeros, part, over, parts, within, every, allZero}
 use Rattle.carts.specs.Cart.{cartAt, hasTitle, noTitle, hasAudio, noAudio}
-use Rattle.carts.specs.Operation.{isNew, isRetitle, isRecut, isWithdraw, operationFields, operationForm, operationsOf, made, retitled, recut, withdrawn, meetsCart, effect, actedOn, meets, act, meetsAll, actAll}
+use Rattle.carts.specs.Operation.{isNew, isRetitle, isRecut, isWithdraw, operationFields, operationForm, operationsOf, made, retitled, recut, meetsCart, effect, actedOn, meets, act, meetsAll, actAll}
 use Rattle.carts.proofs.TestLaws.{by-cond, all-at}
 use Rattle.carts.proofs.ScanLaws.{and-left, and-right, within-true, every-implied}
 use Rattle.carts.proofs.CartLaws.{length-cart}
@@ -99,7 +99,7 @@ module _ (a b : List ℕ) (front : take 12 a ≡ take 12 b) (back : drop 16 a �
 
 -- a cart and a copy keep their length
 pub length-acted : (op cart : List ℕ) → length op ≡ 80 → length cart ≡ 80 → length (actedOn op cart) ≡ 80
-unfolding actedOn effect made retitled recut withdrawn zeros
+unfolding actedOn effect made retitled recut zeros
 length-acted op cart p q =
     let either : (b : Bool) (x y : List ℕ) → length x ≡ 80 → length y ≡ 80 → length (cond b x y) ≡ 80 = λ b x y p q. by-cond (λ (z : List ℕ). length z ≡ 80) b x y (λ e. p) (λ e. q) in
     let title = length-part op 16 64 (omega arith) in

@@ -10,7 +10,7 @@ use lib.ListN.{length, take, drop}
 use borrow.Author.Tests.{eqb-true, eqb-false, ne-eqb}
 use Rattle.carts.specs.Bytes.{byte, u16, zeros, parts, every}
 use Rattle.carts.specs.Cart.{cartAt, held}
-use Rattle.carts.specs.Operation.{isNew, isRetitle, isRecut, isWithdraw, operationFields, operationsOf, made, retitled, recut, withdrawn, meetsCart, effect, actedOn, meets, act, actAll}
+use Rattle.carts.specs.Operation.{isNew, isRetitle, isRecut, isWithdraw, operationFields, operationsOf, made, retitled, recut, meetsCart, effect, actedOn, meets, act, actAll}
 use Rattle.carts.proofs.TestLaws.{and-left, and-right, every-at}
 use Rattle.carts.proofs.CartLaws.{length-cart}
 use Rattle.carts.proofs.PartLaws.{length-part}
@@ -43,11 +43,11 @@ not-withdraw : (k n : ℕ) → n < 4 → eqb k n ≡ true → isWithdraw k ≡ f
 not-withdraw k n h e = let q : k ≡ n = eqb-true k n e in ne-eqb k 4 (λ r. omega arith)
 
 acted-held : (op cart : List ℕ) → length cart ≡ 80 → held (actedOn op cart) ≡ namedThen op (held cart)
-unfolding actedOn meetsCart effect held made retitled recut withdrawn zeros
+unfolding actedOn meetsCart effect held made retitled recut zeros
 acted-held op [] l = absurd (omega arith)
 acted-held op (x ∷ s) l =
     let k = byte op 0 in
-    by-kind (isNew k) (held (x ∷ s)) (isRetitle k) (isRecut k) (isWithdraw k) (made op (x ∷ s)) (retitled op (x ∷ s)) (recut op (x ∷ s)) withdrawn (x ∷ s)
+    by-kind (isNew k) (held (x ∷ s)) (isRetitle k) (isRecut k) (isWithdraw k) (made op (x ∷ s)) (retitled op (x ∷ s)) (recut op (x ∷ s)) (zeros 80) (x ∷ s)
     refl refl refl refl refl (not-withdraw k 2 (omega arith)) (not-withdraw k 3 (omega arith))
 
 -- after one operation

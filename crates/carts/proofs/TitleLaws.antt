@@ -10,8 +10,7 @@ use native.Mathlib.Omega.{arith}
 use lib.ListN.{length, take, drop, replicate, length-append, length-replicate}
 use Rattle.carts.specs.Bytes.{zeros, within, every}
 use Rattle.carts.specs.Cart.{cartAt}
-use Rattle.carts.specs.Fields.{foundCount}
-use Rattle.carts.specs.Title.{shownByNumbers, titled, titledFrom, titledIn, foundByTitle, theOne, shownByTitle, searchAnswer}
+use Rattle.carts.specs.Title.{shownByNumbers, titled, titledFrom, titledIn, theOne, searchAnswer, foundCount}
 use Rattle.carts.specs.declared.titles.Found.{Found}
 use Rattle.carts.specs.declared.titles.Found.the-variants.{One, None, Several}
 use Rattle.carts.proofs.titles.Found.{the-type}
@@ -86,16 +85,16 @@ titled-range title low high (suc n) m s p q =
     pick false rest w r = r
 
 -- the one cart found is a cart of the copy, and the one that is shown
-pub found-one : (title copy : List ℕ) (c : ℕ) → searchAnswer (titledIn title copy) ≡ One c → ((1 ≤ c) × (c ≤ 128)) × (shownByTitle copy title ≡ cartAt copy c)
-unfolding titledIn shownByTitle theOne every
+pub found-one : (title copy : List ℕ) (c : ℕ) → searchAnswer (titledIn title copy) ≡ One c → ((1 ≤ c) × (c ≤ 128)) × (theOne copy (titledIn title copy) ≡ cartAt copy c)
+unfolding titledIn theOne every
 found-one title copy c e =
     let one = one-of (titledIn title copy) c e in
     let range = rw one at (titled-range title 1 128 128 1 copy (omega arith) (omega arith)) in
     (within-true 1 128 c (and-left (within 1 128 c) true range), rw one)
 
 -- any other answer shows zeros
-pub found-other : (title copy : List ℕ) → ((c : ℕ) → searchAnswer (titledIn title copy) ≡ One c → ⊥) → shownByTitle copy title ≡ zeros 80
-unfolding shownByTitle theOne searchAnswer
+pub found-other : (title copy : List ℕ) → ((c : ℕ) → searchAnswer (titledIn title copy) ≡ One c → ⊥) → theOne copy (titledIn title copy) ≡ zeros 80
+unfolding theOne searchAnswer
 found-other title copy f = pick (titledIn title copy) f
   where
     pick : (xs : List ℕ) → ((c : ℕ) → searchAnswer xs ≡ One c → ⊥) → theOne copy xs ≡ zeros 80
@@ -109,10 +108,6 @@ unfolding searchAnswer
 found-length [] = refl
 found-length (x ∷ []) = refl
 found-length (x ∷ y ∷ xs) = refl
-
-pub found-by-title : (title copy : List ℕ) → foundCount (searchAnswer (titledIn title copy)) ≡ foundByTitle copy title
-unfolding foundByTitle
-found-by-title title copy = found-length (titledIn title copy)
 
 -- in the `else` of `let Found::One(c) = found`
 pub not-one : (found : Found) → OneOf (1 ∷ 2 ∷ []) (tagOf the-type found) → (c : ℕ) → found ≡ One c → ⊥
@@ -128,8 +123,8 @@ length-by-numbers copy (c ∷ cs) l e =
     let r = within-true 1 128 c (and-left (within 1 128 c) (every (within 1 128) cs) e) in
     simp (length-append, length-cart copy c l (r .1), length-by-numbers copy cs l (and-right (within 1 128 c) (every (within 1 128) cs) e)) (omega arith)
 
-pub length-by-title : (copy title : List ℕ) → length copy ≡ 10240 → length (shownByTitle copy title) ≡ 80
-unfolding shownByTitle titledIn theOne every
+pub length-by-title : (copy title : List ℕ) → length copy ≡ 10240 → length (theOne copy (titledIn title copy)) ≡ 80
+unfolding titledIn theOne every
 length-by-title copy title l = pick (titledIn title copy) (titled-range title 1 128 128 1 copy (omega arith) (omega arith))
   where
     pick : (xs : List ℕ) → every (within 1 128) xs ≡ true → length (theOne copy xs) ≡ 80

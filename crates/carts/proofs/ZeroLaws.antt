@@ -4,9 +4,10 @@ use mathlib.Core.Path.{_≡_, refl, ap, _∙_}
 use mathlib.Core.Bool.{true}
 use mathlib.Core.List.{List, [], _∷_}
 use native.Mathlib.Omega.{arith}
+use lib.Dec.{eqb}
 use lib.ListN.{length, take, drop, getD, length-replicate}
 use borrow.Author.Tests.{eqb-true}
-use Rattle.carts.specs.Bytes.{zeros, part, every, isZero, allZero}
+use Rattle.carts.specs.Bytes.{zeros, part, every, allZero}
 use Rattle.carts.proofs.TestLaws.{and-left, and-right}
 
 pub length-zeros : (n : ℕ) → length (zeros n) ≡ n
@@ -43,7 +44,7 @@ zero-zeros (suc n) = zero-zeros n
 -- the first byte of a list that is all zero, and the others
 pub zero-first : (b : ℕ) (s : List ℕ) → allZero (b ∷ s) ≡ true → (b ≡ 0) × (allZero s ≡ true)
 unfolding allZero every
-zero-first b s e = (eqb-true b 0 (and-left (isZero b) (every isZero s) e), and-right (isZero b) (every isZero s) e)
+zero-first b s e = (eqb-true b 0 (and-left (eqb b 0) (allZero s) e), and-right (eqb b 0) (allZero s) e)
 
 pub zeros-of : (s : List ℕ) → allZero s ≡ true → s ≡ zeros (length s)
 unfolding allZero every zeros

@@ -51,11 +51,8 @@ unfoldable pub every : {A : Type 0} → (A → Bool) → List A → Bool
 every p [] = true
 every p (x ∷ xs) = let rest = every p xs in p x && rest
 
-abbrev pub isZero : ℕ → Bool
-isZero b = eqb b 0
-
 unfoldable pub allZero : List ℕ → Bool
-allZero s = every isZero s
+allZero s = every (λ b. eqb b 0) s
 
 -- the two lists have one length, and r holds of each pair
 unfoldable pub pairwise : (ℕ → ℕ → Bool) → List ℕ → List ℕ → Bool

@@ -5,6 +5,7 @@ use Prim.Native.Nat.{ℕ, _*_, _-_}
 use lib.ListN.{take, drop}
 use lib.Dec.{leb, eqb}
 use Rattle.carts.specs.Bytes.{part, byte, u16, u32, within, all, every, allZero, eachPart}
+use Rattle.carts.specs.declared.cart.Cart.{Cart}
 
 -- "A copy has 128 carts of 80 bytes"; "title length 1–64"
 abbrev pub cartSize : ℕ
@@ -68,6 +69,10 @@ noAudio s = allZero (part s audioAt (linksAt - audioAt))
 -- "Held: byte 0 is 1"; a cart with another byte 0 is in the other state
 unfoldable pub held : List ℕ → Bool
 held cart = eqb (byte cart 0) 1
+
+-- a cart's fields, as the code's value
+unfoldable pub cartFields : List ℕ → Cart
+cartFields s = record { held = held s; «title_length» = byte s 1; number = cartNumber s; audio = u32 s audioAt; milliseconds = u32 s lengthAt }
 
 -- "Held: byte 0 is 1; byte 1 title length; bytes 2–3 its number; 4–7 audio number; 8–11 length; 12–15 zero; 16–79 the title"
 unfoldable pub heldForm : ℕ → List ℕ → Bool

@@ -1,7 +1,6 @@
--- Document 01's carts, operations, transactions and titles; then what contracts need besides.
+-- Document 01's carts, operations, transactions and titles.
 pub mod Bytes
 pub mod Cart
 pub mod Operation
 pub mod Transaction
 pub mod Title
-pub mod Fields

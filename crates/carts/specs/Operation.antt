@@ -50,20 +50,16 @@ retitled op cart = over (set cart 1 (byte op 1)) titleAt titleSize (part op titl
 unfoldable pub recut : List ℕ → List ℕ → List ℕ
 recut op cart = over cart audioAt (linksAt - audioAt) (part op audioAt (linksAt - audioAt))
 
--- "withdraw makes it empty"
-unfoldable pub withdrawn : List ℕ
-withdrawn = zeros cartSize
-
 -- the cart is in the right state for the operation: new asks for an empty one, the others for a held one
 unfoldable pub meetsCart : List ℕ → List ℕ → Bool
 meetsCart op cart = cond (isNew (byte op 0)) (not (held cart)) (held cart)
 
--- what the operation makes of a cart in the right state; bytes 12–15 of the operation are not read
+-- what the operation makes of a cart in the right state, "withdraw makes it empty"; bytes 12–15 of the operation are not read
 unfoldable pub effect : List ℕ → List ℕ → List ℕ
 effect op cart =
     let kind = byte op 0 in
     let new = made op cart in
-    let other = cond (isRetitle kind) (retitled op cart) (cond (isRecut kind) (recut op cart) (cond (isWithdraw kind) withdrawn cart)) in
+    let other = cond (isRetitle kind) (retitled op cart) (cond (isRecut kind) (recut op cart) (cond (isWithdraw kind) (zeros cartSize) cart)) in
     cond (isNew kind) new other
 
 -- "an operation on a cart in the other state changes nothing"

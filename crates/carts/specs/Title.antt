@@ -34,15 +34,10 @@ unfoldable pub titledFrom : List ℕ → ℕ → ℕ → List ℕ → List ℕ
 titledFrom title zero c s = []
 titledFrom title (suc n) c s =
     let rest = titledFrom title n (c + 1) (drop cartSize s) in
-    let more = c ∷ rest in
-    cond (titled title (take cartSize s)) more rest
+    cond (titled title (take cartSize s)) (c ∷ rest) rest
 
 unfoldable pub titledIn : List ℕ → List ℕ → List ℕ
 titledIn title copy = titledFrom title cartCount 1 copy
-
--- "By title: found is how many carts have exactly that title"
-unfoldable pub foundByTitle : List ℕ → List ℕ → ℕ
-foundByTitle copy title = length (titledIn title copy)
 
 -- "the one cart if found is 1, else 80 zeros"
 unfoldable pub theOne : List ℕ → List ℕ → List ℕ
@@ -50,11 +45,14 @@ theOne copy [] = zeros cartSize
 theOne copy (c ∷ []) = cartAt copy c
 theOne copy (c ∷ d ∷ cs) = zeros cartSize
 
-unfoldable pub shownByTitle : List ℕ → List ℕ → List ℕ
-shownByTitle copy title = theOne copy (titledIn title copy)
-
 -- "A title search answers one cart, none, or several with their count, the one cart by its number": the code's answer
 unfoldable pub searchAnswer : List ℕ → Found
 searchAnswer [] = None
 searchAnswer (c ∷ []) = One c
 searchAnswer (c ∷ d ∷ cs) = Several (length (c ∷ d ∷ cs))
+
+-- how many carts a search has found
+abbrev pub foundCount : Found → ℕ
+foundCount (One c) = 1
+foundCount None = 0
+foundCount (Several n) = n

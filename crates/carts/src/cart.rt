@@ -4,10 +4,9 @@ ghost use mathlib.Core.Path.{_≡_};
 ghost use mathlib.Core.Bool.{cond, _&&_};
 ghost use Prim.Native.Nat.{_≤_};
 ghost use lib.ListN.{length, take, drop};
-ghost use lib.Dec.{ltb};
-ghost use Rattle.carts.specs.Bytes.{isZero, every, allZero};
-ghost use Rattle.carts.specs.Cart.{cartSize, cartCount, copySize, titleSize, cartAt, printable, hasTitle, noTitle, hasAudio, noAudio, held, heldForm, cartForm, copyForm};
-ghost use Rattle.carts.specs.Fields.{cartFields};
+ghost use lib.Dec.{ltb, eqb};
+ghost use Rattle.carts.specs.Bytes.{every, allZero};
+ghost use Rattle.carts.specs.Cart.{cartSize, cartCount, copySize, titleSize, cartAt, printable, hasTitle, noTitle, hasAudio, noAudio, held, cartFields, heldForm, cartForm, copyForm};
 
 // A cart's fields, as a value.
 pub struct Cart {
@@ -66,7 +65,7 @@ pub fn is_held(cart: &[u8]) -> bool
 // The byte at index j of a title's field: a letter where the title of n letters has one, else zero. With no choice between two
 // tests, it vectorises in fewer instructions.
 fn is_title_byte(b: u8, j: u8, n: u8) -> bool
-    ensures { λ r. ⌜ r ≡ cond (ltb j n) (printable b) (isZero b) ⌝ }
+    ensures { λ r. ⌜ r ≡ cond (ltb j n) (printable b) (eqb b 0) ⌝ }
 {
     let zero = b == 0;
     (zero | bytes::is_printable(b)) & (zero != (j < n))

@@ -7,9 +7,9 @@ ghost use mathlib.Core.Bool.{true, false, cond, not};
 ghost use Prim.Native.Nat.{_≤_, _/_};
 ghost use lib.ListN.{length};
 ghost use lib.Dec.{eqb};
-ghost use Rattle.carts.specs.Bytes.{byte, every, parts};
+ghost use Rattle.carts.specs.Bytes.{zeros, byte, every, parts};
 ghost use Rattle.carts.specs.Cart.{cartSize, cartCount, copySize, cartNumber, cartAt, held};
-ghost use Rattle.carts.specs.Operation.{isNew, isWithdraw, operationFields, operationForm, operationsOf, made, retitled, recut, withdrawn, actedOn, meets, act, meetsAll, actAll};
+ghost use Rattle.carts.specs.Operation.{isNew, isWithdraw, operationFields, operationForm, operationsOf, made, retitled, recut, actedOn, meets, act, meetsAll, actAll};
 
 // The operation has the fields of its kind, as it is stored: bytes 12 to 15 are free.
 pub fn has_fields(op: &[u8]) -> bool
@@ -103,7 +103,7 @@ fn re_cut(cart: &mut [u8], op: &[u8])
 // Withdraw: the cart is empty.
 fn withdraw(cart: &mut [u8])
     requires { ⌜ length (now cart) ≡ cartSize ⌝ }
-    ensures { λ _. ⌜ now (cart .exit) ≡ withdrawn ⌝ }
+    ensures { λ _. ⌜ now (cart .exit) ≡ zeros cartSize ⌝ }
 {
     bytes::clear(&mut cart[0..Cart::SIZE]);
 }

@@ -7,8 +7,7 @@ ghost use Prim.Native.Nat.{_≤_};
 ghost use lib.ListN.{length};
 ghost use Rattle.carts.specs.Bytes.{pairwise};
 ghost use Rattle.carts.specs.Cart.{cartSize, copySize, titleSize};
-ghost use Rattle.carts.specs.Title.{sameLetter, titled, titledIn, searchAnswer};
-ghost use Rattle.carts.specs.Fields.{foundCount};
+ghost use Rattle.carts.specs.Title.{sameLetter, titled, titledIn, searchAnswer, foundCount};
 
 // One cart by its number, none, or several with their count.
 pub enum Found {

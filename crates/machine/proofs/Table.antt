@@ -3,9 +3,9 @@ use mathlib.Core.Path.{_≡_, refl}
 use mathlib.Core.List.{List, [], _∷_}
 use Rattle.carts.specs.Bytes.{zeros, u16, u32, u16s, within, all, every, allZero, pairwise, parts}
 use Rattle.carts.specs.Cart.{cartAt, printable, titleForm, hasTitle, noTitle, hasAudio, noAudio, held}
-use Rattle.carts.specs.Operation.{operationFields, operationForm, operationsOf, made, retitled, recut, withdrawn, meetsCart, effect, actedOn, meets, act, meetsAll, actAll}
+use Rattle.carts.specs.Operation.{operationFields, operationForm, operationsOf, made, retitled, recut, meetsCart, effect, actedOn, meets, act, meetsAll, actAll}
 use Rattle.carts.specs.Transaction.{replay, L, recordsUsed}
-use Rattle.carts.specs.Title.{shownByNumbers, foundByNumbers, sameLetter, titled, titledFrom, titledIn, foundByTitle, theOne, shownByTitle}
+use Rattle.carts.specs.Title.{shownByNumbers, foundByNumbers, sameLetter, titled, titledFrom, titledIn, theOne}
 use Rattle.replication.specs.Log.{noRoom}
 use Rattle.replication.specs.Request.{numbersIn, requestOf, numbersForm, requestFields, requestForm, isWaiting, needed, foundIn, shownFrom}
 use Rattle.replication.specs.Rows.{stopped, unless, setupRows, sessionRow, studioRow, sizeForm, commitRows, sendRows, refreshRows, readRows, collectRows}
@@ -26,7 +26,7 @@ unfolding start studioBytes Machine.setup setupRows stopped unless all within ev
 started = refl
 
 pub table : Table (plainHistory start) (afterCalls start (callsOf cases2to10) .next .log)
-unfolding zeros u16 u32 u16s within all every allZero pairwise parts cartAt printable titleForm hasTitle noTitle hasAudio noAudio held operationFields operationForm operationsOf made retitled recut withdrawn meetsCart effect actedOn meets act meetsAll actAll shownByNumbers foundByNumbers sameLetter titled titledFrom titledIn foundByTitle theOne shownByTitle topHourA longTitle noRoom numbersIn requestOf numbersForm requestFields requestForm isWaiting needed foundIn shownFrom stopped unless setupRows sessionRow studioRow sizeForm commitRows sendRows refreshRows readRows collectRows numberAfter replay L recordsUsed Machine.fresh Machine.setup Machine.refusedCommit Machine.commit Machine.send Machine.refresh Machine.answerFrom Machine.block Machine.wait Machine.read Machine.collect Machine.call run final plainHistory start A buffer holding studioBytes payload new withdraw7 seven titleRead cases2to10 case11 case12
+unfolding zeros u16 u32 u16s within all every allZero pairwise parts cartAt printable titleForm hasTitle noTitle hasAudio noAudio held operationFields operationForm operationsOf made retitled recut meetsCart effect actedOn meets act meetsAll actAll shownByNumbers foundByNumbers sameLetter titled titledFrom titledIn theOne topHourA longTitle noRoom numbersIn requestOf numbersForm requestFields requestForm isWaiting needed foundIn shownFrom stopped unless setupRows sessionRow studioRow sizeForm commitRows sendRows refreshRows readRows collectRows numberAfter replay L recordsUsed Machine.fresh Machine.setup Machine.refusedCommit Machine.commit Machine.send Machine.refresh Machine.answerFrom Machine.block Machine.wait Machine.read Machine.collect Machine.call run final plainHistory start A buffer holding studioBytes payload new withdraw7 seven titleRead cases2to10 case11 case12
 table = record { fresh = refl; followed = refl; audio = refl; empty = refl; longTitles = refl; oneTitle = refl }
 
 -- a studio that lags behind what it was sent: its reads show the state that it has applied
@@ -49,5 +49,5 @@ lagging =
     ∷ []
 
 pub applied-shown : plainHistory start (callsOf lagging) ≡ lagging
-unfolding zeros u16 u32 u16s within all every allZero pairwise parts cartAt printable titleForm hasTitle noTitle hasAudio noAudio held operationFields operationForm operationsOf made retitled recut withdrawn meetsCart effect actedOn meets act meetsAll actAll shownByNumbers foundByNumbers sameLetter titled titledFrom titledIn foundByTitle theOne shownByTitle topHourA noRoom numbersIn requestOf numbersForm requestFields requestForm isWaiting needed foundIn shownFrom stopped unless setupRows sessionRow studioRow sizeForm commitRows sendRows refreshRows readRows collectRows numberAfter replay L recordsUsed Machine.fresh Machine.setup Machine.refusedCommit Machine.commit Machine.send Machine.refresh Machine.answerFrom Machine.block Machine.wait Machine.read Machine.collect Machine.call run final plainHistory start A buffer holding studioBytes payload new withdraw7 seven lagging
+unfolding zeros u16 u32 u16s within all every allZero pairwise parts cartAt printable titleForm hasTitle noTitle hasAudio noAudio held operationFields operationForm operationsOf made retitled recut meetsCart effect actedOn meets act meetsAll actAll shownByNumbers foundByNumbers sameLetter titled titledFrom titledIn theOne topHourA noRoom numbersIn requestOf numbersForm requestFields requestForm isWaiting needed foundIn shownFrom stopped unless setupRows sessionRow studioRow sizeForm commitRows sendRows refreshRows readRows collectRows numberAfter replay L recordsUsed Machine.fresh Machine.setup Machine.refusedCommit Machine.commit Machine.send Machine.refresh Machine.answerFrom Machine.block Machine.wait Machine.read Machine.collect Machine.call run final plainHistory start A buffer holding studioBytes payload new withdraw7 seven lagging
 applied-shown = refl

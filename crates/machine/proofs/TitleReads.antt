@@ -11,7 +11,7 @@ use borrow.Author.Tests.{eqb-true}
 use Rattle.carts.specs.Bytes.{part, byte, pairwise}
 use Rattle.carts.specs.Cart.{copySize, cartAt, held}
 use Rattle.carts.specs.Transaction.{L}
-use Rattle.carts.specs.Title.{sameLetter, titled, titledFrom, titledIn, foundByTitle, theOne, shownByTitle}
+use Rattle.carts.specs.Title.{sameLetter, titled, titledFrom, titledIn, theOne}
 use Rattle.carts.proofs.TestLaws.{and-left, and-right, within-of, pairwise-eq}
 use Rattle.carts.proofs.EachLaws.{next-part}
 use Rattle.carts.proofs.CartLaws.{length-cart}
@@ -58,9 +58,9 @@ has-title title cart e =
     (eqb-true _ _ (and-left (eqb (byte cart 1) (length title)) letters h), pairwise-eq _ _ (and-right (eqb (byte cart 1) (length title)) letters h))
 
 -- and is what a copy shows
-shows-one : (title copy output rest : List ℕ) → length copy ≡ copySize → output ≡ shownByTitle copy title ++ rest → (c : ℕ) × (titledIn title copy ≡ c ∷ [])
+shows-one : (title copy output rest : List ℕ) → length copy ≡ copySize → output ≡ theOne copy (titledIn title copy) ++ rest → (c : ℕ) × (titledIn title copy ≡ c ∷ [])
     → ShowsTheOne title copy output
-unfolding shownByTitle theOne titledIn cartAt
+unfolding theOne titledIn cartAt
 shows-one title copy output rest l e (c, alone) =
     let (low, high, has) = one-titled title 128 1 c copy alone in
     let (size, letters) = has-title title (cartAt copy c) has in
@@ -75,10 +75,10 @@ shows-one title copy output rest l e (c, alone) =
 
 pub title-read : (m : Machine) → Sound m → (x : Call.Call) (k : ℕ) (title : List ℕ) → call m x .answer ≡ answered k 1 → asked m x ≡ byTitle title
     → ShowsTheOne title (L (m .log) k) (call m x .output)
-unfolding foundIn shownFrom foundByTitle
+unfolding foundIn shownFrom
 title-read m f x k title answer q =
     let copy : List ℕ = L (m .log) k in
     let r = call-shows m f k 1 x answer in
-    let count : 1 ≡ foundByTitle copy title = rw q at (r .count) in
-    let output : call m x .output ≡ shownByTitle copy title ++ r .rest = rw q at (r .output) in
+    let count : 1 ≡ length (titledIn title copy) = rw q at (r .count) in
+    let output : call m x .output ≡ theOne copy (titledIn title copy) ++ r .rest = rw q at (r .output) in
     shows-one title copy _ _ (length-L (m .log) k (f .formed)) output (the-one (titledIn title copy) count)

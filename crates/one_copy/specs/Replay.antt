@@ -8,7 +8,7 @@ use Rattle.replication.specs.Memory.{sessionSize, numbersMost}
 use Rattle.carts.specs.Bytes.{byte, part, within, every, pairwise}
 use Rattle.carts.specs.Cart.{cartAt, held, cartSize, cartCount, titleSize, titleAt}
 use Rattle.carts.specs.Operation.{operationForm, operationsOf, meetsAll}
-use Rattle.carts.specs.Title.{foundByTitle, shownByTitle}
+use Rattle.carts.specs.Title.{titledIn, theOne}
 use Rattle.lines.specs.Text.{partIn}
 use Rattle.lines.specs.Build.{askedAt}
 
@@ -41,7 +41,7 @@ numbersAgree copy request found shown =
 
 -- found the carts of the title, and the one cart shown, or zeros
 unfoldable pub titleAgrees : List ℕ → List ℕ → ℕ → List ℕ → Bool
-titleAgrees copy title found shown = eqb (foundByTitle copy title) found && pairwise eqb (shownByTitle copy title) (partIn shown 0 cartSize)
+titleAgrees copy title found shown = eqb (length (titledIn title copy)) found && pairwise eqb (theOne copy (titledIn title copy)) (partIn shown 0 cartSize)
 
 -- the state is the count, and the rest by the kind of the request
 unfoldable pub readAgrees : List ℕ → ℕ → List ℕ → ℕ → ℕ → List ℕ → Bool

@@ -12,13 +12,12 @@ use types.Run.{OneOf}
 use denote.Enum.Declared.{tagOf}
 use Rattle.carts.specs.Bytes.{zeros, part, over, byte, u16, u16s, within, every, allZero}
 use Rattle.carts.specs.Cart.{cartAt, held, titleForm, printable}
-use Rattle.carts.specs.Title.{shownByNumbers, foundByNumbers, titledIn, foundByTitle, shownByTitle, searchAnswer}
-use Rattle.carts.specs.Fields.{foundCount}
+use Rattle.carts.specs.Title.{shownByNumbers, foundByNumbers, titledIn, theOne, searchAnswer, foundCount}
 use Rattle.carts.specs.declared.titles.Found.{Found}
 use Rattle.carts.specs.declared.titles.Found.the-variants.{One}
 use Rattle.carts.proofs.titles.Found.{the-type}
 use Rattle.carts.proofs.TestLaws.{all-at, by-cond, within-low, within-high, every-at}
-use Rattle.carts.proofs.TitleLaws.{found-by-title, found-one, found-other, not-one}
+use Rattle.carts.proofs.TitleLaws.{found-length, found-one, found-other, not-one}
 use Rattle.replication.specs.Request.{Request, nothing, byNumbers, byTitle, numbersIn, requestOf, numbersForm, requestFields, needed, foundIn, shownFrom}
 use Rattle.replication.specs.Memory.{copyAt}
 use Rattle.replication.specs.Values.{waitingValue, sessionValue}
@@ -108,17 +107,17 @@ module _ (x : List ℕ) (f : numbersForm x ≡ true) where
 
 -- a read by title: the search's answer is one cart, or not
 module _ (copy title : List ℕ) (found : Found) (e : found ≡ searchAnswer (titledIn title copy)) where
-  pub title-found : foundCount found ≡ foundByTitle copy title
-  title-found = ap foundCount e ∙ found-by-title title copy
+  pub title-found : foundCount found ≡ length (titledIn title copy)
+  title-found = ap foundCount e ∙ found-length (titledIn title copy)
 
-  pub title-not-one : OneOf (1 ∷ 2 ∷ []) (tagOf the-type found) → zeros 80 ≡ shownByTitle copy title
+  pub title-not-one : OneOf (1 ∷ 2 ∷ []) (tagOf the-type found) → zeros 80 ≡ theOne copy (titledIn title copy)
   title-not-one k = sym (found-other title copy (not-one (searchAnswer (titledIn title copy)) (rw e at k)))
 
   module _ (c : ℕ) (g : found ≡ One c) where
-    pub one-found : 1 ≡ foundByTitle copy title
+    pub one-found : 1 ≡ length (titledIn title copy)
     one-found = ap foundCount (sym g) ∙ title-found
 
-    pub one-shown : cartAt copy c ≡ shownByTitle copy title
+    pub one-shown : cartAt copy c ≡ theOne copy (titledIn title copy)
     one-shown = sym (found-one title copy c (sym e ∙ g) .1)
 
     pub one-within : (1 ≤ c) × (c ≤ 128)
@@ -172,7 +171,8 @@ module _ (copy x out : List ℕ) where
     unfolding foundIn needed shownFrom numbersIn
     shows-numbers e f g = rw (e, length-u16s (byte x 1) (drop 16 x)) (f, g)
 
-    pub shows-title : (n : ℕ) → requestOf x ≡ byTitle (part x 16 n) → r ≡ foundByTitle copy (take (16 + n - 16) (drop 16 x)) → new ≡ over out 0 80 (shownByTitle copy (take (16 + n - 16) (drop 16 x))) → Shown copy (requestOf x) out r new
+    pub shows-title : (n : ℕ) → requestOf x ≡ byTitle (part x 16 n) → r ≡ length (titledIn (take (16 + n - 16) (drop 16 x)) copy)
+        → new ≡ over out 0 80 (theOne copy (titledIn (take (16 + n - 16) (drop 16 x)) copy)) → Shown copy (requestOf x) out r new
     unfolding foundIn needed shownFrom
     shows-title n e f g = let k : 16 + n - 16 ≡ n = add-sub-cancel-left 16 n in rw e (rw k at f, rw k at g)
 

@@ -7,7 +7,7 @@ use lib.Dec.{eqb}
 use Rattle.carts.specs.Bytes.{part, byte, u16s, within, all, every, allZero}
 use Rattle.carts.specs.Cart.{cartSize, cartCount, titleSize, numberAt, titleAt, titleForm}
 use Rattle.replication.specs.Memory.{Memory, sessionSize, numbersMost, sessionAt}
-use Rattle.carts.specs.Title.{shownByNumbers, foundByNumbers, shownByTitle, foundByTitle}
+use Rattle.carts.specs.Title.{shownByNumbers, foundByNumbers, titledIn, theOne}
 
 -- "A session's waiting read is a case (nothing, numbers, title)"; a request is one of the last two
 pub data Request : Type 0 where
@@ -54,13 +54,14 @@ needed nothing = 0
 needed (byNumbers cs) = cartSize * length cs
 needed (byTitle t) = cartSize
 
--- found, and what an answered read writes from output's start
+-- found, and what an answered read writes from output's start. "By title: found is how many carts have exactly that title; the one cart
+-- if found is 1, else 80 zeros."
 unfoldable pub foundIn : List ℕ → Request → ℕ
 foundIn copy nothing = 0
 foundIn copy (byNumbers cs) = foundByNumbers copy cs
-foundIn copy (byTitle t) = foundByTitle copy t
+foundIn copy (byTitle t) = length (titledIn t copy)
 
 unfoldable pub shownFrom : List ℕ → Request → List ℕ
 shownFrom copy nothing = []
 shownFrom copy (byNumbers cs) = shownByNumbers copy cs
-shownFrom copy (byTitle t) = shownByTitle copy t
+shownFrom copy (byTitle t) = theOne copy (titledIn t copy)

@@ -12,7 +12,7 @@ ghost use Prim.Native.Nat.{_*_, _≤_};
 ghost use lib.ListN.{length};
 ghost use Rattle.carts.specs.Bytes.{byte, over};
 ghost use Rattle.carts.specs.Cart.{cartSize, cartCount, copySize, titleSize, cartAt, held};
-ghost use Rattle.carts.specs.Title.{shownByNumbers, foundByNumbers, shownByTitle, foundByTitle};
+ghost use Rattle.carts.specs.Title.{shownByNumbers, foundByNumbers, titledIn, theOne};
 ghost use Rattle.replication.specs.Memory.{librarySize, sessionSize, studioCount, copyAt};
 ghost use Rattle.replication.specs.Request.{numbersIn, numbersForm, requestOf, requestFields, needed, foundIn, shownFrom};
 ghost use Rattle.replication.specs.Values.{waitingValue};
@@ -55,8 +55,8 @@ fn show_numbers(copy: &[u8], request: &[u8], count: u32, output: &mut [u8]) -> u
 // By title: found is how many carts have it; the one cart if found is 1, else zeros.
 fn show_title(copy: &[u8], title: &[u8], output: &mut [u8]) -> u32
     requires { ⌜ (length (now copy) ≡ copySize) × ((length (now title) ≤ titleSize) × (cartSize ≤ length (now output))) ⌝ }
-    ensures { λ r. ⌜ (r ≡ foundByTitle (now (copy .entry)) (now (title .entry)))
-        × (now (output .exit) ≡ over (now (output .entry)) 0 cartSize (shownByTitle (now (copy .entry)) (now (title .entry)))) ⌝ }
+    ensures { λ r. ⌜ (r ≡ length (titledIn (now (title .entry)) (now (copy .entry))))
+        × (now (output .exit) ≡ over (now (output .entry)) 0 cartSize (theOne (now (copy .entry)) (titledIn (now (title .entry)) (now (copy .entry))))) ⌝ }
 {
     let found = titles::search(copy, title);
     let Found::One(c) = found else {

@@ -3,8 +3,7 @@ use mathlib.Core.Path.{_≡_, refl}
 use mathlib.Core.List.{[], _∷_, _++_}
 use mathlib.Core.Bool.{true, false}
 use Rattle.carts.specs.Bytes.{zeros, u16, u32, u16Bytes}
-use Rattle.carts.specs.Cart.{held}
-use Rattle.carts.specs.Fields.{cartFields}
+use Rattle.carts.specs.Cart.{held, cartFields}
 use Rattle.lines.specs.Build.{u32Bytes, titleField, operationBytes, u16List, numbersBytes}
 use Rattle.lines.specs.Words.{bytesOf}
 use Rattle.words.specs.Page.{digitsOf, decimal, countOf, quoted}

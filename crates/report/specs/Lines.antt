@@ -4,7 +4,7 @@ use mathlib.Core.List.{List, [], _++_}
 use Prim.Native.Nat.{ℕ, zero, suc}
 use lib.Dec.{eqb, ltb}
 use Rattle.carts.specs.Bytes.{byte, u16}
-use Rattle.carts.specs.Fields.{cartFields}
+use Rattle.carts.specs.Cart.{cartFields}
 use Rattle.lines.specs.Build.{askedAt}
 use Rattle.lines.specs.Text.{partIn}
 use Rattle.lines.specs.Words.{bytesOf}

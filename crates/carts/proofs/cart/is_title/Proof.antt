@@ -1,8 +1,7 @@
 use Rattle.carts.proofs.CartLaws.{letters, letters-step, letters-end}
 use Rattle.carts.proofs.ScanLaws.{test-more, test-end}
-use Rattle.carts.specs.Bytes.{isZero}
 use Rattle.carts.specs.Cart.{printable}
-use lib.Dec.{ltb}
+use lib.Dec.{ltb, eqb}
 use lib.ListN.{drop, getD}
 use mathlib.Core.Bool.{_&&_, cond}
 use mathlib.Core.Path.{_≡_, refl, ap}
@@ -42,7 +41,7 @@ loop-again c = let t = c .before .before .before in
     let j = t .loop .j in
     let b = getD (a .field .now) j 0 in
     let e = rw (t .loop .inv .1) at (c .is-title-byte .ensures) in
-    (omega arith, omega arith, test-more (t .loop .ok) (cond (ltb j (a .n)) (printable b) (isZero b)) (letters (a .n - (j + 1)) (drop (j + 1) (a .field .now))) (t .loop .inv .2) (letters-step (a .n) j (a .field .now) (omega arith)) (ap (λ r. t .loop .ok && r) e))
+    (omega arith, omega arith, test-more (t .loop .ok) (cond (ltb j (a .n)) (printable b) (eqb b 0)) (letters (a .n - (j + 1)) (drop (j + 1) (a .field .now))) (t .loop .inv .2) (letters-step (a .n) j (a .field .now) (omega arith)) (ap (λ r. t .loop .ok && r) e))
 
 returns : tie.Need-returns Inv-loop μ-loop
 returns c = let t = c .before in

@@ -1,6 +1,5 @@
 use Rattle.carts.proofs.PartLaws.{length-part, over-whole}
 use Rattle.carts.specs.Bytes.{zeros}
-use Rattle.carts.specs.Operation.{withdrawn}
 use lib.ListN.{length}
 use Prim.Native.Nat.{_≤_}
 use mathlib.Core.Path.{ap, _∙_}
@@ -25,7 +24,6 @@ same-length : tie.Need-same-length
 same-length c = search needs
 
 returns : tie.Need-returns
-unfolding withdrawn
 returns c = let k = c .before .before .clear in
     let s = c .before .before .before .before .before .args .cart .now in
     let h : length s ≤ 80 = omega arith in

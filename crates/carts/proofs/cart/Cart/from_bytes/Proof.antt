@@ -1,4 +1,4 @@
-use Rattle.carts.specs.Fields.{cartFields}
+use Rattle.carts.specs.Cart.{cartFields}
 use borrow.Author.Needs.{needs}
 use Rattle.carts.proofs.cart.Cart.from_bytes.Statement.{statement}
 use Rattle.carts.proofs.cart.Cart.from_bytes.Tie as tie
