@@ -74,8 +74,7 @@ fresh studios bytes = machine studios [] (zeros studioCount) (zeros studioCount)
 -- Row 1 is about memory, which the machine has not.
 unfoldable pub setup : ℕ → List ℕ → Step
 setup studios bytes =
-    let good = step (done 0) (fresh studios bytes) [] in
-    unless (stopped (setupRows studios bytes)) (refusal (fresh 0 (zeros sessionCount)) []) good
+    unless (stopped (setupRows studios bytes)) (refusal (fresh 0 (zeros sessionCount)) []) (step (done 0) (fresh studios bytes) [])
 
 -- what a commit that a row stops leaves, by the row's number
 unfoldable pub refusedCommit : Machine → ℕ → ℕ → Step
@@ -87,23 +86,20 @@ unfoldable pub commit : Machine → ℕ → List ℕ → Step
 commit m s bytes =
     let x = sessionOf m s in
     let n = commits m + 1 in
-    let grown = withLog m (m .log ++ (operationsOf bytes ∷ [])) in
-    let good = step (done n) (withSession grown s (session (x .studio) n (x .waiting))) [] in
-    unless (stopped (commitRows s (x .studio) (x .waiting) (recordsUsed (m .log)) (L (m .log) (commits m)) bytes)) (refusedCommit m s) good
+    let left = withSession (withLog m (m .log ++ (operationsOf bytes ∷ []))) s (session (x .studio) n (x .waiting)) in
+    unless (stopped (commitRows s (x .studio) (x .waiting) (recordsUsed (m .log)) (L (m .log) (commits m)) bytes)) (refusedCommit m s) (step (done n) left [])
 
 -- "Send (studio): sent rises by one. Returns it."
 unfoldable pub send : Machine → ℕ → Step
 send m i =
     let n = nth (m .sent) i + 1 in
-    let good = step (done n) (withSent m i n) [] in
-    unless (stopped (sendRows (m .studios) i (nth (m .sent) i) (nth (m .applied) i) (commits m))) (refusal m []) good
+    unless (stopped (sendRows (m .studios) i (nth (m .sent) i) (nth (m .applied) i) (commits m))) (refusal m []) (step (done n) (withSent m i n) [])
 
 -- "Refresh (studio): .. applied rises by one. Returns it."
 unfoldable pub refresh : Machine → ℕ → Step
 refresh m i =
     let n = nth (m .applied) i + 1 in
-    let good = step (done n) (withApplied m i n) [] in
-    unless (stopped (refreshRows (m .studios) i (nth (m .sent) i) (nth (m .applied) i))) (refusal m []) good
+    unless (stopped (refreshRows (m .studios) i (nth (m .sent) i) (nth (m .applied) i))) (refusal m []) (step (done n) (withApplied m i n) [])
 
 -- "An answered read returns the state (applied) and found, and writes from output's start", from L(state); session s is left with number n
 unfoldable pub answerFrom : ℕ → ℕ → Request → Machine → ℕ → List ℕ → Step
@@ -117,8 +113,7 @@ unfoldable pub block : Machine → ℕ → Request → Step → List ℕ → Ste
 block m s q behind out =
     let x = sessionOf m s in
     let state = nth (m .applied) (x .studio) in
-    let now = answerFrom state (numberAfter (x .number) state) q m s out in
-    cond (leb (x .number) state) now behind
+    cond (leb (x .number) state) (answerFrom state (numberAfter (x .number) state) q m s out) behind
 
 -- ".. the request is stored and the answer is waits, with the session's number"
 unfoldable pub wait : Machine → ℕ → Request → List ℕ → Step
@@ -129,15 +124,13 @@ unfoldable pub read : Machine → ℕ → List ℕ → List ℕ → Step
 read m s request out =
     let x = sessionOf m s in
     let q = requestOf request in
-    let good = block m s q (wait m s q out) out in
-    unless (stopped (readRows s (x .studio) (x .waiting) request (length out))) (refusal m out) good
+    unless (stopped (readRows s (x .studio) (x .waiting) request (length out))) (refusal m out) (block m s q (wait m s q out) out)
 
 -- "Collect (session): the same test on the stored request; answered clears it"
 unfoldable pub collect : Machine → ℕ → List ℕ → Step
 collect m s out =
     let x = sessionOf m s in
-    let good = block m s (x .waiting) (wait m s (x .waiting) out) out in
-    unless (stopped (collectRows s (x .studio) (x .waiting) (length out))) (refusal m out) good
+    unless (stopped (collectRows s (x .studio) (x .waiting) (length out))) (refusal m out) (block m s (x .waiting) (wait m s (x .waiting) out) out)
 
 unfoldable pub call : Machine → Call.Call → Step
 call m (Call.commit s bytes) = commit m s bytes

@@ -18,7 +18,7 @@ use Rattle.carts.proofs.FieldLaws.{bytes, by-fields}
 use Rattle.carts.proofs.CellLaws.{length-cell, length-cells, cell-same, cell-other}
 use Rattle.replication.specs.Memory.{Memory, sessionAt, withSession, sequenceOf, withSequence, studioOf}
 use Rattle.replication.specs.Request.{nothing, numbersIn, requestOf, numbersForm, requestFields, requestForm}
-use Rattle.replication.specs.Layout.{waitingForm, sessionForm}
+use Rattle.replication.specs.Layout.{waitingForm, sessionForm, sessionFormOf}
 use Rattle.replication.specs.Calls.{committed}
 use Rattle.replication.specs.declared.control.Control.{Control}
 use Rattle.replication.proofs.DecideLaws.{KnownSession}
@@ -62,19 +62,19 @@ tests c x = leb (sequenceOf x) (c .commits) ∷ allZero (part x 4 12) ∷ waitin
 
 module _ (c : Control) (s : ℕ) (used : studioOf c s ≢ 0) (x : List ℕ) where
   session-bytes : length x ≡ 80 → sessionForm c s x ≡ true → SessionBytes x
-  unfolding sessionForm tests
+  unfolding sessionForm sessionFormOf tests
   session-bytes l f =
       let g : all (tests c x) ≡ true = rw (ne-eqb (studioOf c s) 0 used) at f in
       record { size = l; zero = all-at 1 (tests c x) g; form = all-at 2 (tests c x) g }
 
   sequence-known : sessionForm c s x ≡ true → sequenceOf x ≤ c .commits
-  unfolding sessionForm tests
+  unfolding sessionForm sessionFormOf tests
   sequence-known f =
       let g : all (tests c x) ≡ true = rw (ne-eqb (studioOf c s) 0 used) at f in
       leb-true _ _ (all-at 0 (tests c x) g)
 
   session-form : (n : ℕ) → n ≤ c .commits → SessionBytes x → sessionForm c s (withSequence n x) ≡ true
-  unfolding sessionForm
+  unfolding sessionForm sessionFormOf
   session-form n l b =
       let k = b .size in
       rw (ne-eqb (studioOf c s) 0 used, sequence-set n x (omega arith), zeros-kept n x (omega arith), waiting-kept n x (omega arith))
@@ -82,7 +82,7 @@ module _ (c : Control) (s : ℕ) (used : studioOf c s ≢ 0) (x : List ℕ) wher
 
 -- one commit more
 pub session-more : (c : Control) (k s : ℕ) (x : List ℕ) → sessionForm c s x ≡ true → sessionForm (committed c k) s x ≡ true
-unfolding sessionForm committed studioOf tests
+unfolding sessionForm sessionFormOf committed studioOf tests
 session-more c k s x f = go (eqb (studioOf c s) 0) refl
   where
     go : (b : Bool) → eqb (studioOf c s) 0 ≡ b → cond (eqb (studioOf c s) 0) (allZero x) (all (set (tests c x) 0 (leb (sequenceOf x) (c .commits + 1)))) ≡ true

@@ -15,7 +15,7 @@ use Rattle.replication.specs.Answer.{done}
 use Rattle.replication.specs.Memory.{Memory, lengthsForm, copyAt, sessionAt, sequenceOf, studioOf}
 use Rattle.replication.specs.Log.{transactionsFrom, logRecords, transactionsForm, firstRecord, upFrom, freshLog}
 use Rattle.replication.specs.Request.{nothing, requestOf}
-use Rattle.replication.specs.Layout.{replicaForm, sessionForm, countsForm}
+use Rattle.replication.specs.Layout.{replicaForm, sessionForm, sessionFormOf, countsForm}
 use Rattle.replication.specs.Rows.{stopped, lengthsRow, setupRows, setupStop}
 use Rattle.replication.specs.Calls as Bytes
 use Rattle.replication.specs.Calls.{After, controlOf, freshMemory}
@@ -60,7 +60,7 @@ zeros-counts studios bytes i =
     (both (leb i studios) _ _ (all-cons _ _ refl (all-cons _ _ refl (all-cons _ _ refl all-nil))) (all-cons _ _ refl (all-cons _ _ refl all-nil)))
 
 zeros-session : (c : Control) (s : ℕ) → sessionForm c s (zeros 80) ≡ true
-unfolding sessionForm
+unfolding sessionForm sessionFormOf
 zeros-session c s =
     both (eqb (studioOf c s) 0) _ _ (zero-zeros 80) (all-cons _ _ sequence (all-cons _ _ (empty-bytes .zero) (all-cons _ _ (empty-bytes .form) all-nil)))
   where

@@ -42,7 +42,7 @@ simulates c m M h x = by-machine c m (λ M. Simulates (Bytes.call c m x) (Plain.
 pub layout-after : (H : List Call) (r : After) → OfLayout (r .control) (r .memory) → OfLayout (Bytes.afterCalls r H .control) (Bytes.afterCalls r H .memory)
 unfolding run final
 layout-after [] r h = h
-layout-after (x ∷ H) r h = layout-after H (Bytes.callAfter r x) (keeps-layout (r .control) (r .memory) h x)
+layout-after (x ∷ H) r h = layout-after H _ (keeps-layout (r .control) (r .memory) h x)
 
 pub simulates-after : (H : List Call) (r : After) (p : Step) → Simulates r p → Simulates (Bytes.afterCalls r H) (Plain.afterCalls p H)
 unfolding run final
@@ -54,4 +54,4 @@ unfolding history plainHistory run
 same-history [] r p h = refl
 same-history (x ∷ H) r p h =
     let s = simulates (r .control) (r .memory) (p .next) (h .next) x in
-    cc (s .answer, s .output, same-history H (Bytes.callAfter r x) (Plain.call (p .next) x) s)
+    cc (s .answer, s .output, same-history H _ _ s)

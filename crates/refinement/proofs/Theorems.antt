@@ -113,18 +113,18 @@ module _ (before : Memory) (studios : ℕ) (bytes : List ℕ) where
 
       -- TITLES. After H from a fresh system a read or collect by title is answered with state k and found 1: in L(k) one cart alone has the title, and
       -- that cart is shown.
-      pub title-read : (x : Call) (k : ℕ) (title : List ℕ) → Bytes.callAfter left x .answer ≡ answered k 1 → asked (plain .next) x ≡ byTitle title
-          → ShowsTheOne title (L (plain .next .log) k) (Bytes.callAfter left x .output)
+      pub title-read : (x : Call) (k : ℕ) (title : List ℕ) → let shown = Bytes.call (left .control) (left .memory) x in
+          shown .answer ≡ answered k 1 → asked (plain .next) x ≡ byTitle title → ShowsTheOne title (L (plain .next .log) k) (shown .output)
       title-read = Titles.title-read _ _ simulates-after (after-sound H _ (setup-sound studios bytes plain-accepted))
 
       -- After H from a fresh system a commit with number n writes a title, the list goes on with `later`, and then a read or collect is answered at
       -- state k. Each place that asks for the cart shows that title, unless one of the transactions n + 1 to k has an operation on the cart.
       module _ (s : ℕ) (ops op : List ℕ) (n : ℕ) (writes : Writes ops op) (later : List Call) (x : Call) (k found : ℕ) (cs : List ℕ) (i : ℕ) where
         abbrev committed : After
-        committed = Bytes.callAfter left (Call.commit s ops)
+        committed = Bytes.call (left .control) (left .memory) (Call.commit s ops)
 
         abbrev shown : After
-        shown = Bytes.callAfter (afterCalls committed later) x
+        shown = let r = afterCalls committed later in Bytes.call (r .control) (r .memory) x
 
         -- the plain machine that answers
         abbrev machine : Machine

@@ -81,9 +81,10 @@ module _ (c : Control) (m : Memory) (s : ℕ) (bytes : List ℕ) where
 -- a title in the reads of a list of calls: from what stands for a sound machine, after an accepted commit, as long as no transaction has an operation on
 -- its cart
 pub title-shown : (r : After) (p : Step) → Simulates r p → Sound (p .next) → (s : ℕ) (bytes op : List ℕ) (n : ℕ) → Writes bytes op
-    → let t = Bytes.callAfter r (Call.commit s bytes) in t .answer ≡ done n
+    → let t = Bytes.call (r .control) (r .memory) (Call.commit s bytes) in t .answer ≡ done n
     → (H : List Call) (x : Call) (k found : ℕ) → let M = Plain.afterCalls (Plain.call (p .next) (Call.commit s bytes)) H .next in
-    let u = Bytes.callAfter (Bytes.afterCalls t H) x in
+    let v = Bytes.afterCalls t H in
+    let u = Bytes.call (v .control) (v .memory) x in
     u .answer ≡ answered k found → n ≤ k → ((j : ℕ) → n ≤ j → j < k → spares (u16 op 2) (getD (M .log) j []) ≡ true)
     → (cs : List ℕ) (i : ℕ) → asked M x ≡ byNumbers cs → i < length cs → getD cs i 0 ≡ u16 op 2
     → titleIn (part (u .output) (80 * i) 80) ≡ titleIn op
@@ -94,14 +95,15 @@ title-shown r p h f s bytes op n w accepted H x k found shown u v cs i q g e =
     let p2 : Step = Plain.call (p .next) x0 in
     let more = simulates-after H _ p2 one in
     let M = Plain.afterCalls p2 H .next in
-    let last = simulates (Bytes.afterCalls (Bytes.callAfter r x0) H .control) (Bytes.afterCalls (Bytes.callAfter r x0) H .memory) M (more .next) x in
+    let last = simulates _ _ M (more .next) x in
     let written = commit-writes (p .next) f s bytes op n w (sym (one .answer) ∙ accepted) in
     rw (last .output)
     (Machine.title-shown op n k M (p2 .next .log) (after-sound H p2 (keeps (p .next) f x0)) written (after-grows H p2) u v x found (sym (last .answer) ∙ shown) cs i q g e)
 
 -- a read or collect by title that found 1
 pub title-read : (r : After) (p : Step) → Simulates r p → Sound (p .next) → (x : Call) (k : ℕ) (title : List ℕ)
-    → Bytes.callAfter r x .answer ≡ answered k 1 → asked (p .next) x ≡ byTitle title → ShowsTheOne title (L (p .next .log) k) (Bytes.callAfter r x .output)
+    → let u = Bytes.call (r .control) (r .memory) x in
+    u .answer ≡ answered k 1 → asked (p .next) x ≡ byTitle title → ShowsTheOne title (L (p .next .log) k) (u .output)
 title-read r p h f x k title answer q =
     let last = simulates (r .control) (r .memory) (p .next) (h .next) x in
     rw (last .output) (Reads.title-read (p .next) f x k title (sym (last .answer) ∙ answer) q)

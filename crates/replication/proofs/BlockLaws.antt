@@ -15,7 +15,7 @@ use Rattle.replication.proofs.answer.ReadAnswer.{the-type}
 use Rattle.replication.specs.Answer.{Answer, readAnswer, refused, done, waits, answered}
 use Rattle.replication.specs.Memory.{Memory, copyAt, sessionAt, withSession, sequenceOf, withSequence, nth, studioOf}
 use Rattle.replication.specs.Request.{Request}
-use Rattle.replication.specs.Calls.{After, after, withSessions, numberAfter, answerFrom, waitsIn, block}
+use Rattle.replication.specs.Calls.{After, after, withSessions, numberAfter, answerFrom, block}
 use Rattle.replication.specs.Values.{dueOf}
 use Rattle.replication.specs.declared.control.Control.{Control}
 use Rattle.replication.specs.declared.block.Due.{Due}
@@ -50,6 +50,10 @@ unfolding waitNumber
 not-waits (Answered state found) k n e = answered-waits state found n e
 not-waits (Waits j) k n e = ⊎-elim (λ q. omega arith) (λ q. omega arith) k
 not-waits (Refused j) k n e = let z : 0 ≡ n + 1 = ap waitNumber e in absurd (omega arith)
+
+-- a wait that changes nothing
+abbrev pub waitsIn : Control → Memory → ℕ → List ℕ → After
+waitsIn c m s out = after (waits (sequenceOf (sessionAt (m .sessions) s))) c m out
 
 -- the test of an accepted call: the session's number, and what its studio has applied
 module _ (c : Control) (m : Memory) (s : ℕ) (due : Due) (d : due ≡ dueOf c (m .sessions) s) (q : Request) (x out : List ℕ) where

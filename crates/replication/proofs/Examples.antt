@@ -11,7 +11,7 @@ use Rattle.carts.proofs.Samples.{u32Bytes, operation, newCart, withdrawCart, to
 use Rattle.replication.specs.Memory.{recordAt, withRecord, sequenceOf, studioOf}
 use Rattle.replication.specs.Log.{nextOperation, nextTransaction, chain, recordsOf, walk, logRecords, ownForm, transactionsForm, firstRecord, upFrom, filledUpward, freeRecords, noRoom, front, writeAll, linked, appended}
 use Rattle.replication.specs.Request.{nothing, byNumbers, byTitle, numbersIn, requestOf, numbersForm, requestFields, requestForm, isWaiting, needed}
-use Rattle.replication.specs.Layout.{waitingForm, sessionForm, countsForm}
+use Rattle.replication.specs.Layout.{waitingForm, sessionForm, sessionFormOf, countsForm}
 use Rattle.replication.specs.Rows.{stopped, setupRows, sessionRow, studioRow, sizeForm, commitRows, sendRows, refreshRows, readRows, collectRows}
 use Rattle.replication.specs.Calls.{controlOf, committed, withSent, withApplied}
 use Rattle.replication.specs.declared.control.Control.{Control}
@@ -139,7 +139,7 @@ pub record Requests : Type 0 where
   window-33 : countsForm (counted 33 0) 1 ≡ false
 
 pub requests : Requests
-unfolding three counted zeros u16 u16s within all every allZero printable titleForm sequenceOf studioOf numbersIn requestOf numbersForm requestFields requestForm waitingForm sessionForm countsForm controlOf committed withSent withApplied topHourA longTitle filled pairs askNumbers askTitle
+unfolding three counted zeros u16 u16s within all every allZero printable titleForm sequenceOf studioOf numbersIn requestOf numbersForm requestFields requestForm waitingForm sessionForm sessionFormOf countsForm controlOf committed withSent withApplied topHourA longTitle filled pairs askNumbers askTitle
 requests = record {
   numbers = refl;
   title = refl;

@@ -12,7 +12,7 @@ use Rattle.carts.specs.Cart.{copyForm}
 use Rattle.carts.specs.Operation.{operationFields}
 use Rattle.replication.specs.Memory.{Memory, lengthsForm, copyAt, recordAt, sessionAt, nth, studioOf}
 use Rattle.replication.specs.Log.{logRecords, transactionsForm, firstRecord, upFrom, filledUpward}
-use Rattle.replication.specs.Layout.{replicaForm, recordForm, sessionForm, countsForm, layoutTests, ofLayout}
+use Rattle.replication.specs.Layout.{replicaForm, sessionForm, countsForm, layoutTests, ofLayout}
 use Rattle.replication.specs.Calls.{committed}
 use Rattle.replication.specs.declared.control.Control.{Control}
 use Rattle.carts.proofs.TestLaws.{all-at, all-set, all-cons, all-nil, every-at, within-high, pairwise-eq, pairwise-refl}
@@ -74,7 +74,7 @@ unfolding every
 four-studios p f = rw (f 1 (omega arith) (omega arith), f 2 (omega arith) (omega arith), f 3 (omega arith) (omega arith), f 4 (omega arith) (omega arith))
 
 pub formed : (c : Control) (m : Memory) → lengthsForm m ≡ true → ofLayout c m ≡ true → Formed c m
-unfolding lengthsForm ofLayout layoutTests recordForm filledUpward copyAt recordAt sessionAt
+unfolding lengthsForm ofLayout layoutTests filledUpward copyAt recordAt sessionAt
 formed c m lengths layout = record {
   control = record { studios = test 0; places = test 1 };
   library = record {
@@ -84,7 +84,7 @@ formed c m lengths layout = record {
   log = record {
     size = eqb-true _ _ (all-at 1 sizes lengths);
     used = leb-true _ _ (test 3);
-    records = from-one recordForm 80 (c .used) (m .log) (test 4);
+    records = from-one (λ r. operationFields) 80 (c .used) (m .log) (test 4);
     free = test 5;
     form = test 6;
     upward = pairwise-eq _ _ (test 7);
@@ -100,14 +100,14 @@ formed c m lengths layout = record {
     sizes = eqb (length (m .library)) 51200 ∷ eqb (length (m .log)) 40960 ∷ eqb (length (m .sessions)) 1280 ∷ []
 
 pub of-layout : (c : Control) (m : Memory) → Formed c m → (lengthsForm m ≡ true) × (ofLayout c m ≡ true)
-unfolding lengthsForm ofLayout layoutTests recordForm filledUpward copyAt recordAt sessionAt
+unfolding lengthsForm ofLayout layoutTests filledUpward copyAt recordAt sessionAt
 of-layout c m f = (
   all-cons _ _ (eq-eqb _ _ (f .library .size)) (all-cons _ _ (eq-eqb _ _ (f .log .size)) (all-cons _ _ (eq-eqb _ _ (f .sessions .size)) all-nil)),
   all-cons _ _ (f .control .studios)
       (all-cons _ _ (f .control .places)
       (all-cons _ _ (at-each (replicaForm (c .studios)) 10240 5 0 (m .library) (λ i l. let e : 0 + i ≡ i = omega arith in rw e (f .library .copies i (omega arith))))
       (all-cons _ _ (le-leb _ _ (f .log .used))
-      (all-cons _ _ (to-one recordForm 80 (c .used) (m .log) (f .log .records))
+      (all-cons _ _ (to-one (λ r. operationFields) 80 (c .used) (m .log) (f .log .records))
       (all-cons _ _ (f .log .free)
       (all-cons _ _ (f .log .form)
       (all-cons _ _ (rw (f .log .upward) (pairwise-refl (upFrom 1 (c .used))))

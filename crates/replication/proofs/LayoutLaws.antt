@@ -9,11 +9,11 @@ use lib.ListN.{length, take, drop, getD, length-drop}
 use lib.Seq.{take-all}
 use lib.Dec.{leb}
 use Rattle.carts.specs.Bytes.{part, within, all, every, allZero, eachPart}
+use Rattle.carts.specs.Operation.{operationFields}
 use Rattle.carts.proofs.PartLaws.{length-part}
-use Rattle.replication.specs.Memory.{Memory, recordAt, studioOf}
+use Rattle.replication.specs.Memory.{Memory, recordAt}
 use Rattle.replication.specs.Log.{logRecords, transactionsForm, firstRecord, filledUpward}
-use Rattle.replication.specs.Layout.{replicaForm, recordForm, sessionForm, countsForm, layoutTests, ofLayout}
-use Rattle.replication.specs.Values.{sessionFormOf}
+use Rattle.replication.specs.Layout.{replicaForm, sessionForm, countsForm, layoutTests, ofLayout}
 use Rattle.carts.proofs.TestLaws.{and-left, and-right, all-fails}
 use Rattle.replication.specs.declared.control.Control.{Control}
 
@@ -28,11 +28,6 @@ length-lent size i s h = ap length (lent size i s) ∙ length-part s (size * i) 
 pub record-next : (log : List ℕ) (r : ℕ) → recordAt log (r + 1) ≡ part log (80 * r) 80
 unfolding recordAt
 record-next log r = let e : r + 1 - 1 ≡ r = omega arith in rw e
-
--- a session's form, by what the code reads of control
-pub session-is : (c : Control) (s studio : ℕ) (x : List ℕ) → studio ≡ studioOf c s → sessionFormOf studio (c .commits) x ≡ sessionForm c s x
-unfolding sessionFormOf sessionForm
-session-is c s studio x e = rw e
 
 -- one test fails, counted from 0
 pub layout-fails : (c : Control) (m : Memory) (n : ℕ) → getD (layoutTests c m) n true ≡ false → false ≡ ofLayout c m
@@ -60,7 +55,7 @@ chain-fails c m e = go (FormTest c (m .log)) refl
 -- the last test decides where the others hold
 pub layout-last : (c : Control) (m : Memory) (b : Bool) → b ≡ every (countsForm c) (1 ∷ 2 ∷ 3 ∷ 4 ∷ []) → within 1 4 (c .studios) ≡ true
     → every (λ i. leb i (c .studios)) (c .«session_studios») ≡ true → eachPart (replicaForm (c .studios)) 10240 5 0 (m .library) ≡ true → leb (c .used) 512 ≡ true
-    → eachPart recordForm 80 (c .used) 1 (m .log) ≡ true → allZero (drop (80 * c .used) (m .log)) ≡ true → ChainTest c (m .log) ≡ true
+    → eachPart (λ r. operationFields) 80 (c .used) 1 (m .log) ≡ true → allZero (drop (80 * c .used) (m .log)) ≡ true → ChainTest c (m .log) ≡ true
     → eachPart (sessionForm c) 80 16 1 (m .sessions) ≡ true → b ≡ ofLayout c m
 unfolding ofLayout layoutTests all
 layout-last c m b e t0 t1 t2 t3 t4 t5 t6 t7 = e ∙ rw (t0, t1, t2, t3, t4, t5, and-left (FormTest c (m .log)) _ t6, and-right (FormTest c (m .log)) (UpwardTest c (m .log)) t6, t7, and-true)

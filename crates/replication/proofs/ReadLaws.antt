@@ -12,13 +12,13 @@ use Rattle.replication.specs.Answer.{Answer, refused, waits}
 use Rattle.replication.specs.Memory.{Memory, sessionAt, withSession, withSequence, sequenceOf, studioOf}
 use Rattle.replication.specs.Request.{Request, requestOf, requestForm, isWaiting, needed}
 use Rattle.replication.specs.Rows.{stopped, requestRows, waitingRows, readStop, collectStop}
-use Rattle.replication.specs.Calls.{After, after, withSessions, waitsIn, block, read, collect}
+use Rattle.replication.specs.Calls.{After, after, withSessions, block, read, collect}
 use Rattle.replication.specs.declared.control.Control.{Control}
 use Rattle.replication.proofs.RowLaws.{unless-stopped, unless-accepted}
 use Rattle.replication.proofs.DecideLaws.{accepted}
 use Rattle.replication.proofs.Accepted.{read-passed, collect-passed}
 use Rattle.replication.proofs.SessionLaws.{Caller, caller, Asked, request-parts, waiting-fields, session-fields}
-use Rattle.replication.proofs.BlockLaws.{step-answered, step-waits}
+use Rattle.replication.proofs.BlockLaws.{waitsIn, step-answered, step-waits}
 
 -- the rows of a read after row 3
 module _ (waiting : Request) (request : List ℕ) (room : ℕ) where

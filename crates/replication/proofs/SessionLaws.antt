@@ -11,7 +11,7 @@ use Rattle.carts.specs.Bytes.{part, byte, all, every, allZero}
 use Rattle.carts.proofs.TestLaws.{and-left, and-right, all-at}
 use Rattle.replication.specs.Memory.{Memory, nth, sequenceOf, studioOf}
 use Rattle.replication.specs.Request.{requestOf, requestFields, requestForm, isWaiting, needed}
-use Rattle.replication.specs.Layout.{waitingForm, sessionForm}
+use Rattle.replication.specs.Layout.{waitingForm, sessionForm, sessionFormOf}
 use Rattle.replication.specs.Values.{sessionValue, waitsBy, neededBy}
 use Rattle.replication.specs.declared.control.Control.{Control}
 use Rattle.replication.specs.declared.session.Session.{Session}
@@ -88,7 +88,7 @@ waiting-fields x w f = go (eqb (byte x 0) 0) refl
     go false e = rw e at f
 
 pub session-fields : (c : Control) (s : ℕ) (x : List ℕ) → (studioOf c s ≡ 0 → ⊥) → sessionForm c s x ≡ true → waitingForm x ≡ true
-unfolding sessionForm
+unfolding sessionForm sessionFormOf
 session-fields c s x used f =
     let tests : List Bool = leb (sequenceOf x) (c .commits) ∷ allZero (part x 4 12) ∷ waitingForm x ∷ [] in
     let g : all tests ≡ true = rw (ne-eqb (studioOf c s) 0 used) at f in

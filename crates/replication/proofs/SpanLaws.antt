@@ -11,18 +11,25 @@ use lib.Dec.{leb, eqb, leb·suc-suc}
 use borrow.Author.Tests.{eq-eqb, ne-eqb, le-leb, lt-leb, eqb-true, leb-true}
 use Rattle.carts.specs.Bytes.{within, all, every, pairwise}
 use Rattle.replication.specs.Log.{nextOperation, nextTransaction, chain, recordsOf, logRecords, ownForm, transactionsForm, upFrom, filledUpward}
-use Rattle.replication.specs.Values.{consecutiveForm, spanOf}
+use Rattle.replication.specs.Values.{spanOf}
 use Rattle.carts.proofs.TestLaws.{and-left, and-right, all-at}
 use Rattle.carts.proofs.ScanLaws.{test-more}
 use Rattle.replication.proofs.Chains.{chain-cons, chain-zero}
 
-regroup : (w x p z e l : Bool) → (w && ((x && p) && ((z && e) && l))) ≡ (x && (z && (w && ((x && p) && (e && l)))))
-regroup true true p true e l = refl
-regroup true true p false e l = and-false p
-regroup true false p z e l = refl
-regroup false true p true e l = refl
+-- the records `own` of a transaction of at most `most` operations are r, r + 1, .., before record `end`
+pub consecutiveForm : ℕ → List ℕ → List ℕ → ℕ → ℕ → Bool
+consecutiveForm most log own r end =
+    all (all (within 1 most (length own) ∷ every (λ q. eqb (nextTransaction log q) 0) (drop 1 own) ∷ []) ∷ pairwise eqb own (upFrom r (length own)) ∷ leb (r + length own) end ∷ [])
+
+span-is : (log : List ℕ) (r end : ℕ) → spanOf log r end ≡ cond (consecutiveForm 8 log (recordsOf log r) r end) (length (recordsOf log r)) 0
+unfolding spanOf ownForm consecutiveForm
+span-is log r end = refl
+
+regroup : (w x p z e l : Bool) → ((w && ((z && e) && true)) && ((x && p) && l)) ≡ (x && (z && ((w && (e && true)) && ((x && p) && l))))
+regroup w false p z e l = and-false (w && ((z && e) && true))
+regroup w true p true e l = refl
+regroup true true p false e l = refl
 regroup false true p false e l = refl
-regroup false false p z e l = refl
 
 -- a record before the others
 own-cons : (most : ℕ) (log : List ℕ) (r x end : ℕ) (xs : List ℕ) → consecutiveForm (suc most) log (r ∷ x ∷ xs) r end
@@ -63,12 +70,10 @@ span-starts log first end = record { form = refl; many = λ _. omega arith }
 
 module _ (log : List ℕ) (first end : ℕ) (ok : Bool) (r left : ℕ) (c : Counted log first end ok r left) where
   pub span-not : ok ≡ false → 0 ≡ spanOf log first end
-  unfolding spanOf
-  span-not e = rw (c .form, e)
+  span-not e = rw (span-is, c .form, e)
 
   span-fails : Rest left log r end ≡ false → 0 ≡ spanOf log first end
-  unfolding spanOf
-  span-fails e = rw (c .form, e, and-false ok)
+  span-fails e = rw (span-is, c .form, e, and-false ok)
 
   module _ (low : 1 ≤ r) where
     pub span-out : left ≤ 0 → 0 ≡ spanOf log first end
@@ -80,14 +85,13 @@ module _ (log : List ℕ) (first end : ℕ) (ok : Bool) (r left : ℕ) (c : Coun
       own = chain-cons left log r low ∙ ap (λ (z : ℕ). r ∷ chain left log z) (sym e)
 
       pub span-here : r < end → v ≡ 0 → ok ≡ true → r - first + 1 ≡ spanOf log first end
-      unfolding spanOf
       span-here l z t =
           let one : chain (suc left) log r ≡ r ∷ [] = own ∙ ap (λ (k : ℕ). r ∷ chain left log k) z ∙ ap (λ (z : List ℕ). r ∷ z) (chain-zero left log) in
           let q : left ≡ suc (left - 1) = omega arith in
           let good : Rest left log r end ≡ true = ap (λ (z : List ℕ). consecutiveForm left log z r end) one ∙ ap (λ (n : ℕ). consecutiveForm n log (r ∷ []) r end) q ∙ own-last (left - 1) log r end l in
           let n : length (chain (suc left) log r) ≡ 1 = ap length one in
           let m = c .many t in
-          rw (c .form, t, good) (omega arith)
+          rw (span-is, c .form, t, good) (omega arith)
 
       module _ (nz : v ≡ 0 → ⊥) where
         two : chain (suc left) log r ≡ r ∷ v ∷ chain (left - 1) log (nextOperation log v)
@@ -124,7 +128,7 @@ module _ (log : List ℕ) (first end : ℕ) (ok : Bool) (r left : ℕ) (c : Coun
 own-ends : (most : ℕ) (log own : List ℕ) (r end : ℕ) → consecutiveForm most log own r end ≡ true → leb (r + length own) end ≡ true
 unfolding consecutiveForm
 own-ends most log own r end e =
-    all-at 3 (within 1 most (length own) ∷ pairwise eqb own (upFrom r (length own)) ∷ every (λ q. eqb (nextTransaction log q) 0) (drop 1 own) ∷ leb (r + length own) end ∷ []) e
+    all-at 2 (all (within 1 most (length own) ∷ every (λ q. eqb (nextTransaction log q) 0) (drop 1 own) ∷ []) ∷ pairwise eqb own (upFrom r (length own)) ∷ leb (r + length own) end ∷ []) e
 
 -- records that do not begin with r are not those of a transaction at r
 own-gap : (log : List ℕ) (x r end : ℕ) → (x ≡ r → ⊥) → consecutiveForm 8 log (recordsOf log x) r end ≡ false
@@ -152,13 +156,11 @@ upward-append (x ∷ own) rest r (suc n) =
 abbrev pub Upward : ℕ → List ℕ → ℕ → ℕ → ℕ → Bool
 Upward n log first r end = transactionsForm n log first && pairwise eqb (logRecords n log first) (upFrom r (end - r))
 
-apart-join : (w p z l t q : Bool) → (((w && (z && true)) && t) && (p && (l && q))) ≡ ((w && (p && (z && (l && true)))) && (t && q))
-apart-join false p z l t q = refl
-apart-join true false true l t q = and-false t
-apart-join true false false l t q = refl
-apart-join true true false l t q = refl
-apart-join true true true false t q = and-false t
-apart-join true true true true t q = refl
+apart-join : (o p l t q : Bool) → ((o && t) && (p && (l && q))) ≡ ((o && (p && (l && true))) && (t && q))
+apart-join false p l t q = refl
+apart-join true false l t q = and-false t
+apart-join true true false t q = and-false t
+apart-join true true true t q = refl
 
 -- the layout's test and its placement, transaction by transaction
 chain-suc : (n : ℕ) (log : List ℕ) (first r end : ℕ) → r ≤ end → Upward (suc n) log first r end
@@ -168,7 +170,7 @@ chain-suc n log first r end h =
     let own = recordsOf log first in
     let e : end - r - length own ≡ end - (r + length own) = omega arith in
     rw (upward-append own (logRecords n log (nextTransaction log first)) r (end - r), e, fits (length own))
-    (apart-join (within 1 8 (length own)) (pairwise eqb own (upFrom r (length own))) (every (λ q. eqb (nextTransaction log q) 0) (drop 1 own)) (leb (r + length own) end) _ _)
+    (apart-join (ownForm log own) (pairwise eqb own (upFrom r (length own))) (leb (r + length own) end) _ _)
   where
     fits : (k : ℕ) → leb k (end - r) ≡ leb (r + k) end
     fits k = go (decLe (r + k) end)
@@ -179,16 +181,14 @@ chain-suc n log first r end h =
 
 module _ (log : List ℕ) (r end v : ℕ) (k : 1 ≤ r) (s : v ≡ spanOf log r end) where
   span-zero : v ≡ 0 → consecutiveForm 8 log (recordsOf log r) r end ≡ false
-  unfolding spanOf
-  span-zero z = go (consecutiveForm 8 log (recordsOf log r) r end) (sym s ∙ z)
+  span-zero z = go (consecutiveForm 8 log (recordsOf log r) r end) (sym (span-is log r end) ∙ sym s ∙ z)
     where
       go : (b : Bool) → cond b (length (recordsOf log r)) 0 ≡ 0 → b ≡ false
       go true e = let some : 1 ≤ length (recordsOf log r) = records-some log r k in absurd (omega arith)
       go false e = refl
 
   span-some : (v ≡ 0 → ⊥) → (consecutiveForm 8 log (recordsOf log r) r end ≡ true) × (length (recordsOf log r) ≡ v)
-  unfolding spanOf
-  span-some z = go (consecutiveForm 8 log (recordsOf log r) r end) s
+  span-some z = go (consecutiveForm 8 log (recordsOf log r) r end) (s ∙ span-is log r end)
     where
       go : (b : Bool) → v ≡ cond b (length (recordsOf log r)) 0 → (b ≡ true) × (length (recordsOf log r) ≡ v)
       go true e = (refl, sym e)

@@ -51,8 +51,7 @@ freshMemory = memory (zeros librarySize) freshLog (zeros sessionsSize)
 -- "Setup (S and 16 studio bytes): all memory zero, counts zero. When refused it hands back an all-zero control."
 unfoldable pub setup : Memory → ℕ → List ℕ → After
 setup m studios bytes =
-    let good = after (done 0) (controlOf studios bytes) freshMemory [] in
-    unless (setupStop m studios bytes) (refusal (controlOf 0 (zeros sessionCount)) m []) good
+    unless (setupStop m studios bytes) (refusal (controlOf 0 (zeros sessionCount)) m []) (after (done 0) (controlOf studios bytes) freshMemory [])
 
 -- control after a commit of n operations
 unfoldable pub committed : Control → ℕ → Control
@@ -66,13 +65,11 @@ refusedCommit c m s n = refusal c m [] n
 -- number becomes it. Returns it."
 unfoldable pub commit : Control → Memory → ℕ → List ℕ → After
 commit c m s bytes =
-    let primary = copyAt (m .library) 0 in
-    let x = sessionAt (m .sessions) s in
     let ops = operationsOf bytes in
     let n = c .commits + 1 in
-    let left = memory (withCopy (m .library) 0 (actAll primary ops)) (appended c (m .log) ops) (withSession (m .sessions) s (withSequence n x)) in
-    let good = after (done n) (committed c (length ops)) left [] in
-    unless (commitStop c m s bytes) (refusedCommit c m s) good
+    let library = withCopy (m .library) 0 (actAll (copyAt (m .library) 0) ops) in
+    let sessions = withSession (m .sessions) s (withSequence n (sessionAt (m .sessions) s)) in
+    unless (commitStop c m s bytes) (refusedCommit c m s) (after (done n) (committed c (length ops)) (memory library (appended c (m .log) ops) sessions) [])
 
 -- "Send (studio): sent rises by one. Returns it."
 unfoldable pub withSent : Control → ℕ → ℕ → Control
@@ -81,8 +78,7 @@ withSent c i n = control (c .studios) (c .«session_studios») (c .used) (c .com
 unfoldable pub send : Control → Memory → ℕ → After
 send c m i =
     let n = nth (c .sent) i + 1 in
-    let good = after (done n) (withSent c i n) m [] in
-    unless (sendStop c m i) (refusal c m []) good
+    unless (sendStop c m i) (refusal c m []) (after (done n) (withSent c i n) m [])
 
 -- "Refresh (studio): transaction applied + 1 acts on that studio's copy; applied rises by one. Returns it."
 unfoldable pub withApplied : Control → ℕ → ℕ → Control
@@ -96,8 +92,7 @@ unfoldable pub refresh : Control → Memory → ℕ → After
 refresh c m i =
     let k = nth (c .applied) i in
     let copy = actAll (copyAt (m .library) i) (transactionAfter c (m .log) k) in
-    let good = after (done (k + 1)) (withApplied c i (k + 1)) (withLibrary m (withCopy (m .library) i copy)) [] in
-    unless (refreshStop c m i) (refusal c m []) good
+    unless (refreshStop c m i) (refusal c m []) (after (done (k + 1)) (withApplied c i (k + 1)) (withLibrary m (withCopy (m .library) i copy)) [])
 
 -- "A read does not change the session's number": what it is after an answer that showed a state
 unfoldable pub numberAfter : ℕ → ℕ → ℕ
@@ -111,18 +106,13 @@ answerFrom state copy q c m s n x out =
     (withSessions m (withSession (m .sessions) s (withSequence n x)))
     (over out 0 (needed q) (shownFrom copy q))
 
--- "waits, with the session's number"
-abbrev pub waitsIn : Control → Memory → ℕ → List ℕ → After
-waitsIn c m s out = after (waits (sequenceOf (sessionAt (m .sessions) s))) c m out
-
 -- "if applied of the session's studio is at least the session's number, answered; else ..": `behind`
 unfoldable pub block : Control → Memory → ℕ → Request → List ℕ → After → List ℕ → After
 block c m s q x behind out =
     let i = studioOf c s in
     let state = nth (c .applied) i in
     let n = sequenceOf (sessionAt (m .sessions) s) in
-    let now = answerFrom state (copyAt (m .library) i) q c m s (numberAfter n state) x out in
-    cond (leb n state) now behind
+    cond (leb n state) (answerFrom state (copyAt (m .library) i) q c m s (numberAfter n state) x out) behind
 
 -- "Read (session, request): .. else the request is stored and the answer is waits, with the session's number"
 unfoldable pub read : Control → Memory → ℕ → List ℕ → List ℕ → After
@@ -130,15 +120,14 @@ read c m s request out =
     let x = sessionAt (m .sessions) s in
     let n = sequenceOf x in
     let behind = after (waits n) c (withSessions m (withSession (m .sessions) s (withSequence n request))) out in
-    let good = block c m s (requestOf request) x behind out in
-    unless (readStop c m s request (length out)) (refusal c m out) good
+    unless (readStop c m s request (length out)) (refusal c m out) (block c m s (requestOf request) x behind out)
 
--- "Collect (session): the same test on the stored request; answered clears it and keeps bytes 2–3."
+-- "Collect (session): the same test on the stored request; answered clears it and keeps bytes 2–3", else "waits, with the session's number"
 unfoldable pub collect : Control → Memory → ℕ → List ℕ → After
 collect c m s out =
     let x = sessionAt (m .sessions) s in
-    let good = block c m s (requestOf x) (zeros sessionSize) (waitsIn c m s out) out in
-    unless (collectStop c m s (length out)) (refusal c m out) good
+    let behind = after (waits (sequenceOf x)) c m out in
+    unless (collectStop c m s (length out)) (refusal c m out) (block c m s (requestOf x) (zeros sessionSize) behind out)
 
 unfoldable pub call : Control → Memory → Call.Call → After
 call c m (Call.commit s bytes) = commit c m s bytes
@@ -147,13 +136,9 @@ call c m (Call.refresh i) = refresh c m i
 call c m (Call.read s request out) = read c m s request out
 call c m (Call.collect s out) = collect c m s out
 
--- a call, given what the call before it left and handed back
-abbrev pub callAfter : After → Call.Call → After
-callAfter r x = call (r .control) (r .memory) x
-
--- a list of calls, and what it leaves
+-- a list of calls, each given what the call before it left and handed back, and what the list leaves
 abbrev pub run : After → List Call.Call → List (Call.Turn After)
-run r H = Call.run callAfter r H
+run r H = Call.run (λ p x. call (p .control) (p .memory) x) r H
 
 abbrev pub afterCalls : After → List Call.Call → After
 afterCalls r H = Call.final r (run r H)

@@ -16,19 +16,18 @@ use Rattle.replication.specs.declared.control.Control.{Control}
 unfoldable pub replicaForm : ℕ → ℕ → List ℕ → Bool
 replicaForm studios i copy = cond (leb i studios) (copyForm copy) (allZero copy)
 
--- "A record is an operation" with links in bytes 12–15
-unfoldable pub recordForm : ℕ → List ℕ → Bool
-recordForm r x = operationFields x
-
 -- "With byte 0 zero, byte 1 and bytes 16–79 are zero", else a read
 unfoldable pub waitingForm : List ℕ → Bool
 waitingForm s = cond (eqb (byte s 0) 0) (all (eqb (byte s 1) 0 ∷ allZero (part s titleAt titleSize) ∷ [])) (requestFields s)
 
 -- "An unused session is all zero"; "each session number ≤ commits"; "Bytes 4–15 zero"
+unfoldable pub sessionFormOf : ℕ → ℕ → List ℕ → Bool
+sessionFormOf studio commits x =
+    cond (eqb studio 0) (allZero x)
+    (all (leb (sequenceOf x) commits ∷ allZero (part x (numberAt + 2) (titleAt - numberAt - 2)) ∷ waitingForm x ∷ []))
+
 unfoldable pub sessionForm : Control → ℕ → List ℕ → Bool
-sessionForm c s x =
-    cond (eqb (studioOf c s) 0) (allZero x)
-    (all (leb (sequenceOf x) (c .commits) ∷ allZero (part x (numberAt + 2) (titleAt - numberAt - 2)) ∷ waitingForm x ∷ []))
+sessionForm c s x = sessionFormOf (studioOf c s) (c .commits) x
 
 -- "applied ≤ sent ≤ commits and sent − applied ≤ 32 for each studio; studios above S have both at 0"
 unfoldable pub countsForm : Control → ℕ → Bool
@@ -39,14 +38,15 @@ countsForm c i =
     (all (leb applied sent ∷ leb sent (c .commits) ∷ leb (sent - applied) window ∷ []))
     (all (eqb sent 0 ∷ eqb applied 0 ∷ []))
 
--- "every field above is within its rule; the log's chain has exactly commits transactions of 1 to 8 operations and used records"
+-- "every field above is within its rule; the log's chain has exactly commits transactions of 1 to 8 operations and used records";
+-- "A record is an operation" with links in bytes 12–15
 unfoldable pub layoutTests : Control → Memory → List Bool
 layoutTests c m =
     within 1 studioCount (c .studios)
     ∷ every (λ i. leb i (c .studios)) (c .«session_studios»)
     ∷ eachPart (replicaForm (c .studios)) copySize copyCount 0 (m .library)
     ∷ leb (c .used) recordCount
-    ∷ eachPart recordForm recordSize (c .used) 1 (m .log)
+    ∷ eachPart (λ r. operationFields) recordSize (c .used) 1 (m .log)
     ∷ allZero (drop (recordSize * c .used) (m .log))
     ∷ transactionsForm (c .commits) (m .log) (firstRecord c)
     ∷ filledUpward (c .used) (logRecords (c .commits) (m .log) (firstRecord c))

@@ -55,19 +55,14 @@ studioRow studios i = row 3 (not (within 1 studios i))
 unfoldable pub sizeForm : List ℕ → Bool
 sizeForm bytes = all (within cartSize (cartSize * mostOperations) (length bytes) ∷ eqb (length bytes % cartSize) 0 ∷ [])
 
--- rows 5 to 7: `used` records; the operations' bytes
-abbrev pub formRows : ℕ → List ℕ → List Row
-formRows used bytes =
+-- rows 5 to 8: `used` records; the head end's copy; the operations' bytes. 8 is "commit: carts": "an operation meets its cart in the wrong
+-- state"
+abbrev pub operationRows : ℕ → List ℕ → List ℕ → List Row
+operationRows used primary bytes =
     row 5 (not (sizeForm bytes))
     ∷ row 6 (not (every operationForm (operationsOf bytes)))
-    ∷ row 7 (noRoom used (length (operationsOf bytes))) ∷ []
-
--- "commit: carts": "an operation meets its cart in the wrong state"
-abbrev pub cartsRow : List ℕ → List ℕ → Row
-cartsRow primary bytes = row 8 (not (meetsAll primary (operationsOf bytes)))
-
-abbrev pub operationRows : ℕ → List ℕ → List ℕ → List Row
-operationRows used primary bytes = formRows used bytes ++ (cartsRow primary bytes ∷ [])
+    ∷ row 7 (noRoom used (length (operationsOf bytes)))
+    ∷ row 8 (not (meetsAll primary (operationsOf bytes))) ∷ []
 
 -- session s of that studio and waiting read; the head end's copy
 unfoldable pub commitRows : ℕ → ℕ → Request → ℕ → List ℕ → List ℕ → List Row
@@ -81,11 +76,8 @@ unfoldable pub sendRows : ℕ → ℕ → ℕ → ℕ → ℕ → List Row
 sendRows studios i sent applied commits = studioRow studios i ∷ windowRows sent applied commits
 
 -- "refresh": 11
-abbrev pub unappliedRows : ℕ → ℕ → List Row
-unappliedRows sent applied = row 11 (eqb sent applied) ∷ []
-
 unfoldable pub refreshRows : ℕ → ℕ → ℕ → ℕ → List Row
-refreshRows studios i sent applied = studioRow studios i ∷ unappliedRows sent applied
+refreshRows studios i sent applied = studioRow studios i ∷ row 11 (eqb sent applied) ∷ []
 
 -- "read": 4, 12 and 13; the request's bytes; output's length
 abbrev pub requestRows : Request → List ℕ → ℕ → List Row

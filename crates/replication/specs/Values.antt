@@ -1,14 +1,13 @@
 -- What the code's parts give, by the definitions: a session's value; a record's links; one transaction of the chain.
 use mathlib.Core.Bool.{Bool, true, false, cond, _&&_}
 use mathlib.Core.List.{List, [], _∷_}
-use Prim.Native.Nat.{ℕ, zero, suc, _+_, _*_, _-_}
-use lib.ListN.{length, drop}
+use Prim.Native.Nat.{ℕ, zero, suc, _+_, _*_}
+use lib.ListN.{length}
 use lib.Dec.{leb, eqb}
-use Rattle.carts.specs.Bytes.{part, byte, u16, within, all, every, allZero, pairwise}
-use Rattle.carts.specs.Cart.{cartSize, cartCount, numberAt, titleAt}
-use Rattle.replication.specs.Log.{nextOperation, nextTransaction, recordsOf, upFrom}
-use Rattle.replication.specs.Memory.{recordCount, mostOperations, recordAt, sessionAt, sequenceOf, nth, studioOf}
-use Rattle.replication.specs.Layout.{waitingForm}
+use Rattle.carts.specs.Bytes.{byte, u16, within, all, pairwise}
+use Rattle.carts.specs.Cart.{cartSize, cartCount}
+use Rattle.replication.specs.Log.{nextOperation, nextTransaction, recordsOf, ownForm, upFrom}
+use Rattle.replication.specs.Memory.{recordCount, recordAt, sessionAt, sequenceOf, nth, studioOf}
 use Rattle.replication.specs.declared.session.Session.{Session}
 use Rattle.replication.specs.declared.session.Waiting.{Waiting}
 use Rattle.replication.specs.declared.session.Waiting.the-variants.{Nothing, Numbers, Title}
@@ -33,28 +32,15 @@ neededBy Nothing = 0
 neededBy (Numbers n) = cartSize * n
 neededBy (Title n) = cartSize
 
--- a session's form, by its studio and the commits
-unfoldable pub sessionFormOf : ℕ → ℕ → List ℕ → Bool
-sessionFormOf studio commits x =
-    cond (eqb studio 0) (allZero x)
-    (all (leb (sequenceOf x) commits ∷ allZero (part x (numberAt + 2) (titleAt - numberAt - 2)) ∷ waitingForm x ∷ []))
-
 -- a record's links
 abbrev pub linksOf : List ℕ → ℕ → Record
 linksOf log r = record { «next_operation» = nextOperation log r; «next_transaction» = nextTransaction log r }
 
--- the records `own` of a transaction of at most `most` operations are r, r + 1, .., before record `end`; only the first has a link to
--- the next transaction
-unfoldable pub consecutiveForm : ℕ → List ℕ → List ℕ → ℕ → ℕ → Bool
-consecutiveForm most log own r end =
-    all (within 1 most (length own)
-    ∷ pairwise eqb own (upFrom r (length own))
-    ∷ every (λ q. eqb (nextTransaction log q) 0) (drop 1 own)
-    ∷ leb (r + length own) end ∷ [])
-
--- how many records the transaction at record r has; 0 where they are not of that form
+-- how many records the transaction at record r has; 0 where they are not of a transaction's form, or not r, r + 1, .., before record `end`
 unfoldable pub spanOf : List ℕ → ℕ → ℕ → ℕ
-spanOf log r end = cond (consecutiveForm mostOperations log (recordsOf log r) r end) (length (recordsOf log r)) 0
+spanOf log r end =
+    let own = recordsOf log r in
+    cond (all (ownForm log own ∷ pairwise eqb own (upFrom r (length own)) ∷ leb (r + length own) end ∷ [])) (length own) 0
 
 -- a record of the log whose operation can act on a copy: its index and its cart's number are in range
 unfoldable pub usable : List ℕ → ℕ → Bool

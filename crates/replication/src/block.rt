@@ -10,9 +10,9 @@ ghost use mathlib.Core.List.{List};
 ghost use Prim.Native.Nat.{ℕ, _<_, _≤_};
 ghost use lib.ListN.{length};
 ghost use Rattle.replication.specs.Answer.{readAnswer, waits};
-ghost use Rattle.replication.specs.Memory.{memory, librarySize, sessionsSize, sessionSize, sessionCount, studioCount, nth, studioOf};
+ghost use Rattle.replication.specs.Memory.{memory, librarySize, sessionsSize, sessionSize, sessionCount, studioCount, sessionAt, sequenceOf, nth, studioOf};
 ghost use Rattle.replication.specs.Request.{requestOf, requestFields, needed};
-ghost use Rattle.replication.specs.Calls.{after, waitsIn, numberAfter, block};
+ghost use Rattle.replication.specs.Calls.{after, numberAfter, block};
 ghost use Rattle.replication.specs.Values.{dueOf};
 
 // A session's number, its studio, and the state that the studio's copy has reached.
@@ -63,7 +63,7 @@ pub fn block(
     requires { ⌜ length (now left) ≡ sessionSize ⌝ }
     ensures { λ r. ⌜ ((log : List ℕ) → after (readAnswer r) control (memory (now (library .entry)) log (now (sessions .exit))) (now (output .exit))
         ≡ block control (memory (now (library .entry)) log (now (sessions .entry))) session (requestOf (now (asked .entry))) (now (left .entry))
-        (waitsIn control (memory (now (library .entry)) log (now (sessions .entry))) session (now (output .entry))) (now (output .entry))) ⌝ }
+        (after (waits (sequenceOf (sessionAt (now (sessions .entry)) session))) control (memory (now (library .entry)) log (now (sessions .entry))) (now (output .entry))) (now (output .entry))) ⌝ }
     ensures { λ r. ⌜ ((n : ℕ) → readAnswer r ≡ waits n → n < 65536) ⌝ }
 {
     let due = Due::at(control, sessions, session);

@@ -16,7 +16,8 @@ ghost use mathlib.Core.List.{[], _∷_};
 ghost use Rattle.carts.specs.Bytes.{every, eachPart};
 ghost use Rattle.replication.specs.Memory.{memory, librarySize, copyCount, recordSize, recordCount, logSize, sessionSize, sessionsSize, sessionCount};
 ghost use Rattle.carts.specs.Cart.{copySize};
-ghost use Rattle.replication.specs.Layout.{replicaForm, recordForm, sessionForm, countsForm, ofLayout};
+ghost use Rattle.carts.specs.Operation.{operationFields};
+ghost use Rattle.replication.specs.Layout.{replicaForm, sessionForm, countsForm, ofLayout};
 
 // Copy i of a system of so many studios is of its form: carts, or zeros above the last studio.
 fn is_replica(copy: &[u8], i: u32, studios: u32) -> bool
@@ -48,7 +49,7 @@ fn are_replicas(library: &[u8], studios: u32) -> bool
 // The first `used` records hold operations.
 fn are_records(log: &[u8], used: u32) -> bool
     requires { ⌜ (length (now log) ≡ logSize) × (used ≤ recordCount) ⌝ }
-    ensures { λ r. ⌜ r ≡ eachPart recordForm recordSize used 1 (now (log .entry)) ⌝ }
+    ensures { λ r. ⌜ r ≡ eachPart (λ r. operationFields) recordSize used 1 (now (log .entry)) ⌝ }
 {
     let mut ok = true;
     let mut r: u32 = 0;

@@ -8,8 +8,8 @@ ghost use Prim.Native.Nat.{_<_, _≤_};
 ghost use lib.ListN.{length};
 ghost use Rattle.replication.specs.Memory.{sessionSize, sessionsSize, sessionCount, sessionAt, withSession, withSequence};
 ghost use Rattle.replication.specs.Request.{numbersForm, requestFields, requestForm};
-ghost use Rattle.replication.specs.Layout.{waitingForm};
-ghost use Rattle.replication.specs.Values.{sessionValue, waitsBy, neededBy, sessionFormOf};
+ghost use Rattle.replication.specs.Layout.{waitingForm, sessionFormOf};
+ghost use Rattle.replication.specs.Values.{sessionValue, waitsBy, neededBy};
 
 // The read that a session has waiting: nothing, a count of numbers, or the length of a title. Their bytes stay beside it.
 pub enum Waiting {

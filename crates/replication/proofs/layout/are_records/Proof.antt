@@ -8,12 +8,11 @@ use lib.ListN.{drop}
 use Rattle.carts.specs.Bytes.{eachPart}
 use Rattle.carts.proofs.RecordLaws.{each-more, each-done}
 use Rattle.carts.specs.Operation.{operationFields}
-use Rattle.replication.specs.Layout.{recordForm}
 use Rattle.replication.proofs.layout.are_records.Statement.{statement}
 use Rattle.replication.proofs.layout.are_records.Tie as tie
 
 abbrev Inv-loop : tie.InvT-loop
-Inv-loop log used ok₀ r₀ ok r = (r ≤ used) × (eachPart recordForm 80 used 1 log ≡ (ok && eachPart recordForm 80 (used - r) (r + 1) (drop (80 * r) log)))
+Inv-loop log used ok₀ r₀ ok r = (r ≤ used) × (eachPart (λ r. operationFields) 80 used 1 log ≡ (ok && eachPart (λ r. operationFields) 80 (used - r) (r + 1) (drop (80 * r) log)))
 
 abbrev μ-loop : tie.MeasureT-loop
 μ-loop log used ok₀ r₀ ok r = used - r
@@ -34,16 +33,15 @@ loop-less : tie.Need-loop-less Inv-loop μ-loop
 loop-less c = omega arith
 
 loop-again : tie.Need-loop-again Inv-loop μ-loop
-unfolding recordForm
 loop-again c = let t = c .before .before .before in
     let s = t .before .before .args .log .now in
     let e = c .has-fields .ensures ∙ ap operationFields (c .before .record-at .ensures .0 ∙ record-next s (t .loop .r)) in
-    (omega arith, each-more recordForm 80 _ (t .loop .r) (t .loop .r + 1) s (t .loop .ok) (omega arith) (t .loop .inv .1) (ap (λ b. t .loop .ok && b) e))
+    (omega arith, each-more (λ r. operationFields) 80 _ (t .loop .r) (t .loop .r + 1) s (t .loop .ok) (omega arith) (t .loop .inv .1) (ap (λ b. t .loop .ok && b) e))
 
 returns : tie.Need-returns Inv-loop μ-loop
 returns c = let t = c .before in
     let g = t .before .before .args in
-    each-done recordForm 80 (g .used) (t .loop .r) (t .loop .r + 1) (g .log .now) (t .loop .ok) (omega arith) (t .loop .inv .1)
+    each-done (λ r. operationFields) 80 (g .used) (t .loop .r) (t .loop .r + 1) (g .log .now) (t .loop .ok) (omega arith) (t .loop .inv .1)
 
 pub are-records-spec : {M : Type 1} → statement M
 are-records-spec =

@@ -1,13 +1,12 @@
-use Rattle.replication.proofs.LayoutLaws.{lent, length-lent, session-is}
+use Rattle.replication.proofs.LayoutLaws.{lent, length-lent}
 use mathlib.Core.Path.{_≡_, refl, ap, _∙_}
 use mathlib.Core.Bool.{_&&_}
 use Prim.Native.Nat.{_≤_, _-_, _+_, _*_}
 use native.Mathlib.Omega.{arith}
 use lib.ListN.{drop}
-use Rattle.carts.specs.Bytes.{eachPart}
+use Rattle.carts.specs.Bytes.{part, eachPart}
 use Rattle.carts.proofs.RecordLaws.{each-more, each-done}
-use Rattle.replication.specs.Layout.{sessionForm}
-use Rattle.replication.specs.Values.{sessionFormOf}
+use Rattle.replication.specs.Layout.{sessionForm, sessionFormOf}
 use Rattle.replication.proofs.layout.are_sessions.Statement.{statement}
 use Rattle.replication.proofs.layout.are_sessions.Tie as tie
 
@@ -51,12 +50,13 @@ loop-less : tie.Need-loop-less Inv-loop μ-loop
 loop-less c = omega arith
 
 loop-again : tie.Need-loop-again Inv-loop μ-loop
+unfolding sessionForm
 loop-again c = let t = c .before .before .before .before in
     let g = t .before .before .args in
     let x = g .sessions .now in
     let studio = c .before .before .studio-of .result in
     let e = c .is-session .ensures ∙ ap (sessionFormOf studio (g .control .commits)) (lent 80 (t .loop .s) x)
-    ∙ session-is (g .control) (t .loop .s + 1) studio _ (c .before .before .studio-of .ensures) in
+    ∙ ap (λ i. sessionFormOf i (g .control .commits) (part x (80 * t .loop .s) 80)) (c .before .before .studio-of .ensures) in
     (omega arith, each-more (sessionForm (g .control)) 80 16 (t .loop .s) (t .loop .s + 1) x (t .loop .ok) (omega arith) (t .loop .inv .1) (ap (λ b. t .loop .ok && b) e))
 
 returns : tie.Need-returns Inv-loop μ-loop

@@ -1,6 +1,8 @@
 use mathlib.Core.Path.{_≡_, sym, _∙_}
+use mathlib.Core.List.{[], _∷_}
 use Prim.Native.Nat.{ℕ, _≤_}
-use Rattle.replication.specs.Rows.{stopped, unappliedRows, refreshRows, refreshStop}
+use lib.Dec.{eqb}
+use Rattle.replication.specs.Rows.{row, stopped, refreshRows, refreshStop}
 use Rattle.replication.specs.Memory.{memory, nth}
 use Rattle.replication.proofs.RowLaws.{studio-numbered}
 use Rattle.replication.proofs.DecideLaws.{by-first, by-rest, first-formed, first-who, known-studio}
@@ -22,7 +24,7 @@ known : (c : tie.Else1) → let g = c .before .before .before .before .before .a
 known c = studio-counts _ _ _ (first-formed _ _ _ _ (c .before .stopped-by-studio .ensures) (c .if1 .left)) (known-studio _ _ (first-who _ _ _ _ (c .before .stopped-by-studio .ensures) (c .if1 .left))) .0
 
 rest : (c : tie.Else1) → let g = c .before .before .before .before .before .args in (n : ℕ)
-    → n ≡ stopped (unappliedRows (nth (g .control .sent) (g .studio)) (nth (g .control .applied) (g .studio)))
+    → n ≡ stopped (row 11 (eqb (nth (g .control .sent) (g .studio)) (nth (g .control .applied) (g .studio))) ∷ [])
     → n ≡ refreshStop (g .control) (memory (g .library .now) (g .log .now) (g .sessions .now)) (g .studio)
 unfolding refreshStop refreshRows
 rest c n e = by-rest _ _ _ _ (studio-numbered _ _) _ (c .before .stopped-by-studio .ensures) (c .if1 .left) n e

@@ -3,7 +3,7 @@ use lib.Dec.{leb}
 use Rattle.carts.specs.Bytes.{part, u16, allZero}
 use Rattle.replication.specs.Layout.{waitingForm}
 use borrow.Author.Tests.{eq-eqb, ne-eqb}
-use Rattle.replication.specs.Values.{sessionFormOf}
+use Rattle.replication.specs.Layout.{sessionFormOf}
 use Rattle.replication.specs.Memory.{sequenceOf}
 use Rattle.carts.proofs.ScanLaws.{join-all}
 use borrow.Author.Needs.{needs}
