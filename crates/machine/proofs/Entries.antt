@@ -3,7 +3,7 @@ use Prim.Native.Nat.{ℕ, _+_, _-_, _≤_}
 use native.Mathlib.Omega.{arith}
 use mathlib.Core.Path.{_≡_, refl, subst}
 use mathlib.Core.Bool.{true, false≢true}
-use mathlib.Core.List.{List, [], _∷_, _++_}
+use mathlib.Core.List.{List, [], _∷_, _++_, map}
 use lib.ListN.{length, take}
 use Rattle.carts.specs.Bytes.{over}
 use Rattle.carts.specs.Operation.{operationsOf, meetsAll, actAll}
@@ -16,9 +16,9 @@ use Rattle.replication.proofs.RowLaws.{unless-case}
 use Rattle.replication.proofs.ShownLaws.{Askable, length-shown, request-askable}
 use Rattle.replication.proofs.DecideLaws.{KnownSession}
 use Rattle.replication.proofs.Accepted.{commit-passed, read-passed, collect-passed}
-use Rattle.machine.specs.Machine.{Machine, session, Step, step, commits, sessionOf, refusedCommit, commit, send, refresh, answerFrom, block, wait, read, collect, call}
+use Rattle.machine.specs.Machine.{Machine, session, Step, step, commits, sessionOf, refusedCommit, commit, send, refresh, answerFrom, block, wait, read, collect, call, run}
 use Rattle.machine.specs.Library.{Reply, request, at, shown, library, serve}
-use Rattle.machine.specs.OneCopy.{plainHistory, entry, repliesOf, readEntry, Kind, writes, reads, collects, neither, kindOf, entryOf, hasWaited, waitedAfter, entries}
+use Rattle.machine.specs.OneCopy.{Event, event, entry, repliesOf, readEntry, Kind, writes, reads, collects, neither, kindOf, entryOf, hasWaited, waitedAfter, entries}
 use Rattle.machine.proofs.Sort.{length-snoc}
 use Rattle.machine.proofs.History.{History, ended, made, seen}
 use Rattle.machine.proofs.Updates.{put}
@@ -27,6 +27,10 @@ use Rattle.machine.proofs.Libraries.{length-L}
 use Rattle.machine.proofs.Sound.{Sound, applied-commits}
 use Rattle.machine.proofs.Kept.{keeps}
 use Rattle.machine.proofs.Follows.{level, WaitsFor, Follows, appended, refreshed, shown-to, stored-for, left-so}
+
+-- the events of a list on the plain machine
+unfoldable pub plainHistory : Step → List Call.Call → List Event
+plainHistory r H = map (λ t. event (t .call) (t .left .answer) (t .left .output)) (run r H)
 
 -- the entries of what is left of the list may follow, from every such machine after n commits
 abbrev pub Goes : List Call.Call → Type 0

@@ -3,8 +3,9 @@ use mathlib.Core.Path.{_≡_, ap}
 use mathlib.Core.List.{List, [], _∷_, map}
 use Prim.Native.Nat.{ℕ}
 use Rattle.replication.specs.Request.{nothing}
-use Rattle.machine.specs.OneCopy.{Event, plainHistory, Entry, repliesOf, readEntry, kindOf, entryOf, hasWaited, waitedAfter, entries}
+use Rattle.machine.specs.OneCopy.{Event, Entry, repliesOf, readEntry, kindOf, entryOf, hasWaited, waitedAfter, entries}
 use Rattle.machine.specs.Table.{cases2to10, callsOf}
+use Rattle.machine.proofs.Entries.{plainHistory}
 use Rattle.machine.proofs.Table.{start, table}
 
 -- the places of the entries of a history

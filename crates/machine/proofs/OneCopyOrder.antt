@@ -9,10 +9,10 @@ use Rattle.replication.specs.Request.{Request, isWaiting}
 use Rattle.replication.specs.Call.{Call}
 use Rattle.machine.specs.Machine.{Step, fresh, setup}
 use Rattle.machine.specs.Library.{emptyLibrary}
-use Rattle.machine.specs.OneCopy.{Entry, OneCopy, plainHistory, entries}
+use Rattle.machine.specs.OneCopy.{Entry, OneCopy, entries}
 use Rattle.machine.proofs.Ordered.{ordered}
 use Rattle.machine.proofs.Sound.{setup-case, fresh-sound, fresh-session}
-use Rattle.machine.proofs.Entries.{history-from}
+use Rattle.machine.proofs.Entries.{plainHistory, history-from}
 
 pub one-copy : (studios : ℕ) (bytes : List ℕ) → setup studios bytes .answer ≡ done 0 → (H : List Call) (none : Request)
     → (order : List Entry) × OneCopy emptyLibrary (entries 0 (λ s. none) (plainHistory (setup studios bytes) H)) order

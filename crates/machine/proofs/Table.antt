@@ -14,8 +14,9 @@ use Rattle.machine.specs.Machine as Machine
 use Rattle.machine.specs.Machine.{afterCalls}
 use Rattle.replication.specs.Answer.{refused, done, waits, answered}
 use Rattle.replication.specs.Call.{commit, send, refresh, read, collect, run, final}
-use Rattle.machine.specs.OneCopy.{Event, event, plainHistory}
+use Rattle.machine.specs.OneCopy.{Event, event}
 use Rattle.machine.specs.Table.{studioBytes, topHourA, longTitle, payload, new, A, withdraw7, seven, titleRead, buffer, holding, cases2to10, case11, case12, callsOf, Table}
+use Rattle.machine.proofs.Entries.{plainHistory}
 
 -- what setup leaves
 unfoldable pub start : Machine.Step

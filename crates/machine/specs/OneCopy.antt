@@ -11,7 +11,6 @@ use Rattle.replication.specs.Memory.{Memory}
 use Rattle.replication.specs.Request.{Request, requestOf, needed}
 use Rattle.replication.specs.Call.{Call, commit, send, refresh, read, collect}
 use Rattle.replication.specs.Calls as Bytes
-use Rattle.machine.specs.Machine as Plain
 use Rattle.machine.specs.Library.{Input, operations, request, Reply, number, at, shown, Library, emptyLibrary, play}
 
 -- a call of H, the answer that it gave, and its output "as they stood when its call ended"
@@ -23,12 +22,9 @@ pub record Event : Type 0 where
 abbrev pub event : Call → Answer → List ℕ → Event
 event x a out = record { call = x; answer = a; output = out }
 
--- the events of a list H whose first call is given what r left; the same on the plain machine
+-- the events of a list H whose first call is given what r left
 unfoldable pub history : Bytes.After → List Call → List Event
 history r H = map (λ t. event (t .call) (t .left .answer) (t .left .output)) (Bytes.run r H)
-
-unfoldable pub plainHistory : Plain.Step → List Call → List Event
-plainHistory r H = map (λ t. event (t .call) (t .left .answer) (t .left .output)) (Plain.run r H)
 
 -- an entry: its place in H, its session, what the single library is fed, and what H answered
 pub record Entry : Type 0 where

@@ -9,7 +9,8 @@ use Rattle.replication.specs.Calls.{After}
 use Rattle.replication.specs.declared.control.Control.{Control}
 use Rattle.machine.specs.Machine as Plain
 use Rattle.machine.specs.Machine.{Session, Machine, Step}
-use Rattle.machine.specs.OneCopy.{history, plainHistory}
+use Rattle.machine.specs.OneCopy.{history}
+use Rattle.machine.proofs.Entries.{plainHistory}
 use Rattle.refinement.specs.Represents.{OfLayout, Represents, Simulates}
 use Rattle.refinement.proofs.Represented.{machineOf, by-machine}
 use Rattle.refinement.proofs.Send.{send-keeps, send-simulates}

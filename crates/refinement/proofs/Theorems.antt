@@ -2,7 +2,7 @@
 -- any S, any studio bytes and any memory before it. What "stand for" means is the record Represents; "of the layout" is the record OfLayout.
 use mathlib.Core.Path.{_≡_, sym, _∙_, fun-ext, subst₂}
 use mathlib.Core.Bool.{true, false, not}
-use mathlib.Core.List.{List, [], _∷_, _++_}
+use mathlib.Core.List.{List, [], _∷_, _++_, map}
 use Prim.Native.Nat.{ℕ, _*_, _≤_, _<_}
 use lib.ListN.{length, getD}
 use Rattle.carts.specs.Bytes.{zeros, part, u16}
@@ -21,10 +21,11 @@ use Rattle.replication.specs.Calls.{After, after, controlOf, setup, afterCalls}
 use Rattle.replication.specs.declared.control.Control.{Control}
 use Rattle.machine.specs.Machine as Plain
 use Rattle.machine.specs.Machine.{Machine, Step}
-use Rattle.machine.specs.OneCopy.{history, plainHistory, Demand3}
+use Rattle.machine.specs.OneCopy.{event, history, Demand3}
 use Rattle.machine.specs.Titles.{titleIn, writesTitle, spares, Writes, asked, ShowsTheOne}
 use Rattle.machine.proofs.Sound.{setup-sound}
 use Rattle.machine.proofs.Kept.{after-sound}
+use Rattle.machine.proofs.Entries.{plainHistory}
 use Rattle.machine.proofs.OneCopyOrder.{one-copy}
 use Rattle.machine.specs.Table.{studioBytes, cases2to10, callsOf, Table}
 use Rattle.machine.proofs.Table.{start, started, table}
@@ -94,7 +95,9 @@ module _ (before : Memory) (studios : ℕ) (bytes : List ℕ) where
       plain = Plain.afterCalls (Plain.setup studios bytes) H
 
       -- ANSWERS. Every answer and every output of H from a fresh system is the plain machine's.
-      pub answers : history (setup before studios bytes) H ≡ plainHistory (Plain.setup studios bytes) H
+      pub answers : history (setup before studios bytes) H
+          ≡ map (λ t. event (t .call) (t .left .answer) (t .left .output)) (Plain.run (Plain.setup studios bytes) H)
+      unfolding plainHistory
       answers = Simulation.same-history H _ _ setup-simulates
 
       -- COPIES. After H from a fresh system the bytes stand for the plain machine's state: the head end's copy is L(commits) and studio i's copy is
@@ -139,6 +142,7 @@ module _ (before : Memory) (studios : ℕ) (bytes : List ℕ) where
 
 -- DEMAND 3. Every list of calls from a fresh system has a one-copy order.
 pub demand3 : Demand3
+unfolding plainHistory
 demand3 before studios bytes accepted H none =
     rw (answers before studios bytes accepted H)
     (one-copy studios bytes (plain-accepted before studios bytes accepted) H none)
@@ -149,7 +153,7 @@ pub twelve : (before : Memory) → lengthsForm before ≡ true →
     let r = setup before 2 studioBytes in
     let end = afterCalls r (callsOf cases2to10) in
     Table (history r) (transactionsFrom (end .control .commits) (end .memory .log) (firstRecord (end .control)))
-unfolding start
+unfolding start plainHistory
 twelve before lengths =
     let accepted = setup-answer before 2 studioBytes lengths ∙ started in
     subst₂ Table (fun-ext (λ H. sym (answers before 2 studioBytes accepted H))) (simulates-after before 2 studioBytes accepted (callsOf cases2to10) .next .log) table
