@@ -1,19 +1,17 @@
--- Laws of refresh: row 11, and an accepted refresh.
+-- Laws of an accepted refresh.
 use Prim.Native.Nat.{ℕ, _+_, _-_, _*_, _<_, _≤_}
 use mathlib.Core.Path.{_≡_, sym, _∙_}
 use mathlib.Core.Bool.{true}
-use mathlib.Core.List.{List, [], _∷_}
+use mathlib.Core.List.{List, []}
 use native.Mathlib.Omega.{arith}
-use lib.Dec.{eqb}
 use lib.ListN.{length, take, drop}
 use native.Mathlib.Nat.{add-sub-cancel-left}
-use borrow.Author.Tests.{eq-eqb, ne-eqb}
 use Rattle.carts.specs.Bytes.{over, every}
 use Rattle.carts.specs.Operation.{actAll}
 use Rattle.replication.specs.Answer.{refused, done}
 use Rattle.replication.specs.Memory.{Memory, memory, nth, copyAt, withCopy}
 use Rattle.replication.specs.Log.{recordsOf, transactionAt, walk, firstRecord}
-use Rattle.replication.specs.Rows.{row, stopped, refreshStop}
+use Rattle.replication.specs.Rows.{refreshStop}
 use Rattle.replication.specs.Calls.{after, refresh, withApplied, transactionAfter}
 use Rattle.replication.specs.Values.{usable, walkable}
 use Rattle.replication.specs.declared.control.Control.{Control}
@@ -22,15 +20,6 @@ use Rattle.replication.proofs.DecideLaws.{accepted}
 use Rattle.replication.proofs.Accepted.{refresh-passed}
 use Rattle.replication.proofs.Placement.{few-commits, log-walkable, transaction-usable}
 use Rattle.replication.proofs.SendLaws.{studio-counts}
-
--- row 11
-pub none-left : (sent applied : ℕ) → sent ≡ applied → 11 ≡ stopped (row 11 (eqb sent applied) ∷ [])
-unfolding stopped
-none-left sent applied e = rw (eq-eqb sent applied e)
-
-pub some-left : (sent applied : ℕ) → (sent ≡ applied → ⊥) → 0 ≡ stopped (row 11 (eqb sent applied) ∷ [])
-unfolding stopped
-some-left sent applied n = rw (ne-eqb sent applied n)
 
 -- what an accepted refresh knows
 pub record Refreshable (c : Control) (m : Memory) (i : ℕ) : Type 0 where

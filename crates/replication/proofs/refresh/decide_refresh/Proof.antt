@@ -2,12 +2,12 @@ use mathlib.Core.Path.{_≡_, sym, _∙_}
 use mathlib.Core.List.{[], _∷_}
 use Prim.Native.Nat.{ℕ, _≤_}
 use lib.Dec.{eqb}
+use borrow.Author.Tests.{eq-eqb, ne-eqb}
 use Rattle.replication.specs.Rows.{row, stopped, refreshRows, refreshStop}
 use Rattle.replication.specs.Memory.{memory, nth}
-use Rattle.replication.proofs.RowLaws.{studio-numbered}
+use Rattle.replication.proofs.RowLaws.{row-stops, row-passes, studio-numbered}
 use Rattle.replication.proofs.DecideLaws.{by-first, by-rest, first-formed, first-who, known-studio}
 use Rattle.replication.proofs.SendLaws.{studio-counts}
-use Rattle.replication.proofs.RefreshLaws.{none-left, some-left}
 use borrow.Author.Needs.{needs}
 use Rattle.replication.proofs.refresh.decide_refresh.Statement.{statement}
 use Rattle.replication.proofs.refresh.decide_refresh.Tie as tie
@@ -37,11 +37,12 @@ applied-by-requires c κs = known (c .before)
 
 returns-2 : tie.Need-returns-2
 returns-2 c = let a = c .before in
-    rest (a .before .before) 11 (none-left _ _ (sym (a .before .sent-to .ensures) ∙ c .if2 .taken ∙ a .applied-by .ensures))
+    rest (a .before .before) 11 (row-stops 11 _ _ (eq-eqb _ _ (sym (a .before .sent-to .ensures) ∙ c .if2 .taken ∙ a .applied-by .ensures)))
 
 returns-3 : tie.Need-returns-3
+unfolding stopped
 returns-3 c = let a = c .before in
-    rest (a .before .before) 0 (some-left _ _ (λ z. c .if2 .left (a .before .sent-to .ensures ∙ z ∙ sym (a .applied-by .ensures))))
+    rest (a .before .before) 0 (sym (row-passes 11 _ [] (ne-eqb _ _ (λ z. c .if2 .left (a .before .sent-to .ensures ∙ z ∙ sym (a .applied-by .ensures))))))
 
 pub decide-refresh-spec : {M : Type 1} → statement M
 decide-refresh-spec =
