@@ -55,14 +55,16 @@ studioRow studios i = row 3 (not (within 1 studios i))
 unfoldable pub sizeForm : List ℕ → Bool
 sizeForm bytes = all (within cartSize (cartSize * mostOperations) (length bytes) ∷ eqb (length bytes % cartSize) 0 ∷ [])
 
--- rows 5 to 8: `used` records; the head end's copy; the operations' bytes. 8 is "commit: carts": "an operation meets its cart in the wrong
--- state"
-abbrev pub operationRows : ℕ → List ℕ → List ℕ → List Row
-operationRows used primary bytes =
+-- rows 5 to 7: `used` records; the operations' bytes
+abbrev pub formRows : ℕ → List ℕ → List Row
+formRows used bytes =
     row 5 (not (sizeForm bytes))
     ∷ row 6 (not (every operationForm (operationsOf bytes)))
-    ∷ row 7 (noRoom used (length (operationsOf bytes)))
-    ∷ row 8 (not (meetsAll primary (operationsOf bytes))) ∷ []
+    ∷ row 7 (noRoom used (length (operationsOf bytes))) ∷ []
+
+-- and row 8, "commit: carts": "an operation meets its cart in the wrong state"; the head end's copy
+abbrev pub operationRows : ℕ → List ℕ → List ℕ → List Row
+operationRows used primary bytes = formRows used bytes ++ (row 8 (not (meetsAll primary (operationsOf bytes))) ∷ [])
 
 -- session s of that studio and waiting read; the head end's copy
 unfoldable pub commitRows : ℕ → ℕ → Request → ℕ → List ℕ → List ℕ → List Row
