@@ -18,7 +18,7 @@ use Rattle.replication.proofs.DecideLaws.{KnownSession}
 use Rattle.replication.proofs.Accepted.{commit-passed, read-passed, collect-passed}
 use Rattle.machine.specs.Machine.{Machine, session, Step, step, commits, sessionOf, refusedCommit, commit, send, refresh, answerFrom, block, wait, read, collect, call, run}
 use Rattle.machine.specs.Library.{Reply, request, at, shown, library, serve}
-use Rattle.machine.specs.OneCopy.{Event, event, entry, repliesOf, readEntry, Kind, writes, reads, collects, neither, kindOf, entryOf, hasWaited, waitedAfter, entries}
+use Rattle.machine.specs.OneCopy.{Event, event, entry, repliesOf, readEntry, Kind, writes, reads, collects, neither, kindOf, entryOf, waitedAfter, entries}
 use Rattle.machine.proofs.Sort.{length-snoc}
 use Rattle.machine.proofs.History.{History, ended, made, seen}
 use Rattle.machine.proofs.Updates.{put}
@@ -93,7 +93,7 @@ module _ (H : List Call.Call) (go-on : Goes H) (m : Machine) (copies : ℕ → L
           (go-on r n copies (put floor s k) waited (i + 1) refl kept (shown-to m copies floor waited f s _ who (sound .sixteen) k top (λ w. absurd (false≢true w)))))
 
       read-shown : (bytes out : List ℕ) → Askable (requestOf bytes) → Fits (reads s bytes) (answerFrom k v (requestOf bytes) m s out)
-      unfolding answerFrom entryOf waitedAfter hasWaited
+      unfolding answerFrom entryOf waitedAfter
       read-shown bytes out a = when-shown (requestOf bytes) out a
 
       collect-shown : (out : List ℕ) → Askable (waited s) → Fits (collects s) (answerFrom k v (waited s) m s out)
@@ -102,7 +102,7 @@ module _ (H : List Call.Call) (go-on : Goes H) (m : Machine) (copies : ℕ → L
 
     -- session s waits: read stores its request, collect leaves what is stored
     read-waits : (bytes out : List ℕ) → Fits (reads s bytes) (wait m s (requestOf bytes) out)
-    unfolding wait entryOf readEntry repliesOf waitedAfter hasWaited
+    unfolding wait entryOf readEntry repliesOf waitedAfter
     read-waits bytes out kept = go-on _ n copies floor (put waited s (requestOf bytes)) (i + 1) refl kept
         (stored-for m copies floor waited f s _ who (sound .sixteen) (requestOf bytes) (f .floors s (who .low)) (λ w. refl))
 
@@ -112,7 +112,7 @@ module _ (H : List Call.Call) (go-on : Goes H) (m : Machine) (copies : ℕ → L
         (left-so m copies floor waited f s _ who (sound .sixteen) (f .floors s (who .low)) (λ w. refl))
 
   when-read : (s : ℕ) (bytes out : List ℕ) → Fits (reads s bytes) (read m s bytes out)
-  unfolding read entryOf readEntry repliesOf waitedAfter hasWaited
+  unfolding read entryOf readEntry repliesOf waitedAfter
   when-read s bytes out = unless-case (Fits (reads s bytes)) _ _ _ (λ k e kept. nothing-new _ _) (λ e.
       let a = read-passed s (sessionOf m s .studio) (sessionOf m s .waiting) bytes (length out) e in
       block-case m s _ _ out (Fits (reads s bytes))

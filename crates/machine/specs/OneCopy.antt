@@ -1,6 +1,6 @@
 -- STATEMENT. Document 01, "The one-copy order", sentence by sentence: what demand 3 claims of the calls on bytes.
 use mathlib.Core.Path.{_≡_}
-use mathlib.Core.Bool.{Bool, true, false, cond, _&&_}
+use mathlib.Core.Bool.{cond}
 use mathlib.Core.List.{List, [], _∷_, _++_, map, List·Permᴰ}
 use Prim.Native.Nat.{ℕ, _+_}
 use lib.ListN.{take}
@@ -70,16 +70,13 @@ entryOf i waited (reads s bytes) a out = readEntry i s (requestOf bytes) a out
 entryOf i waited (collects s) a out = readEntry i s (waited s) a out
 entryOf i waited neither a out = []
 
-unfoldable pub hasWaited : Answer → Bool
-hasWaited (waits n) = true
-hasWaited (refused n) = false
-hasWaited (done n) = false
-hasWaited (answered state found) = false
-
 -- for each session the request of its latest read call that waited
 unfoldable pub waitedAfter : (ℕ → Request) → Kind → Answer → ℕ → Request
 waitedAfter waited (writes s bytes) a j = waited j
-waitedAfter waited (reads s bytes) a j = cond (hasWaited a && eqb j s) (requestOf bytes) (waited j)
+waitedAfter waited (reads s bytes) (waits n) j = cond (eqb j s) (requestOf bytes) (waited j)
+waitedAfter waited (reads s bytes) (refused n) j = waited j
+waitedAfter waited (reads s bytes) (done n) j = waited j
+waitedAfter waited (reads s bytes) (answered state found) j = waited j
 waitedAfter waited (collects s) a j = waited j
 waitedAfter waited neither a j = waited j
 

@@ -22,7 +22,6 @@ use Rattle.replication.specs.Layout.{waitingForm, sessionForm, sessionFormOf}
 use Rattle.replication.specs.Calls.{committed}
 use Rattle.replication.specs.declared.control.Control.{Control}
 use Rattle.replication.proofs.DecideLaws.{KnownSession}
-use Rattle.replication.proofs.Accepted.{}
 use Rattle.replication.proofs.Formed.{SessionsFormed}
 use Rattle.machine.specs.Machine.{Session, session, Machine, sessionOf}
 use Rattle.refinement.specs.Represents.{Represents}

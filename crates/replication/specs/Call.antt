@@ -14,9 +14,8 @@ pub data Call : Type 0 where
   -- session, output
   collect : ℕ → List ℕ → Call
 
--- a call of a list, what it was given and what it left
+-- a call of a list, and what it left
 pub record Turn (A : Type 0) : Type 0 where
-  pub given : A
   pub call : Call
   pub left : A
 
@@ -24,7 +23,7 @@ pub record Turn (A : Type 0) : Type 0 where
 -- wait too": a list of calls, for any `does` that says what one call leaves. On bytes, and on the plain machine.
 unfoldable pub run : {A : Type 0} → (A → Call → A) → A → List Call → List (Turn A)
 run does r [] = []
-run does r (x ∷ H) = let left = does r x in record { given = r; call = x; left = left } ∷ run does left H
+run does r (x ∷ H) = let left = does r x in record { call = x; left = left } ∷ run does left H
 
 -- what the last call left, or where there is no call, what the first would have been given
 unfoldable pub final : {A : Type 0} → A → List (Turn A) → A

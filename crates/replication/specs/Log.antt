@@ -54,7 +54,9 @@ ownForm log own = all (within 1 mostOperations (length own) ∷ every (λ q. eqb
 -- "the log's chain has exactly commits transactions": n of that form, the first at record r, and none after them
 unfoldable pub transactionsForm : ℕ → List ℕ → ℕ → Bool
 transactionsForm zero log r = eqb r 0
-transactionsForm (suc n) log r = ownForm log (recordsOf log r) && transactionsForm n log (nextTransaction log r)
+transactionsForm (suc n) log r =
+    let rest = transactionsForm n log (nextTransaction log r) in
+    ownForm log (recordsOf log r) && rest
 
 -- "The walk to the n-th transaction": the first record of the transaction n further on than the one at r
 unfoldable pub walk : ℕ → List ℕ → ℕ → ℕ
