@@ -35,7 +35,7 @@ fn play_line(
     let next = p.next_line();
     let mut payload = [0u8; Record::TRANSACTION_SIZE];
     let call = parse::parse(line, &mut payload);
-    print::summary::echo(next.line, line, call);
+    report::transcript::echo(next.line, line, call);
     play::play_call(next, library, log, sessions, cells, store, call, &payload)
 }
 
@@ -70,13 +70,13 @@ fn tell_end(player: Progress, sessions: &[u8], cells: &[u32], store: &[u8], cut:
     requires { ⌜ player .history .entries ≤ 1024 ⌝ }
 {
     if cut {
-        print::summary::cut_after(player.line);
+        report::transcript::cut_after(player.line);
     }
-    print::summary::summary(player);
-    print::show::waiting(player.control, sessions);
+    report::transcript::summary(player);
+    report::show::waiting(player.control, sessions);
     let same = print::order::show_order(player.history, cells, store);
     let last = player.compared(same);
-    print::line::status(status::status(!cut, last.tally));
+    words::line::status(status::status(!cut, last.tally));
 }
 
 // Every line, then the end.
@@ -116,8 +116,8 @@ fn play_text(bytes: &[u8], cut: bool) {
 // A text after its byte-order mark; any other input is named once, and not played.
 fn play_input(bytes: &[u8], cut: bool) {
     if !input::is_text(bytes) {
-        print::summary::no_text();
-        print::line::status(2);
+        report::transcript::no_text();
+        words::line::status(2);
         return;
     }
     let start = input::mark_length(bytes);
@@ -129,7 +129,7 @@ fn play_input(bytes: &[u8], cut: bool) {
 // What could not be opened or read is told on standard error.
 fn fail(what: &[u8]) {
     os::fail(what);
-    print::line::status(2);
+    words::line::status(2);
 }
 
 // The transcript is cut where there is more to read than the buffer holds. os::arg sets errno to 0, and only a read that

@@ -1,17 +1,17 @@
 // What came of a call, printed.
-use crate::line;
 use crate::order;
-use carts::bytes;
 use carts::cart::Cart;
 use journal::history::History;
 use journal::progress;
 use lines::build;
-use lines::cursor::Mistake;
 use lines::text;
 use one_copy::fault;
 use replication::answer::CountAnswer;
 use replication::answer::ReadAnswer;
 use replication::answer::SetupAnswer;
+use report::cart;
+use report::show;
+use words::line;
 ghost use Prim.Native.Nat.{_<_, _≤_};
 
 // A setup ends the system before it: the order of its answers, where there are any; the answer is whether all are the same.
@@ -62,25 +62,11 @@ pub fn made(
             same
         }
         SetupAnswer::Refused(row) => {
-            line::refusal(row);
+            refusals::print::refusal(row);
             goes_on(is_running);
             true
         }
     }
-}
-
-// Operation i, counted from 1, and its cart.
-fn at_operation(ops: &[u8], i: u32) {
-    if i == 0 {
-        return;
-    }
-    let op = text::part_of(ops, Cart::SIZE * (i as usize - 1), Cart::SIZE);
-    if op.len() != Cart::SIZE {
-        return;
-    }
-    let mut page = io::buffer();
-    let n = words::refusal::at_operation(&mut page, i, bytes::u16_at(op, 2));
-    line::told(&page, n);
 }
 
 // The first operation that is at fault at the head end.
@@ -89,12 +75,12 @@ fn show_fault(library: &[u8], ops: &[u8], by_form: bool) {
     if copy.len() != Cart::COPY_SIZE {
         return;
     }
-    at_operation(ops, fault::first_fault(copy, ops, by_form));
+    refusals::print::at_operation(ops, fault::first_fault(copy, ops, by_form));
 }
 
 // A refused commit: refusals 6 and 8 name the operation.
 fn refused_commit(row: u32, library: &[u8], session: u32, ops: &[u8]) {
-    line::refusal_of_session(row, session);
+    refusals::print::refusal_of_session(row, session);
     if (row == 6) | (row == 8) {
         show_fault(library, ops, row == 6);
     }
@@ -128,7 +114,7 @@ fn moved_edit(edit: u32, studio: u32, is_sent: bool) {
 pub fn moved(answer: CountAnswer, studio: u32, is_sent: bool) {
     match answer {
         CountAnswer::Number(edit) => moved_edit(edit, studio, is_sent),
-        CountAnswer::Refused(row) => line::refusal_of_studio(row, studio),
+        CountAnswer::Refused(row) => refusals::print::refusal_of_studio(row, studio),
     }
 }
 
@@ -138,11 +124,11 @@ fn shown_at(block: &[u8], i: usize)
 {
     let cart = text::part_of(block, Cart::SIZE + Cart::SIZE * i, Cart::SIZE);
     if text::letter(cart, 0) == 1 {
-        line::cart(cart);
+        show::held(cart);
         return;
     }
     let mut page = io::buffer();
-    let n = report::cart::empty(&mut page, build::asked(block, i as u32));
+    let n = cart::empty(&mut page, build::asked(block, i as u32));
     line::told(&page, n);
 }
 
@@ -159,7 +145,7 @@ fn shown(block: &[u8], n: usize)
 // What a read by title found.
 fn found_by_title(block: &[u8], found: u32) {
     if found == 1 {
-        line::cart(text::part_of(block, Cart::SIZE, Cart::SIZE));
+        show::held(text::part_of(block, Cart::SIZE, Cart::SIZE));
         return;
     }
     let mut page = io::buffer();
@@ -197,14 +183,6 @@ pub fn read(answer: ReadAnswer, commits: u32, session: u32, block: &[u8]) {
             answered(block, state, words::answer::behind(commits, state), found)
         }
         ReadAnswer::Waits(edit) => waits(edit),
-        ReadAnswer::Refused(row) => line::refusal_of_session(row, session),
+        ReadAnswer::Refused(row) => refusals::print::refusal_of_session(row, session),
     }
-}
-
-// A line that is no call.
-pub fn unreadable(line: u32, mistake: Mistake, at: usize) {
-    let column = std::num::wrapping_add_u64(at as u64, 1);
-    let mut page = io::buffer();
-    let n = words::mistake::unreadable(&mut page, line, column, mistake);
-    line::told(&page, n);
 }

@@ -1,6 +1,3 @@
-// Lines on standard output: `words` and `report` tell each of them on a page.
+// What came of a call and the one-copy order, on standard output.
 pub mod answer;
-pub mod line;
 pub mod order;
-pub mod show;
-pub mod summary;

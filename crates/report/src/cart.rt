@@ -13,8 +13,7 @@ fn put_recording(out: &mut [u8], at: usize, audio: u32, milliseconds: u32) -> us
     ensures { λ r. ⌜ Put (recordingText audio milliseconds) (now (out .entry)) at (now (out .exit)) r ⌝ }
 {
     let a = page::put_numbered(out, at, b", audio ", audio);
-    let b = page::put_numbered(out, a, b", length ", milliseconds);
-    page::put(out, b, b" ms\n")
+    page::put_between(out, a, b", length ", milliseconds, b" ms\n")
 }
 
 // What a held cart has, from its 80 bytes.
@@ -34,8 +33,7 @@ pub fn empty(out: &mut [u8], n: u32) -> usize
     requires { ⌜ length (now out) ≡ pageSize ⌝ }
     ensures { λ r. ⌜ Told (emptyText n) (now (out .entry)) (now (out .exit)) r ⌝ }
 {
-    let a = page::put_numbered(out, 0, b"    cart ", n);
-    page::put(out, a, b" is empty\n")
+    page::put_between(out, 0, b"    cart ", n, b" is empty\n")
 }
 
 // A copy in which no cart is held.

@@ -1,5 +1,6 @@
-// Carts, the state, the one-copy order and the whole transcript in words: each line as text at the start of a lent page.
+// Carts, the state and the whole transcript: in words, and printed.
 pub mod cart;
-pub mod order;
+pub mod show;
 pub mod state;
 pub mod summary;
+pub mod transcript;

@@ -1,14 +1,13 @@
 // The state of copies and sessions in words.
 use carts::bytes;
-use lines::build;
 use words::answer;
 use words::page;
+use words::request;
 ghost use mathlib.Core.Path.{_≡_};
 ghost use Prim.Native.Nat.{ℕ, _+_, _≤_};
 ghost use lib.ListN.{length};
-ghost use Prim.Native.Nat.{_*_};
 ghost use Rattle.words.specs.Page.{pageSize, Put, Told};
-ghost use Rattle.report.specs.Lines.{noSystemText, headText, studioText, askedNumbers, untilText, waitingText, stillWaitingText, sessionText};
+ghost use Rattle.report.specs.Lines.{noSystemText, headText, studioText, untilText, waitingText, stillWaitingText, sessionText};
 
 // There is no system.
 pub fn no_system(out: &mut [u8]) -> usize
@@ -23,10 +22,8 @@ pub fn head_end(out: &mut [u8], commits: u32, used: u32) -> usize
     requires { ⌜ length (now out) ≡ pageSize ⌝ }
     ensures { λ r. ⌜ Told (headText commits used) (now (out .entry)) (now (out .exit)) r ⌝ }
 {
-    let a = page::put(out, 0, b"  head end: ");
-    let b = page::put_count(out, a, commits, b"edit");
-    let c = page::put_numbered(out, b, b", ", used);
-    page::put(out, c, b" of 512 log records\n")
+    let a = page::put_counted(out, 0, b"  head end: ", commits, b"edit");
+    page::put_between(out, a, b", ", used, b" of 512 log records\n")
 }
 
 // A studio's counts, and how many edits its copy is behind the head end.
@@ -34,25 +31,10 @@ pub fn studio(out: &mut [u8], i: u32, sent: u32, applied: u32, behind: u32) -> u
     requires { ⌜ length (now out) ≡ pageSize ⌝ }
     ensures { λ r. ⌜ Told (studioText i sent applied behind) (now (out .entry)) (now (out .exit)) r ⌝ }
 {
-    let a = page::put_numbered(out, 0, b"  studio ", i);
-    let b = page::put_numbered(out, a, b": sent ", sent);
-    let c = page::put_numbered(out, b, b", applied ", applied);
-    let d = answer::put_behind(out, c, behind);
-    page::put(out, d, b"\n")
-}
-
-// The first n numbers that a request asks for.
-pub fn put_asked(out: &mut [u8], at: usize, request: &[u8], n: u32) -> usize
-    requires { ⌜ at + 11 * n ≤ length (now out) ⌝ }
-    ensures { λ r. ⌜ Put (askedNumbers (now (request .entry)) n) (now (out .entry)) at (now (out .exit)) r × (r ≤ at + 11 * n) ⌝ }
-{
-    let mut end = at;
-    let mut i: u32 = 0;
-    while i < n {
-        end = page::put_numbered(out, end, b" ", build::asked(request, i));
-        i += 1;
-    }
-    end
+    let a = page::put_pair(out, 0, b"  studio ", i, b": sent ", sent);
+    let b = page::put_numbered(out, a, b", applied ", applied);
+    let c = answer::put_behind(out, b, behind);
+    page::put(out, c, b"\n")
 }
 
 // The edit that a session's read waits for, and the line's end.
@@ -60,8 +42,7 @@ fn put_until(out: &mut [u8], at: usize, own: &[u8]) -> usize
     requires { ⌜ (at + 32 ≤ length (now out)) × (length (now own) ≡ 80) ⌝ }
     ensures { λ r. ⌜ Put (untilText (now (own .entry))) (now (out .entry)) at (now (out .exit)) r ⌝ }
 {
-    let a = page::put_numbered(out, at, b" waits for edit ", bytes::u16_at(own, 2));
-    page::put(out, a, b"\n")
+    page::put_between(out, at, b" waits for edit ", bytes::u16_at(own, 2), b"\n")
 }
 
 // The read that a session has waiting, and the line's end.
@@ -72,7 +53,7 @@ fn put_waiting(out: &mut [u8], at: usize, own: &[u8]) -> usize
     let n = bytes::byte_at(own, 1);
     if own[0] == 1 {
         let a = page::put(out, at, b", its read of carts");
-        let b = put_asked(out, a, own, n);
+        let b = request::put_asked(out, a, own, n);
         return put_until(out, b, own);
     }
     if own[0] == 2 {
@@ -88,10 +69,9 @@ pub fn session(out: &mut [u8], j: u32, studio: u32, own: &[u8]) -> usize
     requires { ⌜ (length (now out) ≡ pageSize) × (length (now own) ≡ 80) ⌝ }
     ensures { λ r. ⌜ Told (sessionText j studio (now (own .entry))) (now (out .entry)) (now (out .exit)) r ⌝ }
 {
-    let a = page::put_numbered(out, 0, b"  session ", j);
-    let b = page::put_numbered(out, a, b" at studio ", studio);
-    let c = page::put_numbered(out, b, b": number ", bytes::u16_at(own, 2));
-    put_waiting(out, c, own)
+    let a = page::put_pair(out, 0, b"  session ", j, b" at studio ", studio);
+    let b = page::put_numbered(out, a, b": number ", bytes::u16_at(own, 2));
+    put_waiting(out, b, own)
 }
 
 // Reads that wait when the transcript ends.

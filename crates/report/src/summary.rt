@@ -21,8 +21,13 @@ pub fn cut(out: &mut [u8], line: u32) -> usize
     requires { ⌜ length (now out) ≡ pageSize ⌝ }
     ensures { λ r. ⌜ Told (cutText line) (now (out .entry)) (now (out .exit)) r ⌝ }
 {
-    let a = page::put_numbered(out, 0, b"\nLEFT OUT: the lines after line ", line);
-    page::put(out, a, b": the transcript has more than 65536 bytes\n")
+    page::put_between(
+        out,
+        0,
+        b"\nLEFT OUT: the lines after line ",
+        line,
+        b": the transcript has more than 65536 bytes\n",
+    )
 }
 
 // How many lines had each outcome.
@@ -30,10 +35,22 @@ fn put_tally(out: &mut [u8], at: usize, tally: Tally) -> usize
     requires { ⌜ at + 128 ≤ length (now out) ⌝ }
     ensures { λ r. ⌜ Put (tallyText tally) (now (out .entry)) at (now (out .exit)) r × (r ≤ at + 128) ⌝ }
 {
-    let a = page::put_numbered(out, at, b"; calls accepted ", tally.accepted);
-    let b = page::put_numbered(out, a, b", waited ", tally.waited);
-    let c = page::put_numbered(out, b, b", refused ", tally.refused);
-    page::put_numbered(out, c, b"; lines that could not be read ", tally.unreadable)
+    let a = page::put_pair(
+        out,
+        at,
+        b"; calls accepted ",
+        tally.accepted,
+        b", waited ",
+        tally.waited,
+    );
+    page::put_pair(
+        out,
+        a,
+        b", refused ",
+        tally.refused,
+        b"; lines that could not be read ",
+        tally.unreadable,
+    )
 }
 
 // How many lines there were, and what came of them.
@@ -41,10 +58,9 @@ pub fn summary(out: &mut [u8], lines: u32, tally: Tally) -> usize
     requires { ⌜ length (now out) ≡ pageSize ⌝ }
     ensures { λ r. ⌜ Told (summaryText lines tally) (now (out .entry)) (now (out .exit)) r ⌝ }
 {
-    let a = page::put(out, 0, b"\nSummary: ");
-    let b = page::put_count(out, a, lines, b"line");
-    let c = put_tally(out, b, tally);
-    page::put(out, c, b"\n")
+    let a = page::put_counted(out, 0, b"\nSummary: ", lines, b"line");
+    let b = put_tally(out, a, tally);
+    page::put(out, b, b"\n")
 }
 
 // No line was a call.

@@ -3,11 +3,9 @@ use mathlib.Core.Path.{_≡_, refl}
 use mathlib.Core.List.{[], _∷_}
 use Rattle.carts.specs.Bytes.{within}
 use Rattle.carts.specs.Cart.{printable}
-use Rattle.lines.specs.declared.cursor.Mistake.the-variants.{NumberMissing}
 use Rattle.lines.specs.Words.{bytesOf}
 use Rattle.words.specs.Page.{digitsOf, decimal, countOf, hexDigit, shownByte, shownTo, shown}
-use Rattle.words.specs.Sentences.{refusalSentence}
-use Rattle.words.specs.Answers.{refusalText, atOperationText, unreadableText, freshText, sentText, behindText, answeredText}
+use Rattle.words.specs.Answers.{freshText, sentText, behindText, answeredText}
 
 pub record Numbers : Type 0 where
   zero : decimal 0 ≡ bytesOf "0"
@@ -31,26 +29,18 @@ numbers = record {
 }
 
 pub record Answers : Type 0 where
-  refused : refusalText 9 ≡ bytesOf "  refused (9): every edit has been sent to this studio\n"
-  unnamed : refusalText 16 ≡ bytesOf "  refused (16): unknown\n"
-  unreadable : unreadableText 3 5 NumberMissing ≡ bytesOf "  line 3, column 5 cannot be read: a number is missing\n"
   fresh : freshText 2 ≡ bytesOf "  a fresh system with 2 studios\n"
   sent : sentText 3 1 ≡ bytesOf "  edit 3 is sent to studio 1\n"
   answered : answeredText 2 0 1 ≡ bytesOf "  answered at edit 2, level with the head end, found 1:\n"
   answered-behind : answeredText 1 2 0 ≡ bytesOf "  answered at edit 1, 2 behind the head end, found 0:\n"
-  operation : atOperationText 2 8 ≡ bytesOf "    it is operation 2 of the commit, on cart 8\n"
   bytes-shown : shown (99 ∷ 9 ∷ 195 ∷ 10 ∷ []) ≡ bytesOf "c\t\\xC3\\x0A"
 
 pub answers : Answers
-unfolding within printable digitsOf decimal countOf hexDigit shownByte shownTo shown refusalSentence refusalText atOperationText unreadableText freshText sentText behindText answeredText
+unfolding within printable digitsOf decimal countOf hexDigit shownByte shownTo shown freshText sentText behindText answeredText
 answers = record {
-  refused = refl;
-  unnamed = refl;
-  unreadable = refl;
   fresh = refl;
   sent = refl;
   answered = refl;
   answered-behind = refl;
-  operation = refl;
   bytes-shown = refl;
 }

@@ -13,7 +13,6 @@ use Rattle.words.specs.Page.{Put, Told, digitsOf, decimal, countOf, oneO
 use Rattle.carts.specs.Bytes.{byte}
 use Rattle.lines.specs.Parse.{begunWith}
 use Rattle.lines.specs.Words.{bytesOf}
-use Rattle.words.specs.Sentences.{refusalSentence}
 use Rattle.lines.specs.Text.{partIn}
 
 -- a text at the page's start
@@ -134,11 +133,3 @@ of-four f m n (suc zero) e h = ap f e
 of-four f m n (suc (suc zero)) e h = ap f e
 of-four f m n (suc (suc (suc zero))) e h = ap f e
 of-four f m n (suc (suc (suc (suc k)))) e h = absurd (omega arith)
-
--- there is no refusal above 15
-pub no-refusal : (n : ℕ) → 16 ≤ n → refusalSentence n ≡ bytesOf "unknown"
-unfolding refusalSentence
-no-refusal n h = rw (other 1 (omega arith), other 2 (omega arith), other 3 (omega arith), other 4 (omega arith), other 5 (omega arith), other 6 (omega arith), other 7 (omega arith), other 8 (omega arith), other 9 (omega arith), other 10 (omega arith), other 11 (omega arith), other 12 (omega arith), other 13 (omega arith), other 14 (omega arith), other 15 (omega arith)) refl
-  where
-    other : (i : ℕ) → i < 16 → eqb n i ≡ false
-    other i l = ne-eqb n i (λ e. omega arith)

@@ -1,31 +1,10 @@
--- The lines that tell what came of a call.
+-- The lines that tell what came of an accepted call.
 use mathlib.Core.Bool.{cond}
 use mathlib.Core.List.{List, _++_}
 use Prim.Native.Nat.{ℕ}
 use lib.Dec.{eqb}
-use Rattle.lines.specs.declared.cursor.Mistake.{Mistake}
 use Rattle.lines.specs.Words.{bytesOf}
-use Rattle.words.specs.Page.{decimal, numbered, countOf}
-use Rattle.words.specs.Sentences.{refusalSentence, mistakeSentence}
-
--- a refusal, by document 01's number
-unfoldable pub refusalText : ℕ → List ℕ
-refusalText n = numbered "  refused (" n ++ bytesOf "): " ++ refusalSentence n ++ bytesOf "\n"
-
--- refusal 3 of a call that names a session, or a studio; the operation for which a commit was refused, counted from 1, and its cart
-unfoldable pub noSessionText : ℕ → List ℕ
-noSessionText session = numbered "  refused (3): there is no session " session ++ bytesOf ", or it is unused\n"
-
-unfoldable pub noStudioText : ℕ → List ℕ
-noStudioText studio = numbered "  refused (3): there is no studio " studio ++ bytesOf "\n"
-
-unfoldable pub atOperationText : ℕ → ℕ → List ℕ
-atOperationText i cart = numbered "    it is operation " i ++ numbered " of the commit, on cart " cart ++ bytesOf "\n"
-
--- a line that cannot be read
-unfoldable pub unreadableText : ℕ → ℕ → Mistake → List ℕ
-unreadableText line column mistake =
-    numbered "  line " line ++ bytesOf ", column " ++ decimal column ++ bytesOf " cannot be read: " ++ mistakeSentence mistake ++ bytesOf "\n"
+use Rattle.words.specs.Page.{numbered, countOf}
 
 -- a setup was accepted, and ends the system before it; a refused one leaves it
 unfoldable pub freshText : ℕ → List ℕ

@@ -1,4 +1,4 @@
 -- What the contracts of words cite.
 pub mod Answers
 pub mod Page
-pub mod Sentences
+pub mod Request

@@ -13,9 +13,8 @@ pub fn fresh(out: &mut [u8], studios: u32) -> usize
     requires { ⌜ length (now out) ≡ pageSize ⌝ }
     ensures { λ r. ⌜ Told (freshText studios) (now (out .entry)) (now (out .exit)) r ⌝ }
 {
-    let a = page::put(out, 0, b"  a fresh system with ");
-    let b = page::put_count(out, a, studios, b"studio");
-    page::put(out, b, b"\n")
+    let a = page::put_counted(out, 0, b"  a fresh system with ", studios, b"studio");
+    page::put(out, a, b"\n")
 }
 
 // A setup ends the system before it.
@@ -39,8 +38,7 @@ pub fn committed(out: &mut [u8], n: u32) -> usize
     requires { ⌜ length (now out) ≡ pageSize ⌝ }
     ensures { λ r. ⌜ Told (committedText n) (now (out .entry)) (now (out .exit)) r ⌝ }
 {
-    let a = page::put_numbered(out, 0, b"  edit ", n);
-    page::put(out, a, b" is committed\n")
+    page::put_between(out, 0, b"  edit ", n, b" is committed\n")
 }
 
 // What became of an edit at a studio.
@@ -49,8 +47,7 @@ fn moved(out: &mut [u8], n: u32, what: &[u8], studio: u32) -> usize
     ensures { λ r. ⌜ Told (numbered "  edit " n ++ (now (what .entry) ++ decimal studio) ++ bytesOf "\n") (now (out .entry)) (now (out .exit)) r ⌝ }
 {
     let a = page::put_numbered(out, 0, b"  edit ", n);
-    let b = page::put_numbered(out, a, what, studio);
-    page::put(out, b, b"\n")
+    page::put_between(out, a, what, studio, b"\n")
 }
 
 // A send was accepted.
@@ -87,8 +84,7 @@ pub fn put_behind(out: &mut [u8], at: usize, edits: u32) -> usize
     if edits == 0 {
         return page::put(out, at, b", level with the head end");
     }
-    let a = page::put_numbered(out, at, b", ", edits);
-    page::put(out, a, b" behind the head end")
+    page::put_between(out, at, b", ", edits, b" behind the head end")
 }
 
 // A read was answered at an edit, so many behind the head end, with so many carts found.
@@ -98,8 +94,7 @@ pub fn answered(out: &mut [u8], state: u32, behind: u32, found: u32) -> usize
 {
     let a = page::put_numbered(out, 0, b"  answered at edit ", state);
     let b = put_behind(out, a, behind);
-    let c = page::put_numbered(out, b, b", found ", found);
-    page::put(out, c, b":\n")
+    page::put_between(out, b, b", found ", found, b":\n")
 }
 
 // A read waits for an edit.
@@ -107,8 +102,7 @@ pub fn waits(out: &mut [u8], n: u32) -> usize
     requires { ⌜ length (now out) ≡ pageSize ⌝ }
     ensures { λ r. ⌜ Told (waitsText n) (now (out .entry)) (now (out .exit)) r ⌝ }
 {
-    let a = page::put_numbered(out, 0, b"  waits for edit ", n);
-    page::put(out, a, b"\n")
+    page::put_between(out, 0, b"  waits for edit ", n, b"\n")
 }
 
 // A read by title found no cart.
@@ -124,6 +118,11 @@ pub fn several(out: &mut [u8], found: u32) -> usize
     requires { ⌜ length (now out) ≡ pageSize ⌝ }
     ensures { λ r. ⌜ Told (severalText found) (now (out .entry)) (now (out .exit)) r ⌝ }
 {
-    let a = page::put_numbered(out, 0, b"    ", found);
-    page::put(out, a, b" carts have this title, so none is shown\n")
+    page::put_between(
+        out,
+        0,
+        b"    ",
+        found,
+        b" carts have this title, so none is shown\n",
+    )
 }

@@ -1,6 +1,6 @@
-// What came of a call in words, as text at the start of a lent page.
+// Text at the start of a lent page: words and numbers, and what came of an accepted call; and a page on standard output.
 pub mod answer;
-pub mod mistake;
+pub mod line;
 pub mod page;
-pub mod refusal;
+pub mod request;
 pub mod shown;

@@ -68,8 +68,26 @@ pub fn put_numbered(out: &mut [u8], at: usize, words: &[u8], n: u32) -> usize
     put_number(out, a, n)
 }
 
+// Words, a number and words after it.
+pub fn put_between(out: &mut [u8], at: usize, words: &[u8], n: u32, more: &[u8]) -> usize
+    requires { ⌜ at + length (now words) + length (now more) + 10 ≤ length (now out) ⌝ }
+    ensures { λ r. ⌜ Put (now (words .entry) ++ decimal n ++ now (more .entry)) (now (out .entry)) at (now (out .exit)) r × (r ≤ at + length (now (words .entry)) + length (now (more .entry)) + 10) ⌝ }
+{
+    let a = put_numbered(out, at, words, n);
+    put(out, a, more)
+}
+
+// Two numbers, each after words.
+pub fn put_pair(out: &mut [u8], at: usize, words: &[u8], n: u32, more: &[u8], m: u32) -> usize
+    requires { ⌜ at + length (now words) + length (now more) + 20 ≤ length (now out) ⌝ }
+    ensures { λ r. ⌜ Put (now (words .entry) ++ decimal n ++ (now (more .entry) ++ decimal m)) (now (out .entry)) at (now (out .exit)) r × (r ≤ at + length (now (words .entry)) + length (now (more .entry)) + 20) ⌝ }
+{
+    let a = put_numbered(out, at, words, n);
+    put_numbered(out, a, more, m)
+}
+
 // A count of things, with an s where it is not 1.
-pub fn put_count(out: &mut [u8], at: usize, n: u32, thing: &[u8]) -> usize
+fn put_count(out: &mut [u8], at: usize, n: u32, thing: &[u8]) -> usize
     requires { ⌜ at + length (now thing) + 12 ≤ length (now out) ⌝ }
     ensures { λ r. ⌜ Put (countOf n (now (thing .entry))) (now (out .entry)) at (now (out .exit)) r × (r ≤ at + length (now (thing .entry)) + 12) ⌝ }
 {
@@ -80,6 +98,15 @@ pub fn put_count(out: &mut [u8], at: usize, n: u32, thing: &[u8]) -> usize
         return c;
     }
     put(out, c, b"s")
+}
+
+// Words, and a count of things after them.
+pub fn put_counted(out: &mut [u8], at: usize, words: &[u8], n: u32, thing: &[u8]) -> usize
+    requires { ⌜ at + length (now words) + length (now thing) + 12 ≤ length (now out) ⌝ }
+    ensures { λ r. ⌜ Put (now (words .entry) ++ countOf n (now (thing .entry))) (now (out .entry)) at (now (out .exit)) r × (r ≤ at + length (now (words .entry)) + length (now (thing .entry)) + 12) ⌝ }
+{
+    let a = put(out, at, words);
+    put_count(out, a, n, thing)
 }
 
 // Text k of four, counted from 0; the last where k is more than 2.

@@ -1,27 +1,26 @@
 use Rattle.report.specs.Lines.{emptyText}
-use Rattle.words.proofs.PageLaws.{told-none, told-more}
+use Rattle.words.proofs.PageLaws.{told-more, told-none}
 use borrow.Author.Needs.{needs}
 use Rattle.report.proofs.cart.empty.Statement.{statement}
 use Rattle.report.proofs.cart.empty.Tie as tie
 
-slice-aggregate-put-numbered : tie.Need-slice-aggregate-put-numbered
-slice-aggregate-put-numbered c = search needs
+slice-aggregate-put-between : tie.Need-slice-aggregate-put-between
+slice-aggregate-put-between c = search needs
 
-put-numbered-requires : tie.Need-put-numbered-requires
-put-numbered-requires c κs = search needs
+slice-aggregate-put-between-2 : tie.Need-slice-aggregate-put-between-2
+slice-aggregate-put-between-2 c = search needs
 
-slice-aggregate-put : tie.Need-slice-aggregate-put
-slice-aggregate-put c = search needs
-
-put-requires : tie.Need-put-requires
-put-requires c κs = search needs
+put-between-requires : tie.Need-put-between-requires
+put-between-requires c κs = search needs
 
 same-length : tie.Need-same-length
 same-length c = search needs
 
 returns : tie.Need-returns
 unfolding emptyText
-returns c = told-more (told-more (told-none _) (c .before .before .before .before .before .before .before .put-numbered .ensures .0)) (c .before .before .put .ensures)
+returns c =
+    let a = c .before .before in
+    told-more (told-none _) (a .put-between .ensures .0)
 
 pub empty-spec : {M : Type 1} → statement M
-empty-spec = tie.close (tie.spec slice-aggregate-put-numbered put-numbered-requires slice-aggregate-put put-requires same-length returns)
+empty-spec = tie.close (tie.spec slice-aggregate-put-between slice-aggregate-put-between-2 put-between-requires same-length returns)

@@ -1,39 +1,37 @@
+use mathlib.Core.List.{append-assoc}
 use Rattle.report.specs.Lines.{headText}
-use Rattle.words.proofs.PageLaws.{told-none, told-more}
+use Rattle.words.proofs.PageLaws.{told-more, told-none}
 use borrow.Author.Needs.{needs}
 use Rattle.report.proofs.state.head_end.Statement.{statement}
 use Rattle.report.proofs.state.head_end.Tie as tie
 
-slice-aggregate-put : tie.Need-slice-aggregate-put
-slice-aggregate-put c = search needs
+slice-aggregate-put-counted : tie.Need-slice-aggregate-put-counted
+slice-aggregate-put-counted c = search needs
 
-put-requires : tie.Need-put-requires
-put-requires c κs = search needs
+slice-aggregate-put-counted-2 : tie.Need-slice-aggregate-put-counted-2
+slice-aggregate-put-counted-2 c = search needs
 
-slice-aggregate-put-count : tie.Need-slice-aggregate-put-count
-slice-aggregate-put-count c = search needs
+put-counted-requires : tie.Need-put-counted-requires
+put-counted-requires c κs = search needs
 
-put-count-requires : tie.Need-put-count-requires
-put-count-requires c κs = search needs
+slice-aggregate-put-between : tie.Need-slice-aggregate-put-between
+slice-aggregate-put-between c = search needs
 
-slice-aggregate-put-numbered : tie.Need-slice-aggregate-put-numbered
-slice-aggregate-put-numbered c = search needs
+slice-aggregate-put-between-2 : tie.Need-slice-aggregate-put-between-2
+slice-aggregate-put-between-2 c = search needs
 
-put-numbered-requires : tie.Need-put-numbered-requires
-put-numbered-requires c κs = search needs
-
-slice-aggregate-put-2 : tie.Need-slice-aggregate-put-2
-slice-aggregate-put-2 c = search needs
-
-put-requires-2 : tie.Need-put-requires-2
-put-requires-2 c κs = search needs
+put-between-requires : tie.Need-put-between-requires
+put-between-requires c κs = search needs
 
 same-length : tie.Need-same-length
 same-length c = search needs
 
 returns : tie.Need-returns
 unfolding headText
-returns c = told-more (told-more (told-more (told-more (told-none _) (c .before .before .before .before .before .before .before .before .before .before .before .before .before .before .before .before .before .put .ensures)) (c .before .before .before .before .before .before .before .before .before .before .before .before .put-count .ensures .0)) (c .before .before .before .before .before .before .before .put-numbered .ensures .0)) (c .before .before .put2 .ensures)
+returns c =
+    let b = c .before .before in
+    let a = b .before .before .before .before .before .before in
+    rw append-assoc (told-more (told-more (told-none _) (a .put-counted .ensures .0)) (b .put-between .ensures .0))
 
 pub head-end-spec : {M : Type 1} → statement M
-head-end-spec = tie.close (tie.spec slice-aggregate-put put-requires slice-aggregate-put-count put-count-requires slice-aggregate-put-numbered put-numbered-requires slice-aggregate-put-2 put-requires-2 same-length returns)
+head-end-spec = tie.close (tie.spec slice-aggregate-put-counted slice-aggregate-put-counted-2 put-counted-requires slice-aggregate-put-between slice-aggregate-put-between-2 put-between-requires same-length returns)

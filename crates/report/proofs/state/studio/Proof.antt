@@ -1,26 +1,23 @@
 use Rattle.report.specs.Lines.{studioText}
-use Rattle.words.proofs.PageLaws.{told-none, told-more}
+use Rattle.words.proofs.PageLaws.{told-more, told-none}
 use borrow.Author.Needs.{needs}
 use Rattle.report.proofs.state.studio.Statement.{statement}
 use Rattle.report.proofs.state.studio.Tie as tie
+
+slice-aggregate-put-pair : tie.Need-slice-aggregate-put-pair
+slice-aggregate-put-pair c = search needs
+
+slice-aggregate-put-pair-2 : tie.Need-slice-aggregate-put-pair-2
+slice-aggregate-put-pair-2 c = search needs
+
+put-pair-requires : tie.Need-put-pair-requires
+put-pair-requires c κs = search needs
 
 slice-aggregate-put-numbered : tie.Need-slice-aggregate-put-numbered
 slice-aggregate-put-numbered c = search needs
 
 put-numbered-requires : tie.Need-put-numbered-requires
 put-numbered-requires c κs = search needs
-
-slice-aggregate-put-numbered-2 : tie.Need-slice-aggregate-put-numbered-2
-slice-aggregate-put-numbered-2 c = search needs
-
-put-numbered-requires-2 : tie.Need-put-numbered-requires-2
-put-numbered-requires-2 c κs = search needs
-
-slice-aggregate-put-numbered-3 : tie.Need-slice-aggregate-put-numbered-3
-slice-aggregate-put-numbered-3 c = search needs
-
-put-numbered-requires-3 : tie.Need-put-numbered-requires-3
-put-numbered-requires-3 c κs = search needs
 
 put-behind-requires : tie.Need-put-behind-requires
 put-behind-requires c κs = search needs
@@ -36,7 +33,12 @@ same-length c = search needs
 
 returns : tie.Need-returns
 unfolding studioText
-returns c = told-more (told-more (told-more (told-more (told-more (told-none _) (c .before .before .before .before .before .before .before .before .before .before .before .before .before .before .before .before .before .before .before .before .before .put-numbered .ensures .0)) (c .before .before .before .before .before .before .before .before .before .before .before .before .before .before .before .before .put-numbered2 .ensures .0)) (c .before .before .before .before .before .before .before .before .before .before .before .put-numbered3 .ensures .0)) (c .before .before .before .before .before .before .before .put-behind .ensures .0)) (c .before .before .put .ensures)
+returns c =
+    let e = c .before .before in
+    let d = e .before .before .before .before .before in
+    let b = d .before .before .before .before in
+    let a = b .before .before .before .before .before in
+    told-more (told-more (told-more (told-more (told-none _) (a .put-pair .ensures .0)) (b .put-numbered .ensures .0)) (d .put-behind .ensures .0)) (e .put .ensures)
 
 pub studio-spec : {M : Type 1} → statement M
-studio-spec = tie.close (tie.spec slice-aggregate-put-numbered put-numbered-requires slice-aggregate-put-numbered-2 put-numbered-requires-2 slice-aggregate-put-numbered-3 put-numbered-requires-3 put-behind-requires slice-aggregate-put put-requires same-length returns)
+studio-spec = tie.close (tie.spec slice-aggregate-put-pair slice-aggregate-put-pair-2 put-pair-requires slice-aggregate-put-numbered put-numbered-requires put-behind-requires slice-aggregate-put put-requires same-length returns)

@@ -1,8 +1,17 @@
 use Rattle.words.specs.Answers.{freshText}
-use Rattle.words.proofs.PageLaws.{told-none, told-more}
+use Rattle.words.proofs.PageLaws.{told-more, told-none}
 use borrow.Author.Needs.{needs}
 use Rattle.words.proofs.answer.fresh.Statement.{statement}
 use Rattle.words.proofs.answer.fresh.Tie as tie
+
+slice-aggregate-put-counted : tie.Need-slice-aggregate-put-counted
+slice-aggregate-put-counted c = search needs
+
+slice-aggregate-put-counted-2 : tie.Need-slice-aggregate-put-counted-2
+slice-aggregate-put-counted-2 c = search needs
+
+put-counted-requires : tie.Need-put-counted-requires
+put-counted-requires c κs = search needs
 
 slice-aggregate-put : tie.Need-slice-aggregate-put
 slice-aggregate-put c = search needs
@@ -10,24 +19,15 @@ slice-aggregate-put c = search needs
 put-requires : tie.Need-put-requires
 put-requires c κs = search needs
 
-slice-aggregate-put-count : tie.Need-slice-aggregate-put-count
-slice-aggregate-put-count c = search needs
-
-put-count-requires : tie.Need-put-count-requires
-put-count-requires c κs = search needs
-
-slice-aggregate-put-2 : tie.Need-slice-aggregate-put-2
-slice-aggregate-put-2 c = search needs
-
-put-requires-2 : tie.Need-put-requires-2
-put-requires-2 c κs = search needs
-
 same-length : tie.Need-same-length
 same-length c = search needs
 
 returns : tie.Need-returns
 unfolding freshText
-returns c = told-more (told-more (told-more (told-none _) (c .before .before .before .before .before .before .before .before .before .before .before .before .put .ensures)) (c .before .before .before .before .before .before .before .put-count .ensures .0)) (c .before .before .put2 .ensures)
+returns c =
+    let b = c .before .before in
+    let a = b .before .before .before .before .before in
+    told-more (told-more (told-none _) (a .put-counted .ensures .0)) (b .put .ensures)
 
 pub fresh-spec : {M : Type 1} → statement M
-fresh-spec = tie.close (tie.spec slice-aggregate-put put-requires slice-aggregate-put-count put-count-requires slice-aggregate-put-2 put-requires-2 same-length returns)
+fresh-spec = tie.close (tie.spec slice-aggregate-put-counted slice-aggregate-put-counted-2 put-counted-requires slice-aggregate-put put-requires same-length returns)

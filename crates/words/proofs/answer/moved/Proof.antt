@@ -1,4 +1,5 @@
-use Rattle.words.proofs.PageLaws.{told-none, told-more}
+use mathlib.Core.List.{append-assoc}
+use Rattle.words.proofs.PageLaws.{told-more, told-none}
 use borrow.Author.Needs.{needs}
 use Rattle.words.proofs.answer.moved.Statement.{statement}
 use Rattle.words.proofs.answer.moved.Tie as tie
@@ -9,20 +10,20 @@ slice-aggregate-put-numbered c = search needs
 put-numbered-requires : tie.Need-put-numbered-requires
 put-numbered-requires c κs = search needs
 
-put-numbered-requires-2 : tie.Need-put-numbered-requires-2
-put-numbered-requires-2 c κs = search needs
+slice-aggregate-put-between : tie.Need-slice-aggregate-put-between
+slice-aggregate-put-between c = search needs
 
-slice-aggregate-put : tie.Need-slice-aggregate-put
-slice-aggregate-put c = search needs
-
-put-requires : tie.Need-put-requires
-put-requires c κs = search needs
+put-between-requires : tie.Need-put-between-requires
+put-between-requires c κs = search needs
 
 same-length : tie.Need-same-length
 same-length c = search needs
 
 returns : tie.Need-returns
-returns c = told-more (told-more (told-more (told-none _) (c .before .before .before .before .before .before .before .before .before .before .before .put-numbered .ensures .0)) (c .before .before .before .before .before .before .before .put-numbered2 .ensures .0)) (c .before .before .put .ensures)
+returns c =
+    let b = c .before .before in
+    let a = b .before .before .before .before .before in
+    rw append-assoc (told-more (told-more (told-none _) (a .put-numbered .ensures .0)) (b .put-between .ensures .0))
 
 pub moved-spec : {M : Type 1} → statement M
-moved-spec = tie.close (tie.spec slice-aggregate-put-numbered put-numbered-requires put-numbered-requires-2 slice-aggregate-put put-requires same-length returns)
+moved-spec = tie.close (tie.spec slice-aggregate-put-numbered put-numbered-requires slice-aggregate-put-between put-between-requires same-length returns)

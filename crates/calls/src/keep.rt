@@ -1,0 +1,43 @@
+// What came of a line, kept in the journal.
+use crate::make::Came;
+use crate::make::Turn;
+use journal::progress::Progress;
+use lines::text;
+use replication::answer::CountResult;
+use replication::answer::ReadResult;
+use replication::answer::SetupResult;
+use replication::record::Record;
+ghost use mathlib.Core.Path.{_≡_};
+ghost use Prim.Native.Nat.{_≤_};
+ghost use lib.ListN.{length};
+
+// What is carried on after a line, with the payload that its call had and the block of a read.
+pub fn keep(
+    p: Progress,
+    turn: Turn,
+    cells: &mut [u32],
+    store: &mut [u8],
+    payload: &[u8],
+    block: &[u8],
+) -> Progress
+    requires { ⌜ (length (now cells) ≡ 8192) × (p .history .entries ≤ 1024) ⌝ }
+    ensures { λ r. ⌜ r .history .entries ≤ 1024 ⌝ }
+{
+    let came = turn.came;
+    let control = turn.control;
+    match came {
+        Came::Setup(answer, _) => p.after_setup(SetupResult { answer, control }),
+        Came::Commit(answer, session, operations) => {
+            let ops = text::part_of(payload, 0, Record::SIZE * (operations as usize));
+            let result = CountResult { answer, control };
+            p.after_commit(result, cells, store, session, ops)
+        }
+        Came::Moved(answer, _, _) => p.after_move(CountResult { answer, control }),
+        Came::Read(answer, session) => {
+            let result = ReadResult { answer, control };
+            p.after_read(result, cells, store, session, block)
+        }
+        Came::Unreadable(_, _) => p.unreadable(),
+        _ => p,
+    }
+}

@@ -1,0 +1,3 @@
+// The calls of a transcript: each is made on the engine, and what came of it is kept in the journal.
+pub mod keep;
+pub mod make;

@@ -1,0 +1,28 @@
+-- WORKED EXAMPLES of the lines of an order, by computation.
+use mathlib.Core.Path.{_≡_, refl}
+use mathlib.Core.List.{[], _∷_, _++_}
+use Rattle.carts.specs.Bytes.{zeros, u16, u32, u16Bytes}
+use Rattle.lines.specs.Build.{u32Bytes, titleField, operationBytes, u16List, numbersBytes}
+use Rattle.lines.specs.Words.{bytesOf}
+use Rattle.words.specs.Page.{digitsOf, decimal, countOf, quoted}
+use Rattle.words.specs.Request.{askedNumbers}
+use Rattle.order_lines.specs.Order.{placeText, editText, operationText, requestText, askedText, reasonText, shownText, unlikeText, verdictText}
+
+pub record Lines : Type 0 where
+  edit : editText (record { kind = 1; line = 5; session = 1; number = 3; found = 0; first = 0; slots = 1 }) ≡ bytesOf "  line 5, session 1: edit 3:"
+  operation : operationText (operationBytes 3 20 501 8000 []) ≡ bytesOf " re-cut cart 20"
+  asked : askedText (record { kind = 2; line = 6; session = 2; number = 2; found = 1; first = 1; slots = 2 }) (numbersBytes (7 ∷ [])) ≡ bytesOf "  line 6, session 2: asked for carts 7"
+  stands-earlier : shownText (record { kind = 2; line = 6; session = 2; number = 2; found = 1; first = 1; slots = 2 }) (record { kind = 1; line = 5; session = 1; number = 3; found = 0; first = 0; slots = 1 }) ≡ bytesOf ", shown edit 2 (found 1), so it stands before edit 3 of line 5"
+  all-same : verdictText 2 2 0 ≡ bytesOf "  2 answers, each the same on a single library\n"
+  one-differs : verdictText 2 2 1 ≡ bytesOf "  2 answers compared, 1 different; 2 were to be compared\n"
+
+pub lines : Lines
+unfolding zeros u16 u32 u16Bytes u32Bytes titleField operationBytes u16List numbersBytes digitsOf decimal countOf quoted askedNumbers placeText editText operationText requestText askedText reasonText shownText unlikeText verdictText
+lines = record {
+  edit = refl;
+  operation = refl;
+  asked = refl;
+  stands-earlier = refl;
+  all-same = refl;
+  one-differs = refl;
+}

@@ -1,0 +1,2 @@
+-- What the contracts of order_lines cite.
+pub mod Order

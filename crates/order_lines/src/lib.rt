@@ -1,0 +1,3 @@
+// The one-copy order: in words, and printed.
+pub mod entries;
+pub mod order;

@@ -1,0 +1,59 @@
+// Refusals and lines that cannot be read, printed.
+use crate::mistake;
+use crate::refusal;
+use carts::bytes;
+use carts::cart::Cart;
+use lines::cursor::Mistake;
+use lines::text;
+use words::line;
+
+// A refusal by document 01's number, and what it means.
+pub fn refusal(row: u32) {
+    let mut page = io::buffer();
+    let n = refusal::refusal(&mut page, row);
+    line::told(&page, n);
+}
+
+// Refusal 3 names the session that a call names.
+pub fn refusal_of_session(row: u32, session: u32) {
+    if row != 3 {
+        refusal(row);
+        return;
+    }
+    let mut page = io::buffer();
+    let n = refusal::no_session(&mut page, session);
+    line::told(&page, n);
+}
+
+// Refusal 3 names the studio that a call names.
+pub fn refusal_of_studio(row: u32, studio: u32) {
+    if row != 3 {
+        refusal(row);
+        return;
+    }
+    let mut page = io::buffer();
+    let n = refusal::no_studio(&mut page, studio);
+    line::told(&page, n);
+}
+
+// Operation i, counted from 1, and its cart.
+pub fn at_operation(ops: &[u8], i: u32) {
+    if i == 0 {
+        return;
+    }
+    let op = text::part_of(ops, Cart::SIZE * (i as usize - 1), Cart::SIZE);
+    if op.len() != Cart::SIZE {
+        return;
+    }
+    let mut page = io::buffer();
+    let n = refusal::at_operation(&mut page, i, bytes::u16_at(op, 2));
+    line::told(&page, n);
+}
+
+// A line that is no call.
+pub fn unreadable(number: u32, mistake: Mistake, at: usize) {
+    let column = std::num::wrapping_add_u64(at as u64, 1);
+    let mut page = io::buffer();
+    let n = mistake::unreadable(&mut page, number, column, mistake);
+    line::told(&page, n);
+}

@@ -1,0 +1,133 @@
+// Refusals in words.
+use words::page;
+ghost use mathlib.Core.Path.{_≡_};
+ghost use Prim.Native.Nat.{ℕ, _+_, _<_, _≤_};
+ghost use lib.ListN.{length};
+ghost use Rattle.words.specs.Page.{pageSize, Put, Told};
+ghost use Rattle.refusals.specs.Sentences.{refusalSentence};
+ghost use Rattle.refusals.specs.Refusals.{refusalText, noSessionText, noStudioText, atOperationText};
+
+// What refusals 1 to 3 mean; there is no refusal 0.
+fn put_to_3(out: &mut [u8], at: usize, n: u32) -> usize
+    requires { ⌜ (at + 128 ≤ length (now out)) × (n < 4) ⌝ }
+    ensures { λ r. ⌜ Put (refusalSentence n) (now (out .entry)) at (now (out .exit)) r × (r ≤ at + 128) ⌝ }
+{
+    page::put_one_of(
+        out,
+        at,
+        n,
+        b"unknown",
+        b"a memory has another length",
+        b"there is no system yet, or its memory is not of the layout",
+        b"no such session or studio",
+    )
+}
+
+// What refusals 4 to 7 mean.
+fn put_to_7(out: &mut [u8], at: usize, n: u32) -> usize
+    requires { ⌜ (at + 128 ≤ length (now out)) × (4 ≤ n) × (n < 8) ⌝ }
+    ensures { λ r. ⌜ Put (refusalSentence n) (now (out .entry)) at (now (out .exit)) r × (r ≤ at + 128) ⌝ }
+{
+    page::put_one_of(
+        out,
+        at,
+        n - 4,
+        b"a read of this session is waiting; collect it first",
+        b"a commit has one to eight operations",
+        b"an operation is out of form: cart 1 to 128, title of 1 to 64 letters, audio and length at least 1",
+        b"the log has no room for these operations",
+    )
+}
+
+// What refusals 8 to 11 mean.
+fn put_to_11(out: &mut [u8], at: usize, n: u32) -> usize
+    requires { ⌜ (at + 128 ≤ length (now out)) × (8 ≤ n) × (n < 12) ⌝ }
+    ensures { λ r. ⌜ Put (refusalSentence n) (now (out .entry)) at (now (out .exit)) r × (r ≤ at + 128) ⌝ }
+{
+    page::put_one_of(
+        out,
+        at,
+        n - 8,
+        b"an operation meets its cart in the wrong state: new asks for an empty cart, the others for a held one",
+        b"every edit has been sent to this studio",
+        b"32 edits have been sent to this studio and not applied",
+        b"this studio has applied all that was sent to it",
+    )
+}
+
+// What refusals 12 to 15 mean.
+fn put_to_15(out: &mut [u8], at: usize, n: u32) -> usize
+    requires { ⌜ (at + 128 ≤ length (now out)) × (12 ≤ n) × (n < 16) ⌝ }
+    ensures { λ r. ⌜ Put (refusalSentence n) (now (out .entry)) at (now (out .exit)) r × (r ≤ at + 128) ⌝ }
+{
+    page::put_one_of(
+        out,
+        at,
+        n - 12,
+        b"the request is out of form: 1 to 32 carts from 1 to 128, or a title of 1 to 64 letters",
+        b"the output has no room for the carts asked for",
+        b"no read of this session is waiting",
+        b"a system has 1 to 4 studios, and each session one of them or 0",
+    )
+}
+
+// What a refusal means.
+fn put_sentence(out: &mut [u8], at: usize, n: u32) -> usize
+    requires { ⌜ at + 128 ≤ length (now out) ⌝ }
+    ensures { λ r. ⌜ Put (refusalSentence n) (now (out .entry)) at (now (out .exit)) r × (r ≤ at + 128) ⌝ }
+{
+    if n < 4 {
+        return put_to_3(out, at, n);
+    }
+    if n < 8 {
+        return put_to_7(out, at, n);
+    }
+    if n < 12 {
+        return put_to_11(out, at, n);
+    }
+    if n < 16 {
+        return put_to_15(out, at, n);
+    }
+    page::put(out, at, b"unknown")
+}
+
+// A refusal by document 01's number, and what it means.
+pub fn refusal(out: &mut [u8], n: u32) -> usize
+    requires { ⌜ length (now out) ≡ pageSize ⌝ }
+    ensures { λ r. ⌜ Told (refusalText n) (now (out .entry)) (now (out .exit)) r ⌝ }
+{
+    let a = page::put_between(out, 0, b"  refused (", n, b"): ");
+    let b = put_sentence(out, a, n);
+    page::put(out, b, b"\n")
+}
+
+// Refusal 3 of a call that names a session.
+pub fn no_session(out: &mut [u8], session: u32) -> usize
+    requires { ⌜ length (now out) ≡ pageSize ⌝ }
+    ensures { λ r. ⌜ Told (noSessionText session) (now (out .entry)) (now (out .exit)) r ⌝ }
+{
+    page::put_between(
+        out,
+        0,
+        b"  refused (3): there is no session ",
+        session,
+        b", or it is unused\n",
+    )
+}
+
+// Refusal 3 of a call that names a studio.
+pub fn no_studio(out: &mut [u8], studio: u32) -> usize
+    requires { ⌜ length (now out) ≡ pageSize ⌝ }
+    ensures { λ r. ⌜ Told (noStudioText studio) (now (out .entry)) (now (out .exit)) r ⌝ }
+{
+    page::put_between(out, 0, b"  refused (3): there is no studio ", studio, b"\n")
+}
+
+// The operation for which a commit was refused, counted from 1, and its cart.
+pub fn at_operation(out: &mut [u8], i: u32, cart: u32) -> usize
+    requires { ⌜ length (now out) ≡ pageSize ⌝ }
+    ensures { λ r. ⌜ Told (atOperationText i cart) (now (out .entry)) (now (out .exit)) r ⌝ }
+{
+    let a = page::put_numbered(out, 0, b"    it is operation ", i);
+    page::put_between(out, a, b" of the commit, on cart ", cart, b"\n")
+}
