@@ -1,12 +1,12 @@
 // What came of a line, kept in the journal.
-use crate::make::Came;
-use crate::make::Turn;
 use journal::progress::Progress;
 use lines::text;
 use replication::answer::CountResult;
 use replication::answer::ReadResult;
 use replication::answer::SetupResult;
 use replication::record::Record;
+use report::turn::Came;
+use report::turn::Turn;
 ghost use mathlib.Core.Path.{_≡_};
 ghost use Prim.Native.Nat.{_≤_};
 ghost use lib.ListN.{length};

@@ -1,12 +1,8 @@
 // The calls of a transcript, made on the engine.
 use journal::history;
 use journal::progress;
-use lines::cursor::Mistake;
 use lines::parse::Call;
 use lines::text;
-use replication::answer::CountAnswer;
-use replication::answer::ReadAnswer;
-use replication::answer::SetupAnswer;
 use replication::collect::collect;
 use replication::commit::commit;
 use replication::control::Control;
@@ -16,26 +12,10 @@ use replication::refresh::refresh;
 use replication::send::send;
 use replication::session::Session;
 use replication::setup::setup;
+use report::turn::Came;
+use report::turn::Turn;
 ghost use mathlib.Core.Path.{_≡_};
 ghost use lib.ListN.{length};
-
-// What came of a line: the answer of a call and what the call named, the studios, the session and how many operations, the
-// studio and whether it is a send, or the session; a line that shows the state, that cannot be read, or that is no call.
-pub enum Came {
-    Setup(SetupAnswer, u32),
-    Commit(CountAnswer, u32, u32),
-    Moved(CountAnswer, u32, bool),
-    Read(ReadAnswer, u32),
-    Show,
-    Unreadable(Mistake, usize),
-    Nothing,
-}
-
-// What came of a line, and control after it.
-pub struct Turn {
-    pub came: Came,
-    pub control: Control,
-}
 
 // A read, with its request at the start of its block and its output after it.
 fn make_read(

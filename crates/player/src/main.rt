@@ -3,7 +3,6 @@
 mod play;
 
 use journal::progress::Progress;
-use journal::status;
 use lines::input;
 use lines::parse;
 use lines::text;
@@ -65,20 +64,6 @@ fn play_lines(
     player
 }
 
-// The summary, the reads that wait and the order of what came last; the status goes to `play`.
-fn tell_end(player: Progress, sessions: &[u8], cells: &[u32], store: &[u8], cut: bool)
-    requires { ⌜ player .history .entries ≤ 1024 ⌝ }
-{
-    if cut {
-        report::transcript::cut_after(player.line);
-    }
-    report::transcript::summary(player);
-    report::show::waiting(player.control, sessions);
-    let same = print::order::show_order(player.history, cells, store);
-    let last = player.compared(same);
-    words::line::status(status::status(!cut, last.tally));
-}
-
 // Every line, then the end.
 fn play_all(
     library: &mut [u8],
@@ -92,7 +77,7 @@ fn play_all(
     requires { ⌜ length (now cells) ≡ 8192 ⌝ }
 {
     let player = play_lines(library, log, sessions, cells, store, bytes, cut);
-    tell_end(player, sessions, cells, store, cut);
+    print::end::tell_end(player, sessions, cells, store, cut);
 }
 
 // All memory is on the stack.

@@ -1,3 +1,5 @@
-// What came of a call and the one-copy order, on standard output.
+// What came of a line, the one-copy order and the end of a transcript, on standard output.
 pub mod answer;
+pub mod end;
 pub mod order;
+pub mod tell;

@@ -1,6 +1,7 @@
-// Carts, the state and the whole transcript: in words, and printed.
+// What came of a line; carts, the state and the whole transcript: in words, and printed.
 pub mod cart;
 pub mod show;
 pub mod state;
 pub mod summary;
 pub mod transcript;
+pub mod turn;

@@ -1,0 +1,62 @@
+// What came of a line, printed.
+use crate::answer;
+use journal::progress::Progress;
+use lines::text;
+use replication::answer::SetupAnswer;
+use replication::record::Record;
+use report::show;
+use report::turn::Came;
+ghost use Prim.Native.Nat.{_≤_};
+
+// A setup was answered; the answer is whether the order that it ended is the same on a single library.
+fn tell_setup(
+    before: Progress,
+    answer: SetupAnswer,
+    cells: &[u32],
+    store: &[u8],
+    studios: u32,
+) -> bool
+    requires { ⌜ before .history .entries ≤ 1024 ⌝ }
+{
+    let control = before.control;
+    let is_running = control.studios != 0;
+    answer::made(answer, before.history, cells, store, studios, is_running)
+}
+
+// A read or a collect was answered, a line shows the state or cannot be read.
+fn tell_other(before: Progress, came: Came, library: &[u8], sessions: &[u8], block: &[u8]) {
+    let control = before.control;
+    match came {
+        Came::Read(answer, session) => { answer::read(answer, control.commits, session, block) }
+        Came::Show => show::show(control, library, sessions),
+        Came::Unreadable(mistake, at) => refusals::print::unreadable(before.line, mistake, at),
+        _ => {}
+    }
+}
+
+// What came of a line, printed; the answer is whether an order that it ended is the same on a single library.
+pub fn tell(
+    before: Progress,
+    came: Came,
+    library: &[u8],
+    sessions: &[u8],
+    cells: &[u32],
+    store: &[u8],
+    payload: &[u8],
+    block: &[u8],
+) -> bool
+    requires { ⌜ before .history .entries ≤ 1024 ⌝ }
+{
+    match came {
+        Came::Setup(answer, studios) => {
+            return tell_setup(before, answer, cells, store, studios);
+        }
+        Came::Commit(answer, session, operations) => {
+            let ops = text::part_of(payload, 0, Record::SIZE * (operations as usize));
+            answer::committed(answer, library, session, ops);
+        }
+        Came::Moved(answer, studio, is_sent) => answer::moved(answer, studio, is_sent),
+        _ => tell_other(before, came, library, sessions, block),
+    }
+    true
+}
