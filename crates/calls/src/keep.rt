@@ -10,6 +10,7 @@ use report::turn::Turn;
 ghost use mathlib.Core.Path.{_≡_};
 ghost use Prim.Native.Nat.{_≤_};
 ghost use lib.ListN.{length};
+ghost use Rattle.journal.specs.History.{mostEntries, cellsSize};
 
 // What is carried on after a line, with the payload that its call had and the block of a read.
 pub fn keep(
@@ -20,8 +21,8 @@ pub fn keep(
     payload: &[u8],
     block: &[u8],
 ) -> Progress
-    requires { ⌜ (length (now cells) ≡ 8192) × (p .history .entries ≤ 1024) ⌝ }
-    ensures { λ r. ⌜ r .history .entries ≤ 1024 ⌝ }
+    requires { ⌜ (length (now cells) ≡ cellsSize) × (p .history .entries ≤ mostEntries) ⌝ }
+    ensures { λ r. ⌜ r .history .entries ≤ mostEntries ⌝ }
 {
     let came = turn.came;
     let control = turn.control;

@@ -1,5 +1,6 @@
 // The calls of a transcript, made on the engine.
 use journal::history;
+use journal::history::Entry;
 use journal::progress;
 use lines::parse::Call;
 use lines::text;
@@ -16,6 +17,7 @@ use report::turn::Came;
 use report::turn::Turn;
 ghost use mathlib.Core.Path.{_≡_};
 ghost use lib.ListN.{length};
+ghost use Rattle.journal.specs.History.{mostBytes};
 
 // A read, with its request at the start of its block and its output after it.
 fn make_read(
@@ -27,10 +29,10 @@ fn make_read(
     request: &[u8],
     block: &mut [u8],
 ) -> Turn
-    requires { ⌜ length (now block) ≡ 2640 ⌝ }
+    requires { ⌜ length (now block) ≡ mostBytes ⌝ }
 {
     progress::put_request(block, request);
-    let output = &mut block[Session::SIZE..2640];
+    let output = &mut block[Session::SIZE..Entry::MOST_BYTES];
     let result = read(control, library, log, sessions, session, request, output);
     let answer = result.answer;
     let control = result.control;
@@ -50,10 +52,10 @@ fn make_collect(
     store: &[u8],
     block: &mut [u8],
 ) -> Turn
-    requires { ⌜ length (now block) ≡ 2640 ⌝ }
+    requires { ⌜ length (now block) ≡ mostBytes ⌝ }
 {
     progress::put_request(block, history::kept_request(store, session));
-    let output = &mut block[Session::SIZE..2640];
+    let output = &mut block[Session::SIZE..Entry::MOST_BYTES];
     let result = collect(control, library, log, sessions, session, output);
     let answer = result.answer;
     let control = result.control;
@@ -116,7 +118,7 @@ fn make_edit(
 ) -> Turn {
     match call {
         Call::Setup(studios) => {
-            let places = text::part_of(payload, 0, 16);
+            let places = text::part_of(payload, 0, Session::COUNT as usize);
             let result = setup(library, log, sessions, studios, places);
             let answer = result.answer;
             let control = result.control;
@@ -154,7 +156,7 @@ pub fn make(
     payload: &[u8],
     block: &mut [u8],
 ) -> Turn
-    requires { ⌜ length (now block) ≡ 2640 ⌝ }
+    requires { ⌜ length (now block) ≡ mostBytes ⌝ }
 {
     match call {
         Call::Read(session) => {

@@ -36,6 +36,11 @@ const ANY: u32 = 4294967295;
 
 const TWO_BYTES: u32 = 65535;
 
+// The studios of a setup's sessions, and the numbers of a read, at most.
+const STUDIOS: usize = 16;
+
+const NUMBERS: usize = 32;
+
 // How many numbers were read.
 pub struct Counted {
     pub count: usize,
@@ -193,11 +198,11 @@ fn setup(s: &[u8], c: Cursor, payload: &mut [u8]) -> Call
     ensures { λ r. ⌜ Means (setupAt (now (s .entry)) c) (now (payload .entry)) (now (payload .exit)) r ⌝ }
 {
     let studios = cursor::number(s, c, ANY);
-    let mut places = [0u32; 16];
+    let mut places = [0u32; STUDIOS];
     let colon = cursor::mark(s, studios.cursor, 58, Mistake::ColonMissing);
     let read = numbers(s, colon, 255, &mut places);
     let n = read.count;
-    build::put_studios(&mut payload[0..16], &places[..n]);
+    build::put_studios(&mut payload[0..STUDIOS], &places[..n]);
     whole(s, read.cursor, Call::Setup(studios.value))
 }
 
@@ -236,7 +241,7 @@ fn numbers_request(s: &[u8], c: Cursor, request: &mut [u8]) -> Cursor
     requires { ⌜ length (now request) ≡ cartSize ⌝ }
     ensures { λ r. ⌜ gathered (now (request .exit)) r ≡ numbersRequestAt (now (s .entry)) c ⌝ }
 {
-    let mut carts = [0u32; 32];
+    let mut carts = [0u32; NUMBERS];
     let read = numbers(s, c, TWO_BYTES, &mut carts);
     let n = read.count;
     build::put_numbers(request, &carts[..n]);

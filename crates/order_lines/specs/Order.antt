@@ -3,6 +3,7 @@ use mathlib.Core.Bool.{Bool, cond, _&&_}
 use mathlib.Core.List.{List, [], _++_}
 use Prim.Native.Nat.{ℕ}
 use lib.Dec.{eqb, ltb}
+use Rattle.carts.specs.Cart.{titleAt}
 use Rattle.carts.specs.Bytes.{byte, u16}
 use Rattle.lines.specs.Text.{partIn}
 use Rattle.lines.specs.Words.{bytesOf}
@@ -32,7 +33,7 @@ operationText op =
 unfoldable pub requestText : List ℕ → List ℕ
 requestText request =
     cond (eqb (byte request 0) 1) (bytesOf ": asked for carts" ++ askedNumbers request (byte request 1))
-    (bytesOf ": asked for title " ++ quoted (partIn request 16 (byte request 1)))
+    (bytesOf ": asked for title " ++ quoted (partIn request titleAt (byte request 1)))
 
 unfoldable pub askedText : Entry → List ℕ → List ℕ
 askedText e request = placeText e ++ requestText request

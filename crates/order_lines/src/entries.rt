@@ -6,6 +6,7 @@ use lines::text;
 use words::line;
 ghost use Prim.Native.Nat.{_<_, _≤_};
 ghost use lib.ListN.{length};
+ghost use Rattle.journal.specs.History.{mostEntries};
 
 // An operation, after the one before it.
 fn operation(op: &[u8], is_first: bool) {
@@ -134,7 +135,7 @@ fn if_edit(e: Entry) -> u32
 
 // How many of the first n entries are edits.
 pub fn edits(cells: &[u32], n: u32) -> u32
-    requires { ⌜ n ≤ 1024 ⌝ }
+    requires { ⌜ n ≤ mostEntries ⌝ }
     ensures { λ r. ⌜ r ≤ n ⌝ }
 {
     let mut count: u32 = 0;

@@ -6,6 +6,7 @@ use words::request;
 ghost use mathlib.Core.Path.{_≡_};
 ghost use Prim.Native.Nat.{ℕ, _+_, _≤_};
 ghost use lib.ListN.{length};
+ghost use Rattle.carts.specs.Cart.{cartSize};
 ghost use Rattle.words.specs.Page.{pageSize, Put, Told};
 ghost use Rattle.order_lines.specs.Order.{orderText, placeText, editText, operationText, requestText, askedText, reasonText, shownText, sameText, unlikeText, verdictText, leftOutText};
 
@@ -38,7 +39,7 @@ pub fn edit(out: &mut [u8], e: Entry) -> usize
 
 // An operation of a commit, and its cart.
 pub fn operation(out: &mut [u8], op: &[u8]) -> usize
-    requires { ⌜ (length (now out) ≡ pageSize) × (length (now op) ≡ 80) ⌝ }
+    requires { ⌜ (length (now out) ≡ pageSize) × (length (now op) ≡ cartSize) ⌝ }
     ensures { λ r. ⌜ Told (operationText (now (op .entry))) (now (out .entry)) (now (out .exit)) r ⌝ }
 {
     let cart = bytes::u16_at(op, 2);
@@ -56,7 +57,7 @@ pub fn operation(out: &mut [u8], op: &[u8]) -> usize
 
 // What a request asks for.
 fn put_request(out: &mut [u8], at: usize, request: &[u8]) -> usize
-    requires { ⌜ (at + 3000 ≤ length (now out)) × (length (now request) ≡ 80) ⌝ }
+    requires { ⌜ (at + 3000 ≤ length (now out)) × (length (now request) ≡ cartSize) ⌝ }
     ensures { λ r. ⌜ Put (requestText (now (request .entry))) (now (out .entry)) at (now (out .exit)) r ⌝ }
 {
     let n = bytes::byte_at(request, 1);
@@ -70,7 +71,7 @@ fn put_request(out: &mut [u8], at: usize, request: &[u8]) -> usize
 
 // A read, and what it asked for.
 pub fn asked(out: &mut [u8], e: Entry, request: &[u8]) -> usize
-    requires { ⌜ (length (now out) ≡ pageSize) × (length (now request) ≡ 80) ⌝ }
+    requires { ⌜ (length (now out) ≡ pageSize) × (length (now request) ≡ cartSize) ⌝ }
     ensures { λ r. ⌜ Told (askedText e (now (request .entry))) (now (out .entry)) (now (out .exit)) r ⌝ }
 {
     let a = put_place(out, e);

@@ -2,6 +2,7 @@
 // one-copy order replayed on a single library. docs/TRANSCRIPT.md has the format and the limits.
 mod play;
 
+use journal::history::Entry;
 use journal::progress::Progress;
 use lines::input;
 use lines::parse;
@@ -13,6 +14,7 @@ use replication::session::Session;
 ghost use mathlib.Core.Path.{_≡_};
 ghost use Prim.Native.Nat.{_≤_};
 ghost use lib.ListN.{length};
+ghost use Rattle.journal.specs.History.{mostEntries, cellsSize};
 
 // A line, where it is whole.
 fn play_line(
@@ -25,8 +27,8 @@ fn play_line(
     line: &[u8],
     is_whole: bool,
 ) -> Progress
-    requires { ⌜ (length (now cells) ≡ 8192) × (p .history .entries ≤ 1024) ⌝ }
-    ensures { λ r. ⌜ r .history .entries ≤ 1024 ⌝ }
+    requires { ⌜ (length (now cells) ≡ cellsSize) × (p .history .entries ≤ mostEntries) ⌝ }
+    ensures { λ r. ⌜ r .history .entries ≤ mostEntries ⌝ }
 {
     if !is_whole {
         return p;
@@ -48,8 +50,8 @@ fn play_lines(
     bytes: &[u8],
     cut: bool,
 ) -> Progress
-    requires { ⌜ length (now cells) ≡ 8192 ⌝ }
-    ensures { λ r. ⌜ r .history .entries ≤ 1024 ⌝ }
+    requires { ⌜ length (now cells) ≡ cellsSize ⌝ }
+    ensures { λ r. ⌜ r .history .entries ≤ mostEntries ⌝ }
 {
     let mut player = Progress::new();
     let mut at: usize = 0;
@@ -74,7 +76,7 @@ fn play_all(
     bytes: &[u8],
     cut: bool,
 )
-    requires { ⌜ length (now cells) ≡ 8192 ⌝ }
+    requires { ⌜ length (now cells) ≡ cellsSize ⌝ }
 {
     let player = play_lines(library, log, sessions, cells, store, bytes, cut);
     print::end::tell_end(player, sessions, cells, store, cut);
@@ -85,7 +87,7 @@ fn play_text(bytes: &[u8], cut: bool) {
     let mut library = [0u8; Control::LIBRARY_SIZE];
     let mut log = [0u8; Record::LOG_SIZE];
     let mut sessions = [0u8; Session::MEMORY_SIZE];
-    let mut cells = [0u32; 8192];
+    let mut cells = [0u32; Entry::CELLS];
     let mut store = [0u8; 262144];
     play_all(
         &mut library,

@@ -1,6 +1,7 @@
 // A line of a transcript: its call is made on the engine, its answer printed, and what came of it kept.
 use calls::keep;
 use calls::make;
+use journal::history::Entry;
 use journal::progress::Progress;
 use lines::parse::Call;
 use print::tell::tell;
@@ -8,6 +9,7 @@ use report::turn::Turn;
 ghost use mathlib.Core.Path.{_≡_};
 ghost use Prim.Native.Nat.{_≤_};
 ghost use lib.ListN.{length};
+ghost use Rattle.journal.specs.History.{mostEntries, cellsSize};
 
 // What came of a line is printed, then kept.
 fn finish(
@@ -20,8 +22,8 @@ fn finish(
     payload: &[u8],
     block: &[u8],
 ) -> Progress
-    requires { ⌜ (length (now cells) ≡ 8192) × (p .history .entries ≤ 1024) ⌝ }
-    ensures { λ r. ⌜ r .history .entries ≤ 1024 ⌝ }
+    requires { ⌜ (length (now cells) ≡ cellsSize) × (p .history .entries ≤ mostEntries) ⌝ }
+    ensures { λ r. ⌜ r .history .entries ≤ mostEntries ⌝ }
 {
     let came = turn.came;
     let same = tell(p, came, library, sessions, cells, store, payload, block);
@@ -40,10 +42,10 @@ pub fn play_call(
     call: Call,
     payload: &[u8],
 ) -> Progress
-    requires { ⌜ (length (now cells) ≡ 8192) × (p .history .entries ≤ 1024) ⌝ }
-    ensures { λ r. ⌜ r .history .entries ≤ 1024 ⌝ }
+    requires { ⌜ (length (now cells) ≡ cellsSize) × (p .history .entries ≤ mostEntries) ⌝ }
+    ensures { λ r. ⌜ r .history .entries ≤ mostEntries ⌝ }
 {
-    let mut block = [0u8; 2640];
+    let mut block = [0u8; Entry::MOST_BYTES];
     let turn = make::make(
         p.control,
         library,

@@ -13,10 +13,11 @@ use report::cart;
 use report::show;
 use words::line;
 ghost use Prim.Native.Nat.{_<_, _≤_};
+ghost use Rattle.journal.specs.History.{mostEntries};
 
 // A setup ends the system before it: the order of its answers, where there are any; the answer is whether all are the same.
 fn ended(h: History, cells: &[u32], store: &[u8]) -> bool
-    requires { ⌜ h .entries ≤ 1024 ⌝ }
+    requires { ⌜ h .entries ≤ mostEntries ⌝ }
 {
     if h.entries == 0 {
         return true;
@@ -53,7 +54,7 @@ pub fn made(
     studios: u32,
     is_running: bool,
 ) -> bool
-    requires { ⌜ h .entries ≤ 1024 ⌝ }
+    requires { ⌜ h .entries ≤ mostEntries ⌝ }
 {
     match answer {
         SetupAnswer::Ready => {

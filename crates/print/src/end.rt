@@ -6,10 +6,11 @@ use report::show;
 use report::transcript;
 use words::line;
 ghost use Prim.Native.Nat.{_≤_};
+ghost use Rattle.journal.specs.History.{mostEntries};
 
 // The summary, the reads that wait and the order of what came last; the status goes to `play`.
 pub fn tell_end(player: Progress, sessions: &[u8], cells: &[u32], store: &[u8], cut: bool)
-    requires { ⌜ player .history .entries ≤ 1024 ⌝ }
+    requires { ⌜ player .history .entries ≤ mostEntries ⌝ }
 {
     if cut {
         transcript::cut_after(player.line);

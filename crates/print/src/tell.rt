@@ -7,6 +7,7 @@ use replication::record::Record;
 use report::show;
 use report::turn::Came;
 ghost use Prim.Native.Nat.{_≤_};
+ghost use Rattle.journal.specs.History.{mostEntries};
 
 // A setup was answered; the answer is whether the order that it ended is the same on a single library.
 fn tell_setup(
@@ -16,7 +17,7 @@ fn tell_setup(
     store: &[u8],
     studios: u32,
 ) -> bool
-    requires { ⌜ before .history .entries ≤ 1024 ⌝ }
+    requires { ⌜ before .history .entries ≤ mostEntries ⌝ }
 {
     let control = before.control;
     let is_running = control.studios != 0;
@@ -45,7 +46,7 @@ pub fn tell(
     payload: &[u8],
     block: &[u8],
 ) -> bool
-    requires { ⌜ before .history .entries ≤ 1024 ⌝ }
+    requires { ⌜ before .history .entries ≤ mostEntries ⌝ }
 {
     match came {
         Came::Setup(answer, studios) => {

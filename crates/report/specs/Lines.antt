@@ -4,7 +4,7 @@ use mathlib.Core.List.{List, _++_}
 use Prim.Native.Nat.{ℕ}
 use lib.Dec.{eqb}
 use Rattle.carts.specs.Bytes.{byte, u16}
-use Rattle.carts.specs.Cart.{cartFields}
+use Rattle.carts.specs.Cart.{cartFields, titleAt}
 use Rattle.lines.specs.Text.{partIn}
 use Rattle.lines.specs.Words.{bytesOf}
 use Rattle.journal.specs.declared.progress.Tally.{Tally}
@@ -19,7 +19,7 @@ recordingText audio milliseconds = numbered ", audio " audio ++ numbered ", leng
 unfoldable pub cartText : List ℕ → List ℕ
 cartText cart =
     let fields = cartFields cart in
-    numbered "    cart " (fields .number) ++ bytesOf " " ++ quoted (partIn cart 16 (fields .«title_length»))
+    numbered "    cart " (fields .number) ++ bytesOf " " ++ quoted (partIn cart titleAt (fields .«title_length»))
     ++ recordingText (fields .audio) (fields .milliseconds)
 
 -- a cart that was asked for and is empty; a copy in which no cart is held
@@ -47,7 +47,7 @@ untilText own = numbered " waits for edit " (u16 own 2) ++ bytesOf "\n"
 unfoldable pub waitingText : List ℕ → List ℕ
 waitingText own =
     cond (eqb (byte own 0) 1) (bytesOf ", its read of carts" ++ askedNumbers own (byte own 1) ++ untilText own)
-    (cond (eqb (byte own 0) 2) (bytesOf ", its read of title " ++ quoted (partIn own 16 (byte own 1)) ++ untilText own)
+    (cond (eqb (byte own 0) 2) (bytesOf ", its read of title " ++ quoted (partIn own titleAt (byte own 1)) ++ untilText own)
     (bytesOf ", nothing waits\n"))
 
 -- a session at a studio: its number in bytes 2 and 3, and its waiting read

@@ -4,6 +4,7 @@ use words::page;
 ghost use mathlib.Core.Path.{_≡_};
 ghost use Prim.Native.Nat.{ℕ, _+_, _≤_};
 ghost use lib.ListN.{length};
+ghost use Rattle.carts.specs.Cart.{cartSize};
 ghost use Rattle.words.specs.Page.{pageSize, Put, Told};
 ghost use Rattle.report.specs.Lines.{recordingText, cartText, emptyText, noCartText};
 
@@ -18,7 +19,7 @@ fn put_recording(out: &mut [u8], at: usize, audio: u32, milliseconds: u32) -> us
 
 // What a held cart has, from its 80 bytes.
 pub fn held(out: &mut [u8], cart: &[u8]) -> usize
-    requires { ⌜ (length (now out) ≡ pageSize) × (length (now cart) ≡ 80) ⌝ }
+    requires { ⌜ (length (now out) ≡ pageSize) × (length (now cart) ≡ cartSize) ⌝ }
     ensures { λ r. ⌜ Told (cartText (now (cart .entry))) (now (out .entry)) (now (out .exit)) r ⌝ }
 {
     let fields = Cart::from_bytes(cart);

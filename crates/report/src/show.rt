@@ -10,8 +10,13 @@ use words::line;
 ghost use mathlib.Core.Path.{_≡_};
 ghost use Prim.Native.Nat.{_+_, _*_, _<_, _≤_};
 ghost use lib.Dec.{eqb};
+ghost use Rattle.replication.specs.Memory.{copyCount, sessionCount};
+ghost use Rattle.carts.specs.Cart.{cartSize, cartCount, copySize};
 ghost use Rattle.carts.specs.Bytes.{byte};
 ghost use Rattle.lines.specs.Text.{partIn};
+
+// The carts of a copy, as an index counts them.
+const CARTS: usize = 128;
 
 // What a held cart has.
 pub fn held(s: &[u8]) {
@@ -25,8 +30,8 @@ pub fn held(s: &[u8]) {
 
 // Cart c of a copy, where it is held; the answer is whether it is.
 fn cart_of(library: &[u8], copy: usize, c: usize) -> bool
-    requires { ⌜ (copy < 5) × (c < 128) ⌝ }
-    ensures { λ r. ⌜ r ≡ eqb (byte (partIn (now (library .entry)) (10240 * copy + 80 * c) 80) 0) 1 ⌝ }
+    requires { ⌜ (copy < copyCount) × (c < cartCount) ⌝ }
+    ensures { λ r. ⌜ r ≡ eqb (byte (partIn (now (library .entry)) (copySize * copy + cartSize * c) cartSize) 0) 1 ⌝ }
 {
     let found = text::part_of(library, Cart::COPY_SIZE * copy + Cart::SIZE * c, Cart::SIZE);
     if text::letter(found, 0) != 1 {
@@ -44,11 +49,11 @@ fn no_cart() {
 
 // The held carts of a copy.
 fn carts_of(library: &[u8], copy: usize)
-    requires { ⌜ copy < 5 ⌝ }
+    requires { ⌜ copy < copyCount ⌝ }
 {
     let mut some = false;
     let mut c: usize = 0;
-    while c < 128 {
+    while c < CARTS {
         some |= cart_of(library, copy, c);
         c += 1;
     }
@@ -72,7 +77,7 @@ fn studio_line(control: Control, library: &[u8], i: u32)
 }
 
 fn session_line(control: Control, sessions: &[u8], j: u32)
-    requires { ⌜ (1 ≤ j) × (j ≤ 16) ⌝ }
+    requires { ⌜ (1 ≤ j) × (j ≤ sessionCount) ⌝ }
 {
     let at = control.studio_of(j);
     if at == 0 {
@@ -125,7 +130,7 @@ fn waiting_heading() {
 
 // Session j, where its read waits, after a heading where it is the first; the answer is whether there is a heading now.
 fn waiting_line(control: Control, sessions: &[u8], j: u32, has_heading: bool) -> bool
-    requires { ⌜ (1 ≤ j) × (j ≤ 16) ⌝ }
+    requires { ⌜ (1 ≤ j) × (j ≤ sessionCount) ⌝ }
 {
     if text::letter(sessions, Session::SIZE * (j as usize - 1)) == 0 {
         return has_heading;

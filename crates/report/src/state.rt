@@ -6,6 +6,7 @@ use words::request;
 ghost use mathlib.Core.Path.{_≡_};
 ghost use Prim.Native.Nat.{ℕ, _+_, _≤_};
 ghost use lib.ListN.{length};
+ghost use Rattle.carts.specs.Cart.{cartSize};
 ghost use Rattle.words.specs.Page.{pageSize, Put, Told};
 ghost use Rattle.report.specs.Lines.{noSystemText, headText, studioText, untilText, waitingText, stillWaitingText, sessionText};
 
@@ -39,7 +40,7 @@ pub fn studio(out: &mut [u8], i: u32, sent: u32, applied: u32, behind: u32) -> u
 
 // The edit that a session's read waits for, and the line's end.
 fn put_until(out: &mut [u8], at: usize, own: &[u8]) -> usize
-    requires { ⌜ (at + 32 ≤ length (now out)) × (length (now own) ≡ 80) ⌝ }
+    requires { ⌜ (at + 32 ≤ length (now out)) × (length (now own) ≡ cartSize) ⌝ }
     ensures { λ r. ⌜ Put (untilText (now (own .entry))) (now (out .entry)) at (now (out .exit)) r ⌝ }
 {
     page::put_between(out, at, b" waits for edit ", bytes::u16_at(own, 2), b"\n")
@@ -47,7 +48,7 @@ fn put_until(out: &mut [u8], at: usize, own: &[u8]) -> usize
 
 // The read that a session has waiting, and the line's end.
 fn put_waiting(out: &mut [u8], at: usize, own: &[u8]) -> usize
-    requires { ⌜ (at + 3000 ≤ length (now out)) × (length (now own) ≡ 80) ⌝ }
+    requires { ⌜ (at + 3000 ≤ length (now out)) × (length (now own) ≡ cartSize) ⌝ }
     ensures { λ r. ⌜ Put (waitingText (now (own .entry))) (now (out .entry)) at (now (out .exit)) r ⌝ }
 {
     let n = bytes::byte_at(own, 1);
@@ -66,7 +67,7 @@ fn put_waiting(out: &mut [u8], at: usize, own: &[u8]) -> usize
 
 // A session at a studio, from its 80 bytes: its number and its waiting read.
 pub fn session(out: &mut [u8], j: u32, studio: u32, own: &[u8]) -> usize
-    requires { ⌜ (length (now out) ≡ pageSize) × (length (now own) ≡ 80) ⌝ }
+    requires { ⌜ (length (now out) ≡ pageSize) × (length (now own) ≡ cartSize) ⌝ }
     ensures { λ r. ⌜ Told (sessionText j studio (now (own .entry))) (now (out .entry)) (now (out .exit)) r ⌝ }
 {
     let a = page::put_pair(out, 0, b"  session ", j, b" at studio ", studio);

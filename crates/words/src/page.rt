@@ -6,6 +6,7 @@ ghost use mathlib.Core.Path.{_≡_};
 ghost use mathlib.Core.List.{List, [], _∷_, _++_};
 ghost use Prim.Native.Nat.{ℕ, _+_, _≤_, _<_};
 ghost use lib.ListN.{length};
+ghost use Rattle.carts.specs.Cart.{cartSize, titleAt};
 ghost use Rattle.lines.specs.Text.{partIn};
 ghost use Rattle.words.specs.Page.{Put, decimal, countOf, quoted, oneOf};
 
@@ -146,8 +147,8 @@ pub fn put_quoted(out: &mut [u8], at: usize, letters: &[u8]) -> usize
 
 // A title of n letters, in a cart's or a request's 80 bytes.
 pub fn put_title(out: &mut [u8], at: usize, s: &[u8], n: u32) -> usize
-    requires { ⌜ (at + 82 ≤ length (now out)) × (length (now s) ≡ 80) ⌝ }
-    ensures { λ r. ⌜ Put (quoted (partIn (now (s .entry)) 16 n)) (now (out .entry)) at (now (out .exit)) r × (r ≤ at + 82) ⌝ }
+    requires { ⌜ (at + 82 ≤ length (now out)) × (length (now s) ≡ cartSize) ⌝ }
+    ensures { λ r. ⌜ Put (quoted (partIn (now (s .entry)) titleAt n)) (now (out .entry)) at (now (out .exit)) r × (r ≤ at + 82) ⌝ }
 {
     put_quoted(out, at, text::part_of(s, Cart::TITLE_AT, n as usize))
 }
