@@ -15,7 +15,7 @@ same-length c = search needs
 
 returns : tie.Need-returns
 unfolding askedText
-returns c = told-more (told-more (told-none _) (c .before .before .before .before .before .before .put-place .ensures .0)) (c .before .before .put-request .ensures)
+returns c = let at-put-place = c .before .before .before .before .before .before in told-more (told-more (told-none _) (at-put-place .put-place .ensures .0)) (c .before .before .put-request .ensures)
 
 pub asked-spec : {M : Type 1} → statement M
 asked-spec = tie.close (tie.spec put-place-requires put-request-requires same-length returns)

@@ -22,7 +22,7 @@ same-length c = search needs
 
 returns : tie.Need-returns
 unfolding operationText
-returns c = rw (eq-eqb _ 1 (c .before .before .before .before .before .if1 .taken), ← c .before .before .before .before .before .before .before .u16-at .ensures .0) (told-more (told-none _) (c .before .before .put-numbered .ensures .0))
+returns c = let at-u16-at = c .before .before .before .before .before .before .before in rw (eq-eqb _ 1 (c .before .before .before .before .before .if1 .taken), ← at-u16-at .u16-at .ensures .0) (told-more (told-none _) (c .before .before .put-numbered .ensures .0))
 
 shared-slice-read-if2 : tie.Need-shared-slice-read-if2
 shared-slice-read-if2 c = search needs
@@ -38,7 +38,7 @@ same-length-2 c = search needs
 
 returns-2 : tie.Need-returns-2
 unfolding operationText
-returns-2 c = rw (ne-eqb _ 1 (c .before .before .before .before .before .before .before .if1 .left), eq-eqb _ 2 (c .before .before .before .before .before .if2 .taken), ← c .before .before .before .before .before .before .before .before .before .u16-at .ensures .0) (told-more (told-none _) (c .before .before .put-numbered2 .ensures .0))
+returns-2 c = let else1 = c .before .before .before .before .before .before .before in rw (ne-eqb _ 1 (else1 .if1 .left), eq-eqb _ 2 (c .before .before .before .before .before .if2 .taken), ← else1 .before .before .u16-at .ensures .0) (told-more (told-none _) (c .before .before .put-numbered2 .ensures .0))
 
 shared-slice-read-if3 : tie.Need-shared-slice-read-if3
 shared-slice-read-if3 c = search needs
@@ -54,7 +54,7 @@ same-length-3 c = search needs
 
 returns-3 : tie.Need-returns-3
 unfolding operationText
-returns-3 c = rw (ne-eqb _ 1 (c .before .before .before .before .before .before .before .before .before .if1 .left), ne-eqb _ 2 (c .before .before .before .before .before .before .before .if2 .left), eq-eqb _ 3 (c .before .before .before .before .before .if3 .taken), ← c .before .before .before .before .before .before .before .before .before .before .before .u16-at .ensures .0) (told-more (told-none _) (c .before .before .put-numbered3 .ensures .0))
+returns-3 c = let else2 = c .before .before .before .before .before .before .before in rw (ne-eqb _ 1 (else2 .before .before .if1 .left), ne-eqb _ 2 (else2 .if2 .left), eq-eqb _ 3 (c .before .before .before .before .before .if3 .taken), ← else2 .before .before .before .before .u16-at .ensures .0) (told-more (told-none _) (c .before .before .put-numbered3 .ensures .0))
 
 slice-aggregate-put-numbered-4 : tie.Need-slice-aggregate-put-numbered-4
 slice-aggregate-put-numbered-4 c = search needs
@@ -67,7 +67,7 @@ same-length-4 c = search needs
 
 returns-4 : tie.Need-returns-4
 unfolding operationText
-returns-4 c = rw (ne-eqb _ 1 (c .before .before .before .before .before .before .before .before .before .if1 .left), ne-eqb _ 2 (c .before .before .before .before .before .before .before .if2 .left), ne-eqb _ 3 (c .before .before .before .before .before .if3 .left), ← c .before .before .before .before .before .before .before .before .before .before .before .u16-at .ensures .0) (told-more (told-none _) (c .before .before .put-numbered4 .ensures .0))
+returns-4 c = let else2 = c .before .before .before .before .before .before .before in rw (ne-eqb _ 1 (else2 .before .before .if1 .left), ne-eqb _ 2 (else2 .if2 .left), ne-eqb _ 3 (c .before .before .before .before .before .if3 .left), ← else2 .before .before .before .before .u16-at .ensures .0) (told-more (told-none _) (c .before .before .put-numbered4 .ensures .0))
 
 pub operation-spec : {M : Type 1} → statement M
 operation-spec =

@@ -26,7 +26,7 @@ same-length c = search needs
 
 returns : tie.Need-returns
 unfolding requestText
-returns c = let p = c .before .before .before .before .before .before .put .ensures in let e = p .end in rw (eq-eqb _ 1 (c .before .before .before .before .before .before .before .before .before .if1 .taken), ← c .before .before .before .before .before .before .before .before .before .before .before .byte-at .ensures .0) (put-both (omega arith) p (c .before .before .put-asked .ensures .0))
+returns c = let then1 = c .before .before .before .before .before .before .before .before .before in let p = c .before .before .before .before .before .before .put .ensures in let e = p .end in rw (eq-eqb _ 1 (then1 .if1 .taken), ← then1 .before .before .byte-at .ensures .0) (put-both (omega arith) p (c .before .before .put-asked .ensures .0))
 
 slice-aggregate-put-2 : tie.Need-slice-aggregate-put-2
 slice-aggregate-put-2 c = search needs
@@ -42,7 +42,7 @@ same-length-2 c = search needs
 
 returns-2 : tie.Need-returns-2
 unfolding requestText
-returns-2 c = let p = c .before .before .before .before .before .before .put2 .ensures in let e = p .end in rw (ne-eqb _ 1 (c .before .before .before .before .before .before .before .before .before .if1 .left), ← c .before .before .before .before .before .before .before .before .before .before .before .byte-at .ensures .0) (put-both (omega arith) p (c .before .before .put-title .ensures .0))
+returns-2 c = let else1 = c .before .before .before .before .before .before .before .before .before in let p = c .before .before .before .before .before .before .put2 .ensures in let e = p .end in rw (ne-eqb _ 1 (else1 .if1 .left), ← else1 .before .before .byte-at .ensures .0) (put-both (omega arith) p (c .before .before .put-title .ensures .0))
 
 pub put-request-spec : {M : Type 1} → statement M
 put-request-spec =

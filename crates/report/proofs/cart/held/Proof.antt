@@ -30,7 +30,7 @@ same-length c = search needs
 
 returns : tie.Need-returns
 unfolding cartText
-returns c = rw (← c .before .before .before .before .before .before .before .before .before .before .before .before .before .before .before .before .before .before .from-bytes .ensures) (told-more (told-more (told-more (told-more (told-none _) (c .before .before .before .before .before .before .before .before .before .before .before .before .before .before .before .put-numbered .ensures .0)) (c .before .before .before .before .before .before .before .before .before .before .put .ensures)) (c .before .before .before .before .before .before .put-title .ensures .0)) (c .before .before .put-recording .ensures))
+returns c = let at-put-title = c .before .before .before .before .before .before in let at-put-numbered = c .before .before .before .before .before .before .before .before .before .before .before .before .before .before .before in rw (← at-put-numbered .before .before .before .from-bytes .ensures) (told-more (told-more (told-more (told-more (told-none _) (at-put-numbered .put-numbered .ensures .0)) (at-put-title .before .before .before .before .put .ensures)) (at-put-title .put-title .ensures .0)) (c .before .before .put-recording .ensures))
 
 pub held-spec : {M : Type 1} → statement M
 held-spec = tie.close (tie.spec from-bytes-requires slice-aggregate-put-numbered put-numbered-requires slice-aggregate-put put-requires put-title-requires put-recording-requires same-length returns)

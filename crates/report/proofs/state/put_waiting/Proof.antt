@@ -29,8 +29,8 @@ same-length c = search needs
 
 returns : tie.Need-returns
 unfolding waitingText
-returns c = let p = c .before .before .before .before .before .before .before .before .before .before .put .ensures in let q = c .before .before .before .before .before .before .put-asked .ensures in let e = p .end in let f = q .1 in
-    rw (eq-eqb _ 1 (c .before .before .before .before .before .before .before .before .before .before .before .before .before .if1 .taken), ← c .before .before .before .before .before .before .before .before .before .before .before .before .before .before .before .byte-at .ensures .0) (put-both (omega arith) (put-both (omega arith) p (q .0)) (c .before .before .put-until .ensures))
+returns c = let then1 = c .before .before .before .before .before .before .before .before .before .before .before .before .before in let p = c .before .before .before .before .before .before .before .before .before .before .put .ensures in let q = c .before .before .before .before .before .before .put-asked .ensures in let e = p .end in let f = q .1 in
+    rw (eq-eqb _ 1 (then1 .if1 .taken), ← then1 .before .before .byte-at .ensures .0) (put-both (omega arith) (put-both (omega arith) p (q .0)) (c .before .before .put-until .ensures))
 
 shared-slice-read-if2 : tie.Need-shared-slice-read-if2
 shared-slice-read-if2 c = search needs
@@ -52,8 +52,8 @@ same-length-2 c = search needs
 
 returns-2 : tie.Need-returns-2
 unfolding waitingText
-returns-2 c = let p = c .before .before .before .before .before .before .before .before .before .before .put2 .ensures in let q = c .before .before .before .before .before .before .put-title .ensures in let e = p .end in let f = q .1 in
-    rw (ne-eqb _ 1 (c .before .before .before .before .before .before .before .before .before .before .before .before .before .before .before .if1 .left), eq-eqb _ 2 (c .before .before .before .before .before .before .before .before .before .before .before .before .before .if2 .taken), ← c .before .before .before .before .before .before .before .before .before .before .before .before .before .before .before .before .before .byte-at .ensures .0) (put-both (omega arith) (put-both (omega arith) p (q .0)) (c .before .before .put-until2 .ensures))
+returns-2 c = let then2 = c .before .before .before .before .before .before .before .before .before .before .before .before .before in let p = c .before .before .before .before .before .before .before .before .before .before .put2 .ensures in let q = c .before .before .before .before .before .before .put-title .ensures in let e = p .end in let f = q .1 in
+    rw (ne-eqb _ 1 (then2 .before .before .if1 .left), eq-eqb _ 2 (then2 .if2 .taken), ← then2 .before .before .before .before .byte-at .ensures .0) (put-both (omega arith) (put-both (omega arith) p (q .0)) (c .before .before .put-until2 .ensures))
 
 slice-aggregate-put-3 : tie.Need-slice-aggregate-put-3
 slice-aggregate-put-3 c = search needs
@@ -66,7 +66,7 @@ same-length-3 c = search needs
 
 returns-3 : tie.Need-returns-3
 unfolding waitingText
-returns-3 c = rw (ne-eqb _ 1 (c .before .before .before .before .before .before .before .if1 .left), ne-eqb _ 2 (c .before .before .before .before .before .if2 .left)) (c .before .before .put3 .ensures)
+returns-3 c = let else1 = c .before .before .before .before .before .before .before in rw (ne-eqb _ 1 (else1 .if1 .left), ne-eqb _ 2 (c .before .before .before .before .before .if2 .left)) (c .before .before .put3 .ensures)
 
 pub put-waiting-spec : {M : Type 1} → statement M
 put-waiting-spec =

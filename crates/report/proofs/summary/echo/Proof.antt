@@ -18,7 +18,7 @@ same-length c = search needs
 
 returns : tie.Need-returns
 unfolding echoText
-returns c = told-more (told-more (told-none _) (c .before .before .before .before .before .before .before .put-number .ensures .0)) (c .before .before .put .ensures)
+returns c = let at-put-number = c .before .before .before .before .before .before .before in told-more (told-more (told-none _) (at-put-number .put-number .ensures .0)) (c .before .before .put .ensures)
 
 pub echo-spec : {M : Type 1} → statement M
 echo-spec = tie.close (tie.spec put-number-requires slice-aggregate-put put-requires same-length returns)

@@ -32,8 +32,8 @@ same-length-2 c = search needs
 
 returns-2 : tie.Need-returns-2
 unfolding behindText
-returns-2 c = let p = c .before .before .put-between .ensures in let e = p .1 in
-    (rw (ne-eqb _ 0 (c .before .before .before .before .before .before .if1 .left)) (p .0), omega arith)
+returns-2 c = let else1 = c .before .before .before .before .before .before in let p = c .before .before .put-between .ensures in let e = p .1 in
+    (rw (ne-eqb _ 0 (else1 .if1 .left)) (p .0), omega arith)
 
 pub put-behind-spec : {M : Type 1} → statement M
 put-behind-spec = tie.close (tie.spec slice-aggregate-put put-requires same-length returns slice-aggregate-put-between slice-aggregate-put-between-2 put-between-requires same-length-2 returns-2)

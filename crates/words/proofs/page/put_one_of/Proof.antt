@@ -33,7 +33,7 @@ same-length-3 c = search needs
 
 returns-3 : tie.Need-returns-3
 unfolding oneOf
-returns-3 c = let p = c .before .before .put3 .ensures in let f = p .end in (rw (ne-eqb _ 0 (c .before .before .before .before .before .before .if1 .left), ne-eqb _ 1 (c .before .before .before .before .before .if2 .left), eq-eqb _ 2 (c .before .before .before .before .if3 .taken)) p, omega arith)
+returns-3 c = let else1 = c .before .before .before .before .before .before in let p = c .before .before .put3 .ensures in let f = p .end in (rw (ne-eqb _ 0 (else1 .if1 .left), ne-eqb _ 1 (c .before .before .before .before .before .if2 .left), eq-eqb _ 2 (c .before .before .before .before .if3 .taken)) p, omega arith)
 
 put-requires-4 : tie.Need-put-requires-4
 put-requires-4 c κs = search needs
@@ -43,7 +43,7 @@ same-length-4 c = search needs
 
 returns-4 : tie.Need-returns-4
 unfolding oneOf
-returns-4 c = let p = c .before .before .put4 .ensures in let f = p .end in (rw (ne-eqb _ 0 (c .before .before .before .before .before .before .if1 .left), ne-eqb _ 1 (c .before .before .before .before .before .if2 .left), ne-eqb _ 2 (c .before .before .before .before .if3 .left)) p, omega arith)
+returns-4 c = let else1 = c .before .before .before .before .before .before in let p = c .before .before .put4 .ensures in let f = p .end in (rw (ne-eqb _ 0 (else1 .if1 .left), ne-eqb _ 1 (c .before .before .before .before .before .if2 .left), ne-eqb _ 2 (c .before .before .before .before .if3 .left)) p, omega arith)
 
 pub put-one-of-spec : {M : Type 1} → statement M
 put-one-of-spec =

@@ -41,8 +41,8 @@ same-length-2 c = search needs
 
 returns-2 : tie.Need-returns-2
 unfolding shownByte
-returns-2 c = let p = c .before .before .before .before .before .before .before .before .before .before .before .before .put .ensures in let q = c .before .before .before .before .before .before .before .put-byte2 .ensures in let r = c .before .before .put-byte3 .ensures in let e = p .end in let f = q .end in let g = r .end in
-    (rw (← c .before .before .before .before .before .before .before .before .before .before .before .before .before .before .before .before .is-printable .ensures, c .before .before .before .before .before .before .before .before .before .before .before .before .before .before .before .if1 .left, ← c .before .before .before .before .before .before .before .before .hex-digit .ensures, ← c .before .before .before .hex-digit2 .ensures) (put-both (omega arith) (put-both (omega arith) p q) r), omega arith)
+returns-2 c = let at-hex-digit = c .before .before .before .before .before .before .before .before in let else1 = c .before .before .before .before .before .before .before .before .before .before .before .before .before .before .before in let p = c .before .before .before .before .before .before .before .before .before .before .before .before .put .ensures in let q = c .before .before .before .before .before .before .before .put-byte2 .ensures in let r = c .before .before .put-byte3 .ensures in let e = p .end in let f = q .end in let g = r .end in
+    (rw (← else1 .before .is-printable .ensures, else1 .if1 .left, ← at-hex-digit .hex-digit .ensures, ← c .before .before .before .hex-digit2 .ensures) (put-both (omega arith) (put-both (omega arith) p q) r), omega arith)
 
 pub put-shown-spec : {M : Type 1} → statement M
 put-shown-spec =
