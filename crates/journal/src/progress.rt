@@ -12,7 +12,7 @@ use replication::answer::SetupAnswer;
 use replication::answer::SetupResult;
 use replication::control::Control;
 ghost use mathlib.Core.Path.{_≡_};
-ghost use Prim.Native.Nat.{ℕ, _*_, _<_, _≤_};
+ghost use Prim.Native.Nat.{_*_, _<_, _≤_};
 ghost use lib.ListN.{length};
 ghost use Rattle.journal.specs.History.{slotSize};
 ghost use Rattle.journal.specs.declared.progress.Outcome.the-variants.{Unreadable};

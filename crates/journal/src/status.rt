@@ -1,7 +1,6 @@
 // The status with which a player ends.
 use crate::progress::Tally;
 ghost use mathlib.Core.Path.{_≡_};
-ghost use Prim.Native.Nat.{ℕ};
 ghost use Rattle.journal.specs.Status.{madeCalls, allWell, statusOf};
 
 // Some line was a call.

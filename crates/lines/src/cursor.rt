@@ -4,7 +4,7 @@ use crate::text::Class;
 use crate::text::Number;
 use carts::bytes;
 ghost use mathlib.Core.Path.{_≡_};
-ghost use Prim.Native.Nat.{ℕ, _+_, _*_, _-_, _<_, _≤_};
+ghost use Prim.Native.Nat.{_+_, _-_, _<_, _≤_};
 ghost use lib.ListN.{length};
 ghost use Rattle.lines.specs.Cursor.{newAt, movedTo, stoppedBy, nextByte, nextWord, wordEnd, pastWord, pastMark, numberAt, noTitle, titleAt, isOver, endedAt, Titled};
 

@@ -2,7 +2,6 @@
 use crate::text;
 use crate::text::Class;
 ghost use mathlib.Core.Path.{_≡_};
-ghost use Prim.Native.Nat.{ℕ, _≤_};
 ghost use lib.ListN.{length};
 ghost use Rattle.lines.specs.Text.{partIn};
 ghost use Rattle.lines.specs.Input.{markLength, isText, lineLength};

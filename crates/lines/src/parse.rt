@@ -10,7 +10,7 @@ use crate::text::Class;
 use carts::bytes;
 use carts::cart::Cart;
 ghost use mathlib.Core.Path.{_≡_};
-ghost use Prim.Native.Nat.{ℕ, _+_, _*_, _-_, _<_, _≤_};
+ghost use Prim.Native.Nat.{_+_, _*_, _-_, _<_, _≤_};
 ghost use lib.ListN.{length};
 ghost use Rattle.lines.specs.Build.{payloadSize};
 ghost use Rattle.carts.specs.Cart.{cartSize};

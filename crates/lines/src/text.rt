@@ -1,7 +1,7 @@
 // Text: bytes, parts, runs and numbers of a line. Every function is total: a place past the end reads as 0.
 use carts::bytes;
 ghost use mathlib.Core.Path.{_≡_};
-ghost use Prim.Native.Nat.{ℕ, _+_, _*_, _-_, _<_, _≤_};
+ghost use Prim.Native.Nat.{_+_, _*_, _-_, _<_, _≤_};
 ghost use lib.ListN.{length};
 ghost use lib.Dec.{eqb};
 ghost use Rattle.carts.specs.Bytes.{byte, pairwise};

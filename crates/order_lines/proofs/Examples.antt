@@ -1,6 +1,6 @@
 -- WORKED EXAMPLES of the lines of an order, by computation.
 use mathlib.Core.Path.{_≡_, refl}
-use mathlib.Core.List.{[], _∷_, _++_}
+use mathlib.Core.List.{[], _∷_}
 use Rattle.carts.specs.Bytes.{zeros, u16, u32, u16Bytes}
 use Rattle.lines.specs.Build.{u32Bytes, titleField, operationBytes, u16List, numbersBytes}
 use Rattle.lines.specs.Words.{bytesOf}

@@ -4,7 +4,7 @@ use journal::history::Entry;
 use words::page;
 use words::request;
 ghost use mathlib.Core.Path.{_≡_};
-ghost use Prim.Native.Nat.{ℕ, _+_, _≤_};
+ghost use Prim.Native.Nat.{_+_, _≤_};
 ghost use lib.ListN.{length};
 ghost use Rattle.carts.specs.Cart.{cartSize};
 ghost use Rattle.words.specs.Page.{pageSize, Put, Told};

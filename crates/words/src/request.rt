@@ -1,7 +1,7 @@
 // The numbers that a request asks for, in words.
 use crate::page;
 use lines::build;
-ghost use Prim.Native.Nat.{ℕ, _+_, _*_, _≤_};
+ghost use Prim.Native.Nat.{_+_, _*_, _≤_};
 ghost use lib.ListN.{length};
 ghost use Rattle.words.specs.Page.{Put};
 ghost use Rattle.words.specs.Request.{askedNumbers};

@@ -2,10 +2,10 @@
 use crate::page;
 use carts::bytes;
 ghost use mathlib.Core.Path.{_≡_};
-ghost use mathlib.Core.List.{List, [], _∷_};
-ghost use Prim.Native.Nat.{ℕ, _+_, _*_, _≤_, _<_};
+ghost use mathlib.Core.List.{[], _∷_};
+ghost use Prim.Native.Nat.{_+_, _≤_, _<_};
 ghost use lib.ListN.{length};
-ghost use Rattle.words.specs.Page.{pageSize, Put, Told, hexDigit, shownByte, shownTo, shown};
+ghost use Rattle.words.specs.Page.{pageSize, Put, Told, hexDigit, shownByte, shown};
 
 // A digit in base 16.
 fn hex_digit(n: u8) -> u8

@@ -36,7 +36,7 @@ part-line-end : tie.Need-part-line-end Inv-loop μ-loop
 part-line-end c = let h = c .run-end .ensures .2 (omega arith) in omega arith
 
 play-line-requires : tie.Need-play-line-requires Inv-loop μ-loop
-play-line-requires c κs = let i = c .before .before .before .before .before .before .before .before .loop .inv in (i .3 ∙ c .before .before .before .before .before .before .before .before .before .before .before .before .before .before .before .before .pre, i .5)
+play-line-requires c κs = let i = c .before .before .before .before .before .before .before .before .loop .inv in let start = c .before .before .before .before .before .before .before .before .before .before .before .before .before .before .before .before in (i .3 ∙ start .pre, i .5)
 
 loop-less : tie.Need-loop-less Inv-loop μ-loop
 loop-less c = let e = c .before .before .before .before .before .before .before .before .before .before .before .before .before .before .before .before .before .run-end .ensures in let l = e .1 in let h = e .2 (omega arith) in omega arith

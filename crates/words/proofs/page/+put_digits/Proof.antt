@@ -71,7 +71,7 @@ put-digits-same-length-2 : (t : ℕ) → put-digits-lts.Need-same-length-2 (
   put-digits-below t,
   put-digits.Post,
 ) (put-digits-at t) put-digits.Post
-put-digits-same-length-2 t c = c .before .before .put-digit2 .kept .0 ∙ c .before .before .before .before .before .before .put-digits .kept .0
+put-digits-same-length-2 t c = let first = c .before .before .before .before .before .before .put-digits in c .before .before .put-digit2 .kept .0 ∙ first .kept .0
 
 put-digits-returns-2 : (t : ℕ) → put-digits-lts.Need-returns-2 (
   put-digit-reads.Asked,
@@ -79,7 +79,7 @@ put-digits-returns-2 : (t : ℕ) → put-digits-lts.Need-returns-2 (
   put-digits-below t,
   put-digits.Post,
 ) (put-digits-at t) put-digits.Post
-put-digits-returns-2 t c = let a = c .before .before .before .before .before .before .before .before .before .before .args in rw (decimal-more (a .n) (omega arith) (omega arith)) (put-both (omega arith) (c .before .before .before .before .before .before .put-digits .ensures) (c .before .before .put-digit2 .ensures))
+put-digits-returns-2 t c = let a = c .before .before .before .before .before .before .before .before .before .before .args in let first = c .before .before .before .before .before .before .put-digits in rw (decimal-more (a .n) (omega arith) (omega arith)) (put-both (omega arith) (first .ensures) (c .before .before .put-digit2 .ensures))
 
 pub +put-digits-spec : {M : Type 1} → statement M
 +put-digits-spec = close μ-put-digits λ t. put-digits-lts.spec (
