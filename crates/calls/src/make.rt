@@ -16,21 +16,109 @@ use replication::setup::setup;
 use report::turn::Came;
 use report::turn::Turn;
 ghost use mathlib.Core.Path.{_≡_};
+ghost use mathlib.Core.Bool.{true, false};
+ghost use mathlib.Core.List.{[]};
+ghost use Prim.Native.Nat.{_*_};
 ghost use lib.ListN.{length};
+ghost use Rattle.replication.specs.Memory.{memory, sessionCount, sessionSize, recordSize};
+ghost use Rattle.replication.specs.Calls.{setup, commit, send, refresh};
+ghost use Rattle.lines.specs.Text.{partIn};
 ghost use Rattle.journal.specs.History.{mostBytes};
+ghost use Rattle.calls.specs.Make.{setUp, committed, moved, told, made, leaves, readLeaves, collectLeaves, lineLeaves};
 
-// A read, with its request at the start of its block and its output after it.
+// A setup, with the studios of its sessions at the start of the payload.
+fn make_setup(
+    library: &mut [u8],
+    log: &mut [u8],
+    sessions: &mut [u8],
+    studios: u32,
+    payload: &[u8],
+) -> Turn
+    ensures { λ r. ⌜ made (told (r .came)) (r .control) (memory (now (library .exit)) (now (log .exit)) (now (sessions .exit))) []
+        ≡ leaves (λ a. setUp a studios) (setup (memory (now (library .entry)) (now (log .entry)) (now (sessions .entry))) studios (partIn (now (payload .entry)) 0 sessionCount)) [] ⌝ }
+{
+    let places = text::part_of(payload, 0, Session::COUNT as usize);
+    let result = setup(library, log, sessions, studios, places);
+    let answer = result.answer;
+    let control = result.control;
+    Turn {
+        came: Came::Setup(answer, studios),
+        control,
+    }
+}
+
+// A commit, with its operations at the start of the payload.
+fn make_commit(
+    control: Control,
+    library: &mut [u8],
+    log: &mut [u8],
+    sessions: &mut [u8],
+    session: u32,
+    operations: u32,
+    payload: &[u8],
+) -> Turn
+    ensures { λ r. ⌜ made (told (r .came)) (r .control) (memory (now (library .exit)) (now (log .exit)) (now (sessions .exit))) []
+        ≡ leaves (λ a. committed a session operations) (commit control (memory (now (library .entry)) (now (log .entry)) (now (sessions .entry))) session (partIn (now (payload .entry)) 0 (recordSize * operations))) [] ⌝ }
+{
+    let ops = text::part_of(payload, 0, Record::SIZE * (operations as usize));
+    let result = commit(control, library, log, sessions, session, ops);
+    let answer = result.answer;
+    let control = result.control;
+    Turn {
+        came: Came::Commit(answer, session, operations),
+        control,
+    }
+}
+
+// A send. Memory is only read.
+fn make_send(control: Control, library: &[u8], log: &[u8], sessions: &[u8], studio: u32) -> Turn
+    ensures { λ r. ⌜ made (told (r .came)) (r .control) (memory (now (library .entry)) (now (log .entry)) (now (sessions .entry))) []
+        ≡ leaves (λ a. moved a studio true) (send control (memory (now (library .entry)) (now (log .entry)) (now (sessions .entry))) studio) [] ⌝ }
+{
+    let result = send(control, library, log, sessions, studio);
+    let answer = result.answer;
+    let control = result.control;
+    Turn {
+        came: Came::Moved(answer, studio, true),
+        control,
+    }
+}
+
+// A refresh.
+fn make_refresh(
+    control: Control,
+    library: &mut [u8],
+    log: &[u8],
+    sessions: &[u8],
+    studio: u32,
+) -> Turn
+    ensures { λ r. ⌜ made (told (r .came)) (r .control) (memory (now (library .exit)) (now (log .entry)) (now (sessions .entry))) []
+        ≡ leaves (λ a. moved a studio false) (refresh control (memory (now (library .entry)) (now (log .entry)) (now (sessions .entry))) studio) [] ⌝ }
+{
+    let result = refresh(control, library, log, sessions, studio);
+    let answer = result.answer;
+    let control = result.control;
+    Turn {
+        came: Came::Moved(answer, studio, false),
+        control,
+    }
+}
+
+// A read, with its request at the start of the payload; then the request is at the start of the block, and its output after it.
 fn make_read(
     control: Control,
     library: &[u8],
     log: &[u8],
     sessions: &mut [u8],
     session: u32,
-    request: &[u8],
+    payload: &[u8],
     block: &mut [u8],
 ) -> Turn
     requires { ⌜ length (now block) ≡ mostBytes ⌝ }
+    ensures { λ r. ⌜ made (told (r .came)) (r .control) (memory (now (library .entry)) (now (log .entry)) (now (sessions .exit))) (now (block .exit))
+        ≡ readLeaves control (memory (now (library .entry)) (now (log .entry)) (now (sessions .entry))) session (partIn (now (payload .entry)) 0 sessionSize) (now (block .entry)) ⌝ }
 {
+    let request = text::part_of(payload, 0, Session::SIZE);
     progress::put_request(block, request);
     let output = &mut block[Session::SIZE..Entry::MOST_BYTES];
     let result = read(control, library, log, sessions, session, request, output);
@@ -53,6 +141,8 @@ fn make_collect(
     block: &mut [u8],
 ) -> Turn
     requires { ⌜ length (now block) ≡ mostBytes ⌝ }
+    ensures { λ r. ⌜ made (told (r .came)) (r .control) (memory (now (library .entry)) (now (log .entry)) (now (sessions .exit))) (now (block .exit))
+        ≡ collectLeaves control (memory (now (library .entry)) (now (log .entry)) (now (sessions .entry))) session (now (store .entry)) (now (block .entry)) ⌝ }
 {
     progress::put_request(block, history::kept_request(store, session));
     let output = &mut block[Session::SIZE..Entry::MOST_BYTES];
@@ -62,85 +152,6 @@ fn make_collect(
     Turn {
         came: Came::Read(answer, session),
         control,
-    }
-}
-
-// A send or a refresh; any other line makes no call.
-fn make_move(
-    control: Control,
-    library: &mut [u8],
-    log: &[u8],
-    sessions: &[u8],
-    call: Call,
-) -> Turn {
-    match call {
-        Call::Send(studio) => {
-            let result = send(control, library, log, sessions, studio);
-            let answer = result.answer;
-            let control = result.control;
-            Turn {
-                came: Came::Moved(answer, studio, true),
-                control,
-            }
-        }
-        Call::Refresh(studio) => {
-            let result = refresh(control, library, log, sessions, studio);
-            let answer = result.answer;
-            let control = result.control;
-            Turn {
-                came: Came::Moved(answer, studio, false),
-                control,
-            }
-        }
-        Call::Show => Turn {
-            came: Came::Show,
-            control,
-        },
-        Call::Unreadable { mistake, at } => Turn {
-            came: Came::Unreadable(mistake, at),
-            control,
-        },
-        _ => Turn {
-            came: Came::Nothing,
-            control,
-        },
-    }
-}
-
-// A setup or a commit; any other line makes no call.
-fn make_edit(
-    control: Control,
-    library: &mut [u8],
-    log: &mut [u8],
-    sessions: &mut [u8],
-    call: Call,
-    payload: &[u8],
-) -> Turn {
-    match call {
-        Call::Setup(studios) => {
-            let places = text::part_of(payload, 0, Session::COUNT as usize);
-            let result = setup(library, log, sessions, studios, places);
-            let answer = result.answer;
-            let control = result.control;
-            Turn {
-                came: Came::Setup(answer, studios),
-                control,
-            }
-        }
-        Call::Commit {
-            session,
-            operations,
-        } => {
-            let ops = text::part_of(payload, 0, Record::SIZE * (operations as usize));
-            let result = commit(control, library, log, sessions, session, ops);
-            let answer = result.answer;
-            let control = result.control;
-            Turn {
-                came: Came::Commit(answer, session, operations),
-                control,
-            }
-        }
-        _ => make_move(control, library, log, sessions, call),
     }
 }
 
@@ -157,15 +168,42 @@ pub fn make(
     block: &mut [u8],
 ) -> Turn
     requires { ⌜ length (now block) ≡ mostBytes ⌝ }
+    ensures { λ r. ⌜ made (told (r .came)) (r .control) (memory (now (library .exit)) (now (log .exit)) (now (sessions .exit))) (now (block .exit))
+        ≡ lineLeaves control (memory (now (library .entry)) (now (log .entry)) (now (sessions .entry))) (now (store .entry)) call (now (payload .entry)) (now (block .entry)) ⌝ }
 {
     match call {
+        Call::Setup(studios) => make_setup(library, log, sessions, studios, payload),
+        Call::Commit {
+            session,
+            operations,
+        } => make_commit(
+            control,
+            library,
+            log,
+            sessions,
+            session,
+            operations,
+            payload,
+        ),
+        Call::Send(studio) => make_send(control, library, log, sessions, studio),
+        Call::Refresh(studio) => make_refresh(control, library, log, sessions, studio),
         Call::Read(session) => {
-            let request = text::part_of(payload, 0, Session::SIZE);
-            make_read(control, library, log, sessions, session, request, block)
+            make_read(control, library, log, sessions, session, payload, block)
         }
         Call::Collect(session) => {
             make_collect(control, library, log, sessions, session, store, block)
         }
-        _ => make_edit(control, library, log, sessions, call, payload),
+        Call::Show => Turn {
+            came: Came::Show,
+            control,
+        },
+        Call::Unreadable { mistake, at } => Turn {
+            came: Came::Unreadable(mistake, at),
+            control,
+        },
+        Call::Nothing => Turn {
+            came: Came::Nothing,
+            control,
+        },
     }
 }

@@ -1,0 +1,43 @@
+-- Laws of what a line leaves.
+use mathlib.Core.Path.{_≡_, sym, ap, _∙_}
+use mathlib.Core.List.{List, []}
+use Prim.Native.Nat.{ℕ, _*_, _-_}
+use Rattle.carts.specs.Bytes.{over}
+use Rattle.replication.specs.Answer.{Answer}
+use Rattle.replication.specs.Memory.{Memory}
+use Rattle.replication.specs.Calls.{After, after, read, collect}
+use Rattle.replication.specs.declared.control.Control.{Control}
+use Rattle.lines.specs.Text.{partIn}
+use Rattle.journal.specs.Progress.{requestIn}
+use Rattle.lines.specs.declared.parse.Call.{Call}
+use Rattle.calls.specs.Make.{Told, looked, Made, made, leaves, outputIn, leavesIn, readLeaves, collectLeaves, lineLeaves}
+
+-- a line whose call has no block leaves its block as it was
+pub with-block : (block : List ℕ) {x y : Made} → x ≡ y → made (x .told) (x .control) (x .memory) block ≡ made (y .told) (y .control) (y .memory) block
+with-block block e = ap (λ (x : Made). made (x .told) (x .control) (x .memory) block) e
+
+-- what a line's case leaves
+pub by-case : (c : Control) (m : Memory) (store : List ℕ) {x y : Call} (payload block : List ℕ) {r : Made} → x ≡ y → r ≡ lineLeaves c m store y payload block → r ≡ lineLeaves c m store x payload block
+by-case c m store payload block e f = f ∙ sym (ap (λ (z : Call). lineLeaves c m store z payload block) e)
+
+-- a call, told by its answer
+pub told-by : (tells : Answer → Told) {x y : After} → x ≡ y → leaves tells x [] ≡ leaves tells y []
+told-by tells e = ap (λ (x : After). leaves tells x []) e
+
+module _ (c : Control) (m : Memory) (s : ℕ) {a : Answer} {c′ : Control} {m′ : Memory} {out : List ℕ} where
+  -- a read's output in the rest of its block, after its request
+  pub read-leaves : (asks block : List ℕ) {request asked : List ℕ} → request ≡ asks → asked ≡ requestIn block request → after a c′ m′ out ≡ read c m s request (outputIn asked)
+      → made (looked a s) c′ m′ (over asked 80 2560 out) ≡ readLeaves c m s asks block
+  unfolding readLeaves
+  read-leaves asks block {request} {asked} k p e =
+      ap (λ (x : After). leavesIn (λ y. looked y s) x asked) e
+      ∙ ap (λ (b : List ℕ). leavesIn (λ y. looked y s) (read c m s request (outputIn b)) b) p
+      ∙ ap (λ (q : List ℕ). readLeaves c m s q block) k
+
+  -- a collect's output in the rest of its block, after the request that was kept
+  pub collect-leaves : (store block : List ℕ) {kept asked : List ℕ} → kept ≡ partIn store (80 * (s - 1)) 80 → asked ≡ requestIn block kept → after a c′ m′ out ≡ collect c m s (outputIn asked)
+      → made (looked a s) c′ m′ (over asked 80 2560 out) ≡ collectLeaves c m s store block
+  unfolding collectLeaves
+  collect-leaves store block {kept} {asked} k p e =
+      ap (λ (x : After). leavesIn (λ y. looked y s) x asked) e
+      ∙ ap (λ (b : List ℕ). leavesIn (λ y. looked y s) (collect c m s (outputIn b)) b) (p ∙ ap (λ (q : List ℕ). requestIn block q) k)

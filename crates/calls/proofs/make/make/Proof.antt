@@ -1,0 +1,198 @@
+use mathlib.Core.Path.{refl}
+use Rattle.calls.specs.Make.{lineLeaves}
+use Rattle.calls.proofs.MakeLaws.{with-block, by-case}
+use borrow.Author.Needs.{needs}
+use Rattle.calls.proofs.make.make.Statement.{statement}
+use Rattle.calls.proofs.make.make.Tie as tie
+
+enum-known-call : tie.Need-enum-known-call
+enum-known-call c = search needs
+
+make-setup-requires : tie.Need-make-setup-requires
+make-setup-requires c κs = search needs
+
+enum-known-call-2 : tie.Need-enum-known-call-2
+enum-known-call-2 c = search needs
+
+make-commit-requires : tie.Need-make-commit-requires
+make-commit-requires c κs = search needs
+
+enum-known-call-3 : tie.Need-enum-known-call-3
+enum-known-call-3 c = search needs
+
+make-send-requires : tie.Need-make-send-requires
+make-send-requires c κs = search needs
+
+enum-known-call-4 : tie.Need-enum-known-call-4
+enum-known-call-4 c = search needs
+
+make-refresh-requires : tie.Need-make-refresh-requires
+make-refresh-requires c κs = search needs
+
+enum-known-call-5 : tie.Need-enum-known-call-5
+enum-known-call-5 c = search needs
+
+make-read-requires : tie.Need-make-read-requires
+make-read-requires c κs = search needs
+
+enum-known-call-6 : tie.Need-enum-known-call-6
+enum-known-call-6 c = search needs
+
+make-collect-requires : tie.Need-make-collect-requires
+make-collect-requires c κs = search needs
+
+enum-told : tie.Need-enum-told
+enum-told c = search needs
+
+enum-known-call-7 : tie.Need-enum-known-call-7
+enum-known-call-7 c = search needs
+
+enum-told-2 : tie.Need-enum-told-2
+enum-told-2 c = search needs
+
+same-length : tie.Need-same-length
+same-length c = search needs
+
+same-length-2 : tie.Need-same-length-2
+same-length-2 c = search needs
+
+same-length-3 : tie.Need-same-length-3
+same-length-3 c = search needs
+
+returns : tie.Need-returns
+unfolding lineLeaves
+returns c = by-case _ _ _ _ _ (c .before .before .before .before .before .before .before .before .before .before .before .call .given .1) (with-block (c .before .before .before .before .before .before .before .before .before .before .before .before .before .before .before .before .before .before .before .args .block .now) (c .before .before .before .before .before .before .make-setup .ensures))
+
+same-length-4 : tie.Need-same-length-4
+same-length-4 c = search needs
+
+same-length-5 : tie.Need-same-length-5
+same-length-5 c = search needs
+
+same-length-6 : tie.Need-same-length-6
+same-length-6 c = search needs
+
+returns-2 : tie.Need-returns-2
+unfolding lineLeaves
+returns-2 c = by-case _ _ _ _ _ (c .before .before .before .before .before .before .before .before .before .before .before .call2 .given .1) (with-block (c .before .before .before .before .before .before .before .before .before .before .before .before .before .before .before .before .before .before .before .args .block .now) (c .before .before .before .before .before .before .make-commit .ensures))
+
+same-length-7 : tie.Need-same-length-7
+same-length-7 c = search needs
+
+same-length-8 : tie.Need-same-length-8
+same-length-8 c = search needs
+
+same-length-9 : tie.Need-same-length-9
+same-length-9 c = search needs
+
+returns-3 : tie.Need-returns-3
+unfolding lineLeaves
+returns-3 c = by-case _ _ _ _ _ (c .before .before .before .before .before .call3 .given .1) (with-block (c .before .before .before .before .before .before .before .before .before .before .before .before .before .args .block .now) (c .make-send .ensures))
+
+same-length-10 : tie.Need-same-length-10
+same-length-10 c = search needs
+
+same-length-11 : tie.Need-same-length-11
+same-length-11 c = search needs
+
+same-length-12 : tie.Need-same-length-12
+same-length-12 c = search needs
+
+returns-4 : tie.Need-returns-4
+unfolding lineLeaves
+returns-4 c = by-case _ _ _ _ _ (c .before .before .before .before .before .before .before .call4 .given .1) (with-block (c .before .before .before .before .before .before .before .before .before .before .before .before .before .before .before .args .block .now) (c .before .before .make-refresh .ensures))
+
+same-length-13 : tie.Need-same-length-13
+same-length-13 c = search needs
+
+same-length-14 : tie.Need-same-length-14
+same-length-14 c = search needs
+
+same-length-15 : tie.Need-same-length-15
+same-length-15 c = search needs
+
+same-length-16 : tie.Need-same-length-16
+same-length-16 c = search needs
+
+returns-5 : tie.Need-returns-5
+unfolding lineLeaves
+returns-5 c = let called = c .before .before .before .before in
+    by-case _ _ _ _ _ (called .before .before .before .before .before .before .call5 .given .1) (called .make-read .ensures)
+
+same-length-17 : tie.Need-same-length-17
+same-length-17 c = search needs
+
+same-length-18 : tie.Need-same-length-18
+same-length-18 c = search needs
+
+same-length-19 : tie.Need-same-length-19
+same-length-19 c = search needs
+
+same-length-20 : tie.Need-same-length-20
+same-length-20 c = search needs
+
+returns-6 : tie.Need-returns-6
+unfolding lineLeaves
+returns-6 c = let called = c .before .before .before .before in
+    by-case _ _ _ _ _ (called .before .before .before .before .before .before .call6 .given .1) (called .make-collect .ensures)
+
+returns-7 : tie.Need-returns-7
+unfolding lineLeaves
+returns-7 c = by-case _ _ _ _ _ (c .enum-told .given .1) refl
+
+returns-8 : tie.Need-returns-8
+unfolding lineLeaves
+returns-8 c = by-case _ _ _ _ _ (c .before .call7 .given .1) refl
+
+returns-9 : tie.Need-returns-9
+unfolding lineLeaves
+returns-9 c = by-case _ _ _ _ _ (c .enum-told2 .given .1) refl
+
+pub make-spec : {M : Type 1} → statement M
+make-spec =
+    tie.close
+    (tie.spec
+    enum-known-call
+    make-setup-requires
+    enum-known-call-2
+    make-commit-requires
+    enum-known-call-3
+    make-send-requires
+    enum-known-call-4
+    make-refresh-requires
+    enum-known-call-5
+    make-read-requires
+    enum-known-call-6
+    make-collect-requires
+    enum-told
+    enum-known-call-7
+    enum-told-2
+    same-length
+    same-length-2
+    same-length-3
+    returns
+    same-length-4
+    same-length-5
+    same-length-6
+    returns-2
+    same-length-7
+    same-length-8
+    same-length-9
+    returns-3
+    same-length-10
+    same-length-11
+    same-length-12
+    returns-4
+    same-length-13
+    same-length-14
+    same-length-15
+    same-length-16
+    returns-5
+    same-length-17
+    same-length-18
+    same-length-19
+    same-length-20
+    returns-6
+    returns-7
+    returns-8
+    returns-9)

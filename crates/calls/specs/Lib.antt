@@ -1,0 +1,2 @@
+-- The calls of a transcript: what a line leaves.
+pub mod Make
