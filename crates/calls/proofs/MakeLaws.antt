@@ -1,16 +1,72 @@
 -- Laws of what a line leaves.
-use mathlib.Core.Path.{_≡_, sym, ap, _∙_}
+use mathlib.Core.Path.{_≡_, refl, sym, ap, _∙_}
 use mathlib.Core.List.{List, []}
 use Prim.Native.Nat.{ℕ, _*_, _-_}
 use Rattle.carts.specs.Bytes.{over}
-use Rattle.replication.specs.Answer.{Answer}
+use Rattle.replication.specs.Answer.{Answer, refused, done, waits, answered}
 use Rattle.replication.specs.Memory.{Memory}
 use Rattle.replication.specs.Calls.{After, after, read, collect}
 use Rattle.replication.specs.declared.control.Control.{Control}
+use Rattle.replication.specs.declared.answer.SetupAnswer.{SetupAnswer}
+use Rattle.replication.specs.declared.answer.SetupAnswer.the-variants as Setup
+use Rattle.replication.specs.declared.answer.CountAnswer.{CountAnswer}
+use Rattle.replication.specs.declared.answer.CountAnswer.the-variants as Count
+use Rattle.replication.specs.declared.answer.ReadAnswer.{ReadAnswer}
+use Rattle.replication.specs.declared.answer.ReadAnswer.the-variants as Read
+use Rattle.report.specs.declared.turn.Came.{Came}
+use Rattle.report.specs.declared.turn.Came.the-variants as Came
 use Rattle.lines.specs.Text.{partIn}
 use Rattle.journal.specs.Progress.{requestIn}
 use Rattle.lines.specs.declared.parse.Call.{Call}
-use Rattle.calls.specs.Make.{Told, looked, Made, made, leaves, outputIn, leavesIn, readLeaves, collectLeaves, lineLeaves}
+use Rattle.calls.specs.Make.{Told, setUp, committed, moved, looked, shown, unread, nothing, told, Made, made, leaves, outputIn, leavesIn, readLeaves, collectLeaves, lineLeaves}
+
+-- the code's case for an answer of 01 that it can give
+setupBy : Answer → SetupAnswer
+setupBy (refused n) = Setup.Refused n
+setupBy (done n) = Setup.Ready
+setupBy (waits n) = Setup.Ready
+setupBy (answered state found) = Setup.Ready
+
+countBy : Answer → CountAnswer
+countBy (refused n) = Count.Refused n
+countBy (done n) = Count.Number n
+countBy (waits n) = Count.Number n
+countBy (answered state found) = Count.Number state
+
+readBy : Answer → ReadAnswer
+readBy (refused n) = Read.Refused n
+readBy (done n) = Read.Waits n
+readBy (waits n) = Read.Waits n
+readBy (answered state found) = Read.Answered state found
+
+cameBy : Told → Came
+cameBy (setUp a studios) = Came.Setup (setupBy a) studios
+cameBy (committed a session operations) = Came.Commit (countBy a) session operations
+cameBy (moved a studio sends) = Came.Moved (countBy a) studio sends
+cameBy (looked a session) = Came.Read (readBy a) session
+cameBy shown = Came.Show
+cameBy (unread mistake at) = Came.Unreadable mistake at
+cameBy nothing = Came.Nothing
+
+-- what came of a line is read back from what is told of it
+told-back : (x : Came) → cameBy (told x) ≡ x
+unfolding cameBy setupBy countBy readBy
+told-back (Came.Setup Setup.Ready studios) = refl
+told-back (Came.Setup (Setup.Refused n) studios) = refl
+told-back (Came.Commit (Count.Number n) session operations) = refl
+told-back (Came.Commit (Count.Refused n) session operations) = refl
+told-back (Came.Moved (Count.Number n) studio sends) = refl
+told-back (Came.Moved (Count.Refused n) studio sends) = refl
+told-back (Came.Read (Read.Answered state found) session) = refl
+told-back (Came.Read (Read.Waits n) session) = refl
+told-back (Came.Read (Read.Refused n) session) = refl
+told-back Came.Show = refl
+told-back (Came.Unreadable mistake at) = refl
+told-back Came.Nothing = refl
+
+-- two things that came of lines and are told alike are the same
+pub told-once : (x y : Came) → told x ≡ told y → x ≡ y
+told-once x y e = sym (told-back x) ∙ ap cameBy e ∙ told-back y
 
 -- a line whose call has no block leaves its block as it was
 pub with-block : (block : List ℕ) {x y : Made} → x ≡ y → made (x .told) (x .control) (x .memory) block ≡ made (y .told) (y .control) (y .memory) block

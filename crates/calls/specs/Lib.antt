@@ -1,2 +1,3 @@
--- The calls of a transcript: what a line leaves.
+-- The calls of a transcript: what a line leaves, and what is kept of it.
 pub mod Make
+pub mod Keep

@@ -1,7 +1,7 @@
 -- What a line of a transcript leaves: the engine's call that it asks for, on the bytes that belong to the line. The calls
 -- are document 01's, by crates/replication/specs/Calls.antt.
 use mathlib.Core.Bool.{Bool, true, false}
-use mathlib.Core.List.{List, []}
+use mathlib.Core.List.{List}
 use Prim.Native.Nat.{ℕ, _*_, _-_}
 use Rattle.carts.specs.Bytes.{part, over}
 use Rattle.replication.specs.Answer.{Answer, setupAnswer, countAnswer, readAnswer}
@@ -28,7 +28,7 @@ pub data Told : Type 0 where
   unread : Mistake → ℕ → Told
   nothing : Told
 
--- the code's cases, their answers as 01's
+-- the code's cases, their answers as 01's; nothing is lost by it (proofs/MakeLaws.antt, `told-once`)
 abbrev pub told : Came → Told
 told (Came.Setup a studios) = setUp (setupAnswer a) studios
 told (Came.Commit a session operations) = committed (countAnswer a) session operations

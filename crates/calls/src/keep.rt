@@ -11,6 +11,8 @@ ghost use mathlib.Core.Path.{_≡_};
 ghost use Prim.Native.Nat.{_≤_};
 ghost use lib.ListN.{length};
 ghost use Rattle.journal.specs.History.{mostEntries, cellsSize};
+ghost use Rattle.journal.specs.Progress.{kept};
+ghost use Rattle.calls.specs.Keep.{cameKept};
 
 // What is carried on after a line, with the payload that its call had and the block of a read.
 pub fn keep(
@@ -22,7 +24,9 @@ pub fn keep(
     block: &[u8],
 ) -> Progress
     requires { ⌜ (length (now cells) ≡ cellsSize) × (p .history .entries ≤ mostEntries) ⌝ }
-    ensures { λ r. ⌜ r .history .entries ≤ mostEntries ⌝ }
+    ensures { λ r. ⌜ (kept (now (cells .exit)) (now (store .exit)) r
+        ≡ cameKept p (turn .came) (turn .control) (now (payload .entry)) (now (block .entry)) (now (cells .entry)) (now (store .entry)))
+        × (r .history .entries ≤ mostEntries) ⌝ }
 {
     let came = turn.came;
     let control = turn.control;
@@ -39,6 +43,7 @@ pub fn keep(
             p.after_read(result, cells, store, session, block)
         }
         Came::Unreadable(_, _) => p.unreadable(),
-        _ => p,
+        Came::Show => p,
+        Came::Nothing => p,
     }
 }

@@ -1,3 +1,7 @@
+use mathlib.Core.Path.{refl, ap, _∙_}
+use Rattle.journal.specs.Progress.{afterCommit}
+use Rattle.calls.specs.Keep.{cameKept}
+use Rattle.calls.proofs.KeepLaws.{by-came, same-entries}
 use native.Mathlib.Omega.{arith}
 use borrow.Author.Needs.{needs}
 use Rattle.calls.proofs.keep.keep.Statement.{statement}
@@ -42,8 +46,16 @@ enum-told c = search needs
 unreadable-requires : tie.Need-unreadable-requires
 unreadable-requires c κs = search needs
 
+enum-told-2 : tie.Need-enum-told-2
+enum-told-2 c = search needs
+
+enum-told-3 : tie.Need-enum-told-3
+enum-told-3 c = search needs
+
 returns : tie.Need-returns
-returns c = search needs
+unfolding cameKept
+returns c = let s = c .before .before .before .before .before .before .before .before .before in
+    (by-came _ _ _ _ _ _ (c .before .before .came .given .1) (same-entries (s .args .cells .now) (s .args .store .now) (c .after-setup .ensures .0)), omega (arith, c .after-setup .ensures .1, s .pre .1))
 
 same-length : tie.Need-same-length
 same-length c = search needs
@@ -51,15 +63,22 @@ same-length c = search needs
 same-length-2 : tie.Need-same-length-2
 same-length-2 c = search needs
 
--- what holds before the first step
-abbrev start : tie.After-slice-known4 → tie.Start
-start c = c .before .before .before .before .before .before .before .before .before .before .before .before .before .before .before .before
-
 returns-2 : tie.Need-returns-2
-returns-2 c = omega (arith, c .before .before .before .before .after-commit .ensures .1, start c .pre .0)
+unfolding cameKept
+returns-2 c = let called = c .before .before .before .before in
+    let part = called .before .before .before in
+    let s = part .before .before .before .before .before .before .before .before .before in
+    let a = s .args in
+    let e = called .after-commit .ensures in
+    let g = part .before .before .came2 .given in (
+      by-came _ _ _ _ _ _ (g .1) (e .0 ∙ ap (λ ops. afterCommit (a .p) (a .turn .control) (g .0 .0) (g .0 .1 .0) ops (a .cells .now) (a .store .now)) (part .part-of .ensures)),
+      omega (arith, e .1, s .pre .0),
+    )
 
 returns-3 : tie.Need-returns-3
-returns-3 c = search needs
+unfolding cameKept
+returns-3 c = let s = c .before .before .before .before .before .before .before .before .before in
+    (by-came _ _ _ _ _ _ (c .before .before .came3 .given .1) (same-entries (s .args .cells .now) (s .args .store .now) (c .after-move .ensures .0)), omega (arith, c .after-move .ensures .1, s .pre .1))
 
 same-length-3 : tie.Need-same-length-3
 same-length-3 c = search needs
@@ -68,13 +87,23 @@ same-length-4 : tie.Need-same-length-4
 same-length-4 c = search needs
 
 returns-4 : tie.Need-returns-4
-returns-4 c = search needs
+unfolding cameKept
+returns-4 c = let called = c .before .before .before .before in
+    let s = called .before .before .before .before .before .before .before .before .before .before .before in
+    (by-came _ _ _ _ _ _ (called .before .before .before .before .came4 .given .1) (called .after-read .ensures .0), omega (arith, called .after-read .ensures .1, s .pre .0))
 
 returns-5 : tie.Need-returns-5
-returns-5 c = search needs
+unfolding cameKept
+returns-5 c = let s = c .before .before .before .before .before .before .before .before in
+    (by-came _ _ _ _ _ _ (c .before .enum-told .given .1) (same-entries (s .args .cells .now) (s .args .store .now) (c .unreadable .ensures .0)), omega (arith, c .unreadable .ensures .1, s .pre .1))
 
 returns-6 : tie.Need-returns-6
-returns-6 c = search needs
+unfolding cameKept
+returns-6 c = (by-came _ _ _ _ _ _ (c .enum-told2 .given .1) refl, c .before .before .before .before .before .before .before .pre .1)
+
+returns-7 : tie.Need-returns-7
+unfolding cameKept
+returns-7 c = (by-came _ _ _ _ _ _ (c .enum-told3 .given .1) refl, c .before .before .before .before .before .before .before .pre .1)
 
 pub keep-spec : {M : Type 1} → statement M
 keep-spec =
@@ -93,6 +122,8 @@ keep-spec =
     after-read-requires
     enum-told
     unreadable-requires
+    enum-told-2
+    enum-told-3
     returns
     same-length
     same-length-2
@@ -102,4 +133,5 @@ keep-spec =
     same-length-4
     returns-4
     returns-5
-    returns-6)
+    returns-6
+    returns-7)
