@@ -72,6 +72,10 @@ told-once x y e = sym (told-back x) ∙ ap cameBy e ∙ told-back y
 pub with-block : (block : List ℕ) {x y : Made} → x ≡ y → made (x .told) (x .control) (x .memory) block ≡ made (y .told) (y .control) (y .memory) block
 with-block block e = ap (λ (x : Made). made (x .told) (x .control) (x .memory) block) e
 
+-- a line that makes no call: control as it was, and memory and block untouched
+pub without-call : (m : Memory) (block : List ℕ) {x y : Came} {c d : Control} → x ≡ y → c ≡ d → made (told x) c m block ≡ made (told y) d m block
+without-call m block p q = rw (p, q)
+
 -- what a line's case leaves
 pub by-case : (c : Control) (m : Memory) (store : List ℕ) {x y : Call} (payload block : List ℕ) {r : Made} → x ≡ y → r ≡ lineLeaves c m store y payload block → r ≡ lineLeaves c m store x payload block
 by-case c m store payload block e f = f ∙ sym (ap (λ (z : Call). lineLeaves c m store z payload block) e)

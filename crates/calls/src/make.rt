@@ -155,6 +155,13 @@ fn make_collect(
     }
 }
 
+// A line that makes no call.
+fn no_call(control: Control, came: Came) -> Turn
+    ensures { λ r. ⌜ (r .came ≡ came) × (r .control ≡ control) ⌝ }
+{
+    Turn { came, control }
+}
+
 // The call of a line, with its bytes at the start of the payload. A read or a collect has its request and its output in the
 // block; the requests of reads that wait are in the store.
 pub fn make(
@@ -193,17 +200,8 @@ pub fn make(
         Call::Collect(session) => {
             make_collect(control, library, log, sessions, session, store, block)
         }
-        Call::Show => Turn {
-            came: Came::Show,
-            control,
-        },
-        Call::Unreadable { mistake, at } => Turn {
-            came: Came::Unreadable(mistake, at),
-            control,
-        },
-        Call::Nothing => Turn {
-            came: Came::Nothing,
-            control,
-        },
+        Call::Show => no_call(control, Came::Show),
+        Call::Unreadable { mistake, at } => no_call(control, Came::Unreadable(mistake, at)),
+        Call::Nothing => no_call(control, Came::Nothing),
     }
 }

@@ -1,6 +1,5 @@
-use mathlib.Core.Path.{refl}
 use Rattle.calls.specs.Make.{lineLeaves}
-use Rattle.calls.proofs.MakeLaws.{with-block, by-case}
+use Rattle.calls.proofs.MakeLaws.{with-block, without-call, by-case}
 use borrow.Author.Needs.{needs}
 use Rattle.calls.proofs.make.make.Statement.{statement}
 use Rattle.calls.proofs.make.make.Tie as tie
@@ -44,11 +43,20 @@ make-collect-requires c κs = search needs
 enum-told : tie.Need-enum-told
 enum-told c = search needs
 
+no-call-requires : tie.Need-no-call-requires
+no-call-requires c κs = search needs
+
 enum-known-call-7 : tie.Need-enum-known-call-7
 enum-known-call-7 c = search needs
 
+no-call-requires-2 : tie.Need-no-call-requires-2
+no-call-requires-2 c κs = search needs
+
 enum-told-2 : tie.Need-enum-told-2
 enum-told-2 c = search needs
+
+no-call-requires-3 : tie.Need-no-call-requires-3
+no-call-requires-3 c κs = search needs
 
 same-length : tie.Need-same-length
 same-length c = search needs
@@ -138,15 +146,15 @@ returns-6 c = let called = c .before .before .before .before in
 
 returns-7 : tie.Need-returns-7
 unfolding lineLeaves
-returns-7 c = by-case _ _ _ _ _ (c .enum-told .given .1) refl
+returns-7 c = by-case _ _ _ _ _ (c .before .enum-told .given .1) (without-call _ _ (c .no-call .ensures .0) (c .no-call .ensures .1))
 
 returns-8 : tie.Need-returns-8
 unfolding lineLeaves
-returns-8 c = by-case _ _ _ _ _ (c .before .call7 .given .1) refl
+returns-8 c = by-case _ _ _ _ _ (c .before .before .call7 .given .1) (without-call _ _ (c .no-call2 .ensures .0) (c .no-call2 .ensures .1))
 
 returns-9 : tie.Need-returns-9
 unfolding lineLeaves
-returns-9 c = by-case _ _ _ _ _ (c .enum-told2 .given .1) refl
+returns-9 c = by-case _ _ _ _ _ (c .before .enum-told2 .given .1) (without-call _ _ (c .no-call3 .ensures .0) (c .no-call3 .ensures .1))
 
 pub make-spec : {M : Type 1} → statement M
 make-spec =
@@ -165,8 +173,11 @@ make-spec =
     enum-known-call-6
     make-collect-requires
     enum-told
+    no-call-requires
     enum-known-call-7
+    no-call-requires-2
     enum-told-2
+    no-call-requires-3
     same-length
     same-length-2
     same-length-3
