@@ -18,7 +18,7 @@ use Rattle.report.specs.declared.turn.Came.the-variants as Came
 use Rattle.lines.specs.Text.{partIn}
 use Rattle.journal.specs.Progress.{requestIn}
 use Rattle.lines.specs.declared.parse.Call.{Call}
-use Rattle.calls.specs.Make.{Told, setUp, committed, moved, looked, shown, unread, nothing, told, Made, made, leaves, outputIn, leavesIn, readLeaves, collectLeaves, lineLeaves}
+use Rattle.calls.specs.Make.{Told, setUp, committed, moved, looked, shown, unread, nothing, told, Made, made, leaves, outputIn, leavesIn, askLeaves, readLeaves, collectLeaves, lineLeaves}
 
 -- the code's case for an answer of 01 that it can give
 setupBy : Answer → SetupAnswer
@@ -84,20 +84,21 @@ by-case c m store payload block e f = f ∙ sym (ap (λ (z : Call). lineLeaves c
 pub told-by : (tells : Answer → Told) {x y : After} → x ≡ y → leaves tells x [] ≡ leaves tells y []
 told-by tells e = ap (λ (x : After). leaves tells x []) e
 
-module _ (c : Control) (m : Memory) (s : ℕ) {a : Answer} {c′ : Control} {m′ : Memory} {out : List ℕ} where
-  -- a read's output in the rest of its block, after its request
-  pub read-leaves : (asks block : List ℕ) {request asked : List ℕ} → request ≡ asks → asked ≡ requestIn block request → after a c′ m′ out ≡ read c m s request (outputIn asked)
-      → made (looked a s) c′ m′ (over asked 80 2560 out) ≡ readLeaves c m s asks block
-  unfolding readLeaves
-  read-leaves asks block {request} {asked} k p e =
-      ap (λ (x : After). leavesIn (λ y. looked y s) x asked) e
-      ∙ ap (λ (b : List ℕ). leavesIn (λ y. looked y s) (read c m s request (outputIn b)) b) p
-      ∙ ap (λ (q : List ℕ). readLeaves c m s q block) k
+module _ (s : ℕ) {a : Answer} {c′ : Control} {m′ : Memory} {out : List ℕ} where
+  -- the output in the rest of the block, after the request
+  ask-leaves : (does : List ℕ → After) (request block : List ℕ) {asked : List ℕ} → asked ≡ requestIn block request → after a c′ m′ out ≡ does (outputIn asked)
+      → made (looked a s) c′ m′ (over asked 80 2560 out) ≡ askLeaves s does request block
+  unfolding askLeaves
+  ask-leaves does request block {asked} p e =
+      ap (λ (x : After). leavesIn (λ y. looked y s) x asked) e ∙ ap (λ (b : List ℕ). leavesIn (λ y. looked y s) (does (outputIn b)) b) p
 
-  -- a collect's output in the rest of its block, after the request that was kept
-  pub collect-leaves : (store block : List ℕ) {kept asked : List ℕ} → kept ≡ partIn store (80 * (s - 1)) 80 → asked ≡ requestIn block kept → after a c′ m′ out ≡ collect c m s (outputIn asked)
-      → made (looked a s) c′ m′ (over asked 80 2560 out) ≡ collectLeaves c m s store block
-  unfolding collectLeaves
-  collect-leaves store block {kept} {asked} k p e =
-      ap (λ (x : After). leavesIn (λ y. looked y s) x asked) e
-      ∙ ap (λ (b : List ℕ). leavesIn (λ y. looked y s) (collect c m s (outputIn b)) b) (p ∙ ap (λ (q : List ℕ). requestIn block q) k)
+  module _ (c : Control) (m : Memory) where
+    pub read-leaves : (asks block : List ℕ) {request asked : List ℕ} → request ≡ asks → asked ≡ requestIn block request → after a c′ m′ out ≡ read c m s request (outputIn asked)
+        → made (looked a s) c′ m′ (over asked 80 2560 out) ≡ readLeaves c m s asks block
+    unfolding readLeaves
+    read-leaves asks block {request} k p e = ask-leaves (read c m s request) request block p e ∙ ap (λ (q : List ℕ). askLeaves s (read c m s q) q block) k
+
+    pub collect-leaves : (store block : List ℕ) {kept asked : List ℕ} → kept ≡ partIn store (80 * (s - 1)) 80 → asked ≡ requestIn block kept → after a c′ m′ out ≡ collect c m s (outputIn asked)
+        → made (looked a s) c′ m′ (over asked 80 2560 out) ≡ collectLeaves c m s store block
+    unfolding collectLeaves
+    collect-leaves store block {kept} k p e = ask-leaves (collect c m s) kept block p e ∙ ap (λ (q : List ℕ). askLeaves s (collect c m s) q block) k

@@ -60,17 +60,19 @@ outputIn block = part block slotSize (mostBytes - slotSize)
 abbrev pub leavesIn : (Answer → Told) → After → List ℕ → Made
 leavesIn tells a block = leaves tells a (over block slotSize (mostBytes - slotSize) (a .output))
 
--- "Read (session, request)", the request at the start of the block
-unfoldable pub readLeaves : Control → Memory → ℕ → List ℕ → List ℕ → Made
-readLeaves c m s request block =
+-- what a read or a collect of session s leaves: the request at the start of the block, the output in the rest of it
+unfoldable pub askLeaves : ℕ → (List ℕ → After) → List ℕ → List ℕ → Made
+askLeaves s does request block =
     let asked = requestIn block request in
-    leavesIn (λ a. looked a s) (read c m s request (outputIn asked)) asked
+    leavesIn (λ a. looked a s) (does (outputIn asked)) asked
 
--- "Collect (session)", with the request that was kept for the session at the start of the block
+-- "Read (session, request)"
+unfoldable pub readLeaves : Control → Memory → ℕ → List ℕ → List ℕ → Made
+readLeaves c m s request block = askLeaves s (read c m s request) request block
+
+-- "Collect (session)", with the request that was kept for the session
 unfoldable pub collectLeaves : Control → Memory → ℕ → List ℕ → List ℕ → Made
-collectLeaves c m s store block =
-    let asked = requestIn block (partIn store (slotSize * (s - 1)) slotSize) in
-    leavesIn (λ a. looked a s) (collect c m s (outputIn asked)) asked
+collectLeaves c m s store block = askLeaves s (collect c m s) (partIn store (slotSize * (s - 1)) slotSize) block
 
 -- a line's call, with its bytes at the start of the payload and the requests of reads that wait in the store
 unfoldable pub lineLeaves : Control → Memory → List ℕ → Call → List ℕ → List ℕ → Made
