@@ -16,7 +16,7 @@ use Rattle.replication.proofs.RowLaws.{unless-case}
 use Rattle.replication.proofs.ShownLaws.{Askable, length-shown, request-askable}
 use Rattle.replication.proofs.DecideLaws.{KnownSession}
 use Rattle.replication.proofs.Accepted.{commit-passed, read-passed, collect-passed}
-use Rattle.machine.specs.Machine.{Machine, session, Step, step, commits, sessionOf, refusedCommit, commit, send, refresh, answerFrom, block, wait, read, collect, call, run}
+use Rattle.machine.specs.Machine.{Machine, session, Step, step, commits, sessionOf, refusedCommit, commit, preview, send, refresh, answerFrom, block, wait, read, collect, call, run}
 use Rattle.machine.specs.Library.{Reply, request, at, shown, library, serve}
 use Rattle.machine.specs.OneCopy.{Event, event, entry, repliesOf, readEntry, Kind, writes, reads, collects, neither, kindOf, entryOf, waitedAfter, entries}
 use Rattle.machine.proofs.Sort.{length-snoc}
@@ -67,6 +67,10 @@ module _ (H : List Call.Call) (go-on : Goes H) (m : Machine) (copies : ℕ → L
       made i s ops meets
       (go-on _ (n + 1) copies′ (put floor s (n + 1)) waited (i + 1) (length-snoc (m .log) ops) kept
       (shown-to _ copies′ floor waited (appended m copies floor waited f ops) s _ (a .who) (sound .sixteen) (n + 1) (omega arith) (f .waits-for s (a .who .low)))))
+
+  when-preview : (s : ℕ) (bytes : List ℕ) → Fits neither (preview m s bytes)
+  unfolding preview entryOf waitedAfter
+  when-preview s bytes kept = nothing-new _ _
 
   when-send : (j : ℕ) → Fits neither (send m j)
   unfolding send entryOf waitedAfter
@@ -132,6 +136,7 @@ module _ (H : List Call.Call) (go-on : Goes H) (m : Machine) (copies : ℕ → L
   goes : (x : Call.Call) → Fits (kindOf x) (call m x)
   unfolding call kindOf
   goes (Call.commit s bytes) = when-commit s bytes
+  goes (Call.preview s bytes) = when-preview s bytes
   goes (Call.send j) = when-send j
   goes (Call.refresh j) = when-refresh j
   goes (Call.read s bytes out) = when-read s bytes out

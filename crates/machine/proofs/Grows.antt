@@ -8,7 +8,7 @@ use Rattle.carts.specs.Operation.{operationsOf}
 use Rattle.carts.specs.Transaction.{Transaction, L}
 use Rattle.replication.specs.Call as Call
 use Rattle.replication.proofs.RowLaws.{unless-case}
-use Rattle.machine.specs.Machine.{Machine, Step, refusedCommit, commit, send, refresh, answerFrom, wait, read, collect, call, afterCalls}
+use Rattle.machine.specs.Machine.{Machine, Step, refusedCommit, commit, preview, send, refresh, answerFrom, wait, read, collect, call, afterCalls}
 use Rattle.machine.proofs.Sort.{length-snoc}
 use Rattle.machine.proofs.Cases.{block-case}
 use Rattle.machine.proofs.Libraries.{L-before}
@@ -22,7 +22,7 @@ as-it-was : {log : List Transaction} → Grown log log
 as-it-was = record { more = omega arith; same = λ k u. refl }
 
 call-grows : (m : Machine) (x : Call.Call) → Grown (m .log) (call m x .next .log)
-unfolding call commit refusedCommit send refresh read collect answerFrom wait
+unfolding call commit refusedCommit preview send refresh read collect answerFrom wait
 call-grows m x = case x
   where
     Grows : Step → Type 0
@@ -33,6 +33,7 @@ call-grows m x = case x
       more = rw (length-snoc (m .log) (operationsOf bytes)) (omega arith);
       same = λ k u. L-before (m .log) (operationsOf bytes) k u;
     })
+    case (Call.preview s bytes) = as-it-was
     case (Call.send i) = unless-case Grows _ _ _ (λ k e. as-it-was) (λ e. as-it-was)
     case (Call.refresh i) = unless-case Grows _ _ _ (λ k e. as-it-was) (λ e. as-it-was)
     case (Call.read s request out) = unless-case Grows _ _ _ (λ k e. as-it-was) (λ e. block-case m s _ _ out Grows (λ u. as-it-was) (λ u. as-it-was))

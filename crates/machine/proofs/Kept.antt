@@ -13,7 +13,7 @@ use Rattle.replication.specs.Calls.{numberAfter}
 use Rattle.replication.proofs.RowLaws.{unless-case}
 use Rattle.replication.proofs.ShownLaws.{Askable, request-askable}
 use Rattle.replication.proofs.Accepted.{commit-passed, send-passed, refresh-passed, read-passed}
-use Rattle.machine.specs.Machine.{Machine, Step, commits, sessionOf, refusedCommit, commit, send, refresh, answerFrom, block, wait, read, collect, call, afterCalls}
+use Rattle.machine.specs.Machine.{Machine, Step, commits, sessionOf, refusedCommit, commit, preview, send, refresh, answerFrom, block, wait, read, collect, call, afterCalls}
 use Rattle.machine.proofs.Sort.{length-snoc}
 use Rattle.machine.proofs.Cases.{stateFor, block-case}
 use Rattle.machine.proofs.Sound.{Sound, applied-commits, with-session, with-transaction, with-sent, with-applied}
@@ -34,6 +34,10 @@ module _ (m : Machine) (f : Sound m) where
       with-session _ (with-transaction m f (operationsOf bytes) (operations-of bytes (a .form))) s _
       (rw (length-snoc (m .log) (operationsOf bytes)) (omega (arith, f .number-le (s - 1))))
       (f .askable (s - 1)))
+
+  keeps-preview : (s : ℕ) (bytes : List ℕ) → Keeps (preview m s bytes)
+  unfolding preview
+  keeps-preview s bytes = f
 
   keeps-send : (i : ℕ) → Keeps (send m i)
   unfolding send
@@ -73,6 +77,7 @@ module _ (m : Machine) (f : Sound m) where
   pub keeps : (x : Call.Call) → Sound (call m x .next)
   unfolding call
   keeps (Call.commit s bytes) = keeps-commit s bytes
+  keeps (Call.preview s bytes) = keeps-preview s bytes
   keeps (Call.send i) = keeps-send i
   keeps (Call.refresh i) = keeps-refresh i
   keeps (Call.read s request out) = keeps-read s request out

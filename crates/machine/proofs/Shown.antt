@@ -18,7 +18,7 @@ use Rattle.replication.specs.Call as Call
 use Rattle.replication.proofs.RowLaws.{unless-case}
 use Rattle.replication.proofs.ShownLaws.{Askable, request-askable}
 use Rattle.replication.proofs.Accepted.{read-passed}
-use Rattle.machine.specs.Machine.{Machine, Step, commits, sessionOf, refusedCommit, commit, send, refresh, answerFrom, block, wait, read, collect, call}
+use Rattle.machine.specs.Machine.{Machine, Step, commits, sessionOf, refusedCommit, commit, preview, send, refresh, answerFrom, block, wait, read, collect, call}
 use Rattle.machine.specs.OneCopy.{kindOf}
 use Rattle.machine.specs.Titles.{askedBy, asked}
 use Rattle.machine.proofs.Cases.{stateFor, block-case}
@@ -52,8 +52,9 @@ module _ (m : Machine) (f : Sound m) (k found : ℕ) where
       record { known = rw (← same) (applied-commits m f _); askable = a; count = rw (← same) cc; rest = drop (needed (asked m x)) out; output = rw same }) (λ u. holds-back)
 
   pub call-shows : (x : Call.Call) → Shows x (call m x)
-  unfolding call commit refusedCommit send refresh read collect askedBy kindOf
+  unfolding call commit refusedCommit preview send refresh read collect askedBy kindOf
   call-shows (Call.commit s bytes) = unless-case (Shows (Call.commit s bytes)) _ _ _ (λ n e. refuses) (λ e. counts)
+  call-shows (Call.preview s bytes) = unless-case (λ (r : Step). r .answer ≡ answered k found → Shown m (Call.preview s bytes) k found []) _ _ _ (λ n e. refuses) (λ e. counts)
   call-shows (Call.send i) = unless-case (Shows (Call.send i)) _ _ _ (λ n e. refuses) (λ e. counts)
   call-shows (Call.refresh i) = unless-case (Shows (Call.refresh i)) _ _ _ (λ n e. refuses) (λ e. counts)
   call-shows (Call.read s request out) = unless-case (Shows (Call.read s request out)) _ _ _ (λ n e. refuses) (λ e.

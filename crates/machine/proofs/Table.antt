@@ -1,6 +1,6 @@
--- The table of twelve, and reads while transactions are sent and not applied, on the plain machine by computation.
+-- The table of twelve, reads while transactions are sent and not applied, and previews, on the plain machine by computation.
 use mathlib.Core.Path.{_≡_, refl}
-use mathlib.Core.List.{List, [], _∷_}
+use mathlib.Core.List.{List, [], _∷_, _++_}
 use Rattle.carts.specs.Bytes.{zeros, u16, u32, u16s, within, all, every, allZero, pairwise, parts}
 use Rattle.carts.specs.Cart.{cartAt, printable, titleForm, hasTitle, noTitle, hasAudio, noAudio, held}
 use Rattle.carts.specs.Operation.{operationFields, operationForm, operationsOf, made, retitled, recut, meetsCart, effect, actedOn, meets, act, meetsAll, actAll}
@@ -13,7 +13,7 @@ use Rattle.replication.specs.Calls.{numberAfter}
 use Rattle.machine.specs.Machine as Machine
 use Rattle.machine.specs.Machine.{afterCalls}
 use Rattle.replication.specs.Answer.{refused, done, waits, answered}
-use Rattle.replication.specs.Call.{commit, send, refresh, read, collect, run, final}
+use Rattle.replication.specs.Call.{commit, preview, send, refresh, read, collect, run, final}
 use Rattle.machine.specs.OneCopy.{Event, event}
 use Rattle.machine.specs.Table.{studioBytes, topHourA, longTitle, payload, new, A, withdraw7, seven, titleRead, buffer, holding, cases2to10, case11, case12, callsOf, Table}
 use Rattle.machine.proofs.Entries.{plainHistory}
@@ -52,3 +52,25 @@ lagging =
 pub applied-shown : plainHistory start (callsOf lagging) ≡ lagging
 unfolding zeros u16 u32 u16s within all every allZero pairwise parts cartAt printable titleForm hasTitle noTitle hasAudio noAudio held operationFields operationForm operationsOf made retitled recut meetsCart effect actedOn meets act meetsAll actAll shownByNumbers foundByNumbers sameLetter titled titledFrom titledIn theOne topHourA noRoom numbersIn requestOf numbersForm requestFields requestForm isWaiting needed foundIn shownFrom stopped unless setupRows sessionRow studioRow sizeForm commitRows sendRows refreshRows readRows collectRows numberAfter replay L recordsUsed Machine.fresh Machine.setup Machine.refusedCommit Machine.commit Machine.send Machine.refresh Machine.answerFrom Machine.block Machine.wait Machine.read Machine.collect Machine.call run final plainHistory start A buffer holding studioBytes payload new withdraw7 seven lagging
 applied-shown = refl
+
+-- previews: commit's number and refusals, also in a session whose read is waiting, and nothing of it is left
+unfoldable pub trying : List Event
+trying =
+    event (preview 1 A) (done 1) []
+    ∷ event (preview 1 A) (done 1) []
+    ∷ event (preview 1 (new 8 topHourA ++ new 8 topHourA)) (refused 8) []
+    ∷ event (preview 17 A) (refused 3) []
+    ∷ event (read 1 seven buffer) (answered 0 0) (holding (zeros 80))
+    ∷ event (commit 2 A) (done 1) []
+    ∷ event (preview 1 A) (refused 8) []
+    ∷ event (read 1 seven buffer) (answered 0 0) (holding (zeros 80))
+    ∷ event (preview 2 (withdraw7 ++ A)) (done 2) []
+    ∷ event (read 2 seven buffer) (waits 1) buffer
+    ∷ event (preview 2 withdraw7) (refused 4) []
+    ∷ event (commit 1 withdraw7) (done 2) []
+    ∷ event (preview 1 A) (done 3) []
+    ∷ []
+
+pub preview-tried : plainHistory start (callsOf trying) ≡ trying
+unfolding zeros u16 u32 u16s within all every allZero pairwise parts cartAt printable titleForm hasTitle noTitle hasAudio noAudio held operationFields operationForm operationsOf made retitled recut meetsCart effect actedOn meets act meetsAll actAll shownByNumbers foundByNumbers sameLetter titled titledFrom titledIn theOne topHourA noRoom numbersIn requestOf numbersForm requestFields requestForm isWaiting needed foundIn shownFrom stopped unless setupRows sessionRow studioRow sizeForm commitRows sendRows refreshRows readRows collectRows numberAfter replay L recordsUsed Machine.fresh Machine.setup Machine.refusedCommit Machine.commit Machine.preview Machine.send Machine.refresh Machine.answerFrom Machine.block Machine.wait Machine.read Machine.collect Machine.call run final plainHistory start A buffer holding studioBytes payload new withdraw7 seven trying
+preview-tried = refl

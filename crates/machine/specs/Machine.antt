@@ -89,6 +89,10 @@ commit m s bytes =
     let left = withSession (withLog m (m .log ++ (operationsOf bytes ∷ []))) s (session (x .studio) n (x .waiting)) in
     unless (stopped (commitRows s (x .studio) (x .waiting) (recordsUsed (m .log)) (L (m .log) (commits m)) bytes)) (refusedCommit m s) (step (done n) left [])
 
+-- 02, S-1, "a preview of commit": "For every input it returns the number or refusal that commit would. It changes nothing"
+unfoldable pub preview : Machine → ℕ → List ℕ → Step
+preview m s bytes = step (commit m s bytes .answer) m []
+
 -- "Send (studio): sent rises by one. Returns it."
 unfoldable pub send : Machine → ℕ → Step
 send m i =
@@ -134,6 +138,7 @@ collect m s out =
 
 unfoldable pub call : Machine → Call.Call → Step
 call m (Call.commit s bytes) = commit m s bytes
+call m (Call.preview s bytes) = preview m s bytes
 call m (Call.send i) = send m i
 call m (Call.refresh i) = refresh m i
 call m (Call.read s request out) = read m s request out

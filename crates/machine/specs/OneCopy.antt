@@ -9,7 +9,7 @@ use Rattle.carts.specs.Operation.{operationsOf}
 use Rattle.replication.specs.Answer.{Answer, refused, done, waits, answered}
 use Rattle.replication.specs.Memory.{Memory}
 use Rattle.replication.specs.Request.{Request, requestOf, needed}
-use Rattle.replication.specs.Call.{Call, commit, send, refresh, read, collect}
+use Rattle.replication.specs.Call.{Call, commit, preview, send, refresh, read, collect}
 use Rattle.replication.specs.Calls as Bytes
 use Rattle.machine.specs.Library.{Input, operations, request, Reply, number, at, shown, Library, emptyLibrary, play}
 
@@ -55,8 +55,10 @@ pub data Kind : Type 0 where
   collects : ℕ → Kind
   neither : Kind
 
+-- 02, S-1, of preview: "It has no entry in the one-copy order."
 unfoldable pub kindOf : Call → Kind
 kindOf (commit s bytes) = writes s bytes
+kindOf (preview s bytes) = neither
 kindOf (send i) = neither
 kindOf (refresh i) = neither
 kindOf (read s bytes lent) = reads s bytes

@@ -9,6 +9,7 @@ pub mod Send
 pub mod Refresh
 pub mod Read
 pub mod Commit
+pub mod Preview
 pub mod Setup
 pub mod Refused
 -- all calls, and lists of them

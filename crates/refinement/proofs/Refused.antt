@@ -1,18 +1,18 @@
 -- A refused call changes nothing, from any control and memory.
-use mathlib.Core.Path.{_≡_}
+use mathlib.Core.Path.{_≡_, ap}
 use mathlib.Core.List.{List, []}
 use Prim.Native.Nat.{ℕ}
 use native.Mathlib.Omega.{arith}
 use lib.Dec.{leb}
 use Rattle.carts.specs.Bytes.{zeros}
 use Rattle.carts.proofs.TestLaws.{by-cond}
-use Rattle.replication.specs.Answer.{refused, done, waits}
+use Rattle.replication.specs.Answer.{Answer, refused, done, waits}
 use Rattle.replication.specs.Memory.{Memory, sessionAt, sequenceOf, nth, studioOf}
 use Rattle.replication.specs.Request.{Request}
 use Rattle.replication.specs.Rows.{unless}
-use Rattle.replication.specs.Call.{Call, commit, send, refresh, read, collect}
+use Rattle.replication.specs.Call.{Call, commit, preview, send, refresh, read, collect}
 use Rattle.replication.specs.Calls as Bytes
-use Rattle.replication.specs.Calls.{After, refusal, controlOf}
+use Rattle.replication.specs.Calls.{After, after, refusal, controlOf}
 use Rattle.replication.specs.declared.control.Control.{Control}
 use Rattle.replication.proofs.RowLaws.{unless-case}
 use Rattle.refinement.specs.Lent.{lent}
@@ -36,8 +36,9 @@ module _ (n : ℕ) (c : Control) (m : Memory) where
       (λ _ a. let z : _≡_ {A = ℕ} 0 1 = cc in omega arith) (λ _. h)
 
   pub call-refused : (x : Call) → Bytes.call c m x .answer ≡ refused n → Bytes.call c m x ≡ refusal c m (lent x) n
-  unfolding Bytes.call Bytes.commit Bytes.refusedCommit Bytes.send Bytes.refresh Bytes.read Bytes.collect lent
+  unfolding Bytes.call Bytes.commit Bytes.refusedCommit Bytes.preview Bytes.send Bytes.refresh Bytes.read Bytes.collect lent
   call-refused (commit s bytes) = by-rows [] _ _ (not-done n)
+  call-refused (preview s bytes) = ap (λ (a : Answer). after a c m [])
   call-refused (send i) = by-rows [] _ _ (not-done n)
   call-refused (refresh i) = by-rows [] _ _ (not-done n)
   call-refused (read s request out) = by-rows out _ _ (block-answers s _ _ _ out (not-waits n))

@@ -1,9 +1,9 @@
 -- Every call keeps the layout and does what the plain machine's call does, and so does every list of calls.
 use mathlib.Core.Path.{_≡_, refl}
-use mathlib.Core.List.{List, [], _∷_}
+use mathlib.Core.List.{List, [], _∷_, _++_}
 use Rattle.carts.specs.Transaction.{Transaction}
 use Rattle.replication.specs.Memory.{Memory}
-use Rattle.replication.specs.Call.{Call, commit, send, refresh, read, collect, run, final}
+use Rattle.replication.specs.Call.{Call, commit, preview, send, refresh, read, collect, run, final}
 use Rattle.replication.specs.Calls as Bytes
 use Rattle.replication.specs.Calls.{After}
 use Rattle.replication.specs.declared.control.Control.{Control}
@@ -17,11 +17,13 @@ use Rattle.refinement.proofs.Send.{send-keeps, send-simulates}
 use Rattle.refinement.proofs.Refresh.{refresh-keeps, refresh-simulates}
 use Rattle.refinement.proofs.Read.{read-keeps, read-simulates, collect-keeps, collect-simulates}
 use Rattle.refinement.proofs.Commit.{commit-keeps, commit-simulates}
+use Rattle.refinement.proofs.Preview.{preview-keeps, preview-simulates}
 
 -- from any control and memory of the layout, also where a copy is no L(n)
 pub keeps-layout : (c : Control) (m : Memory) → OfLayout c m → (x : Call) → OfLayout (Bytes.call c m x .control) (Bytes.call c m x .memory)
 unfolding Bytes.call
 keeps-layout c m h (commit s bytes) = commit-keeps c m s bytes h
+keeps-layout c m h (preview s bytes) = preview-keeps c m s bytes h
 keeps-layout c m h (send i) = send-keeps c m i h
 keeps-layout c m h (refresh i) = refresh-keeps c m i h
 keeps-layout c m h (read s request out) = read-keeps c m s request out h
@@ -34,6 +36,7 @@ simulates c m M h x = by-machine c m (λ M. Simulates (Bytes.call c m x) (Plain.
     case : (x : Call) (log : List Transaction) (sessions : List Session) → Represents c m (machineOf c log sessions)
         → Simulates (Bytes.call c m x) (Plain.call (machineOf c log sessions) x)
     case (commit s bytes) = commit-simulates c m s bytes
+    case (preview s bytes) = preview-simulates c m s bytes
     case (send i) = send-simulates c m i
     case (refresh i) = refresh-simulates c m i
     case (read s request out) = read-simulates c m s request out
@@ -49,6 +52,11 @@ pub simulates-after : (H : List Call) (r : After) (p : Step) → Simulates r p �
 unfolding run final
 simulates-after [] r p h = h
 simulates-after (x ∷ H) r p h = simulates-after H _ _ (simulates (r .control) (r .memory) (p .next) (h .next) x)
+
+pub history-joined : (H K : List Call) (r : After) → history r (H ++ K) ≡ history r H ++ history (Bytes.afterCalls r H) K
+unfolding history run final
+history-joined [] K r = refl
+history-joined (x ∷ H) K r = cc (history-joined H K (Bytes.call (r .control) (r .memory) x))
 
 pub same-history : (H : List Call) (r : After) (p : Step) → Simulates r p → history r H ≡ plainHistory p H
 unfolding history plainHistory run

@@ -1,4 +1,4 @@
--- THEOREMS about the calls on bytes, in the words of document 01. H is any list of the five calls. A fresh system is what an accepted setup leaves, for
+-- THEOREMS about the calls on bytes, in the words of documents 01 and 02. H is any list of the calls of `Call`. A fresh system is what an accepted setup leaves, for
 -- any S, any studio bytes and any memory before it. What "stand for" means is the record Represents; "of the layout" is the record OfLayout.
 use mathlib.Core.Path.{_≡_, sym, _∙_, fun-ext, subst₂}
 use mathlib.Core.Bool.{true, false, not}
@@ -35,6 +35,7 @@ use Rattle.refinement.specs.Lent.{lent}
 use Rattle.refinement.proofs.Represented.{log-length}
 use Rattle.refinement.proofs.Setup as Setup
 use Rattle.refinement.proofs.Refused as Refused
+use Rattle.refinement.proofs.Preview as Preview
 use Rattle.refinement.proofs.Simulation as Simulation
 use Rattle.refinement.proofs.Titles as Titles
 
@@ -59,6 +60,28 @@ refused-changes-nothing = Refused.call-refused
 pub refused-setup : (n : ℕ) (before : Memory) (studios : ℕ) (bytes : List ℕ) → setup before studios bytes .answer ≡ refused n
     → setup before studios bytes ≡ after (refused n) (controlOf 0 (zeros 16)) before []
 refused-setup = Refused.setup-refused
+
+-- LISTS. The answers and outputs of a list are those of its first part, and then those of the rest from what the first part left.
+pub history-joined : (r : After) (H K : List Call) → history r (H ++ K) ≡ history r H ++ history (afterCalls r H) K
+history-joined r H K = Simulation.history-joined H K r
+
+-- PREVIEW (02, S-1). "For every input it returns the number or refusal that commit would. It changes nothing that was lent or passed." For every
+-- control, memory, session and operations.
+pub preview-answers : (c : Control) (m : Memory) (s : ℕ) (bytes : List ℕ)
+    → Bytes.call c m (Call.preview s bytes) ≡ after (Bytes.call c m (Call.commit s bytes) .answer) c m (lent (Call.preview s bytes))
+preview-answers = Preview.preview-answers
+
+-- A preview between H and K, any parts of any list: it gives the answer that commit would give there. By history-joined, all other calls give the same
+-- answers and outputs with it and without it; and the list leaves the same control and memory.
+module _ (r : After) (H K : List Call) (s : ℕ) (bytes : List ℕ) where
+  pub with-preview : let left = afterCalls r H in
+      history r (H ++ (Call.preview s bytes ∷ K))
+      ≡ history r H ++ (event (Call.preview s bytes) (Bytes.commit (left .control) (left .memory) s bytes .answer) [] ∷ history left K)
+  with-preview = Preview.preview-between s bytes K H r
+
+  pub preview-leaves : (afterCalls r (H ++ (Call.preview s bytes ∷ K)) .control ≡ afterCalls r (H ++ K) .control)
+      × (afterCalls r (H ++ (Call.preview s bytes ∷ K)) .memory ≡ afterCalls r (H ++ K) .memory)
+  preview-leaves = Preview.preview-leaves s bytes K H r
 
 -- TITLES. "A title is kept whole or refused." From any control and memory, an accepted commit whose last operation on a cart is a new or a retitle
 -- leaves that title in the head end's copy: its length and its 64 bytes.

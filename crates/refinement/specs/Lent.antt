@@ -1,11 +1,12 @@
 -- The output that a call is lent.
 use mathlib.Core.List.{List, []}
 use Prim.Native.Nat.{ℕ}
-use Rattle.replication.specs.Call.{Call, commit, send, refresh, read, collect}
+use Rattle.replication.specs.Call.{Call, commit, preview, send, refresh, read, collect}
 
 -- "Output, lent to read and collect only": [] where none is lent
 unfoldable pub lent : Call → List ℕ
 lent (commit s bytes) = []
+lent (preview s bytes) = []
 lent (send i) = []
 lent (refresh i) = []
 lent (read s request out) = out

@@ -15,6 +15,7 @@ pub mod LinkLaws
 pub mod Occurrences
 pub mod OutputLaws
 pub mod Placement
+pub mod PreviewLaws
 pub mod ReadLaws
 pub mod RefreshLaws
 pub mod RequestLaws

@@ -1,10 +1,12 @@
--- The five calls of demand 3's lists, as data: what a caller passes. Lists of them.
+-- The calls of demand 3's lists, as data: what a caller passes. Lists of them.
 use mathlib.Core.List.{List, [], _∷_}
 use Prim.Native.Nat.{ℕ}
 
 pub data Call : Type 0 where
   -- session, the operations' bytes
   commit : ℕ → List ℕ → Call
+  -- 02, S-1, "a preview of commit": session, the operations' bytes
+  preview : ℕ → List ℕ → Call
   -- studio
   send : ℕ → Call
   -- studio

@@ -1,4 +1,4 @@
--- Document 01, setup and the five calls on bytes, for any control, memory, arguments and output: what the code's contracts cite.
+-- Setup and the calls of documents 01 and 02 on bytes, for any control, memory, arguments and output: what the code's contracts cite.
 -- "Commit acts by this same effect on the head end's copy, refresh on its studio's, and an answered read is taken from the copy of
 -- its session's studio, each also where that copy is no L(n)."
 use mathlib.Core.Bool.{cond}
@@ -71,6 +71,11 @@ commit c m s bytes =
     let sessions = withSession (m .sessions) s (withSequence n (sessionAt (m .sessions) s)) in
     unless (commitStop c m s bytes) (refusedCommit c m s) (after (done n) (committed c (length ops)) (memory library (appended c (m .log) ops) sessions) [])
 
+-- 02, S-1, "a preview of commit": "For every input it returns the number or refusal that commit would. It changes nothing that was lent or
+-- passed."
+unfoldable pub preview : Control → Memory → ℕ → List ℕ → After
+preview c m s bytes = after (commit c m s bytes .answer) c m []
+
 -- "Send (studio): sent rises by one. Returns it."
 unfoldable pub withSent : Control → ℕ → ℕ → Control
 withSent c i n = control (c .studios) (c .«session_studios») (c .used) (c .commits) (set (c .sent) (i - 1) n) (c .applied)
@@ -131,6 +136,7 @@ collect c m s out =
 
 unfoldable pub call : Control → Memory → Call.Call → After
 call c m (Call.commit s bytes) = commit c m s bytes
+call c m (Call.preview s bytes) = preview c m s bytes
 call c m (Call.send i) = send c m i
 call c m (Call.refresh i) = refresh c m i
 call c m (Call.read s request out) = read c m s request out

@@ -7,7 +7,7 @@ pub enum SetupAnswer {
     Refused(u32),
 }
 
-// Commit, send and refresh: the commit's number, sent or applied; or refused.
+// Commit, preview, send and refresh: the commit's number (of a preview the one that it would have), sent or applied; or refused.
 pub enum CountAnswer {
     Number(u32),
     Refused(u32),

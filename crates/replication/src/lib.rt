@@ -9,6 +9,7 @@ pub mod commit;
 pub mod control;
 pub mod layout;
 pub mod output;
+pub mod preview;
 pub mod read;
 pub mod record;
 pub mod refresh;
