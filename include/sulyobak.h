@@ -23,7 +23,7 @@
  *   - every pointer is valid for as many bytes as its length says, and not null where the length is 0; what is not const is writable;
  *   - the buffers of one call do not overlap: the three memories, output, and what is read (operations, request, session_studios);
  *   - one call at a time on the same memory, and nobody else reads or writes it while a call runs (calls on different memories may
- *     run at the same time);
+ *     run at the same time, and so may previews and layout tests of one memory: they change neither memory nor control);
  *   - the control that the last call handed back goes into the next one, and memory is kept as that call left it. (Where control
  *     or memory are damaged so that they are no longer of the layout, each call says so with the number 2. A control that is old, but
  *     still of the layout for this memory, cannot be told from the right one.)
@@ -40,10 +40,10 @@
 extern "C" {
 #endif
 
-/* The version of this interface: functions, structs, numbers and layout of memory. sulyobak_control and sulyobak_answer change with it,
- * so a header and a library go together (compare the macro with sulyobak_version() at the program's start), and control is stored together
- * with the version that wrote it. */
-#define SULYOBAK_VERSION 1
+/* The version of this interface: functions, structs, numbers and layout of memory. sulyobak_control and sulyobak_answer may change
+ * with it, so a header and a library go together (compare the macro with sulyobak_version() at the program's start), and control is stored
+ * together with the version that wrote it. docs/FORMAT.md says which versions have the same control and layout. */
+#define SULYOBAK_VERSION 2
 
 /* Stack that every call keeps within, in bytes. Measured on a full system, not proved: examples/run runs examples/c/stack.c, which fails
  * where a call takes more. */
@@ -110,12 +110,12 @@ typedef struct {
     uint32_t kind;  /* one of the four below */
     uint32_t value; /* refused: the number, below; done: what the call counts; answered: the state; waits: the session's number */
     uint32_t found; /* answered: how many carts were found */
-    sulyobak_control control; /* control for the next call; unchanged where the call was refused (setup's apart) */
+    sulyobak_control control; /* control for the next call; unchanged where the call was refused (setup's apart), and by preview, read, collect, layout */
 } sulyobak_answer;
 
 /* Kinds of answer. */
 #define SULYOBAK_REFUSED 0  /* nothing was done, no byte was changed; value says why */
-#define SULYOBAK_DONE 1     /* done; value: the commit's number, sent, or applied; 0 for setup and for the layout test */
+#define SULYOBAK_DONE 1     /* done; value: the commit's number (of a preview the one it would have), sent, or applied; 0 for setup and layout */
 #define SULYOBAK_ANSWERED 2 /* the read is answered; value: how many transactions the copy had taken; found; carts are in output */
 #define SULYOBAK_WAITS 3    /* the read is kept in the session; value: the number that the studio's copy has to reach first */
 
@@ -161,6 +161,17 @@ sulyobak_answer sulyobak_setup(uint8_t *library, size_t library_len, uint8_t *lo
  * Answers done (value: the commit's number, from 1), or refused 1, 2, 3, 4, 5, 6, 7, 8. */
 sulyobak_answer sulyobak_commit(uint8_t *library, size_t library_len, uint8_t *log, size_t log_len, uint8_t *sessions, size_t sessions_len,
                                 sulyobak_control control, uint32_t session, const uint8_t *operations, size_t operations_len);
+
+/* Previews a commit: answers what sulyobak_commit would answer for the same input, and makes no edit. Changes no memory, hands control
+ * back as it was passed, and raises no session's number. As long as control and memory stay as they are, the commit gives this
+ * answer.
+ *   control                       as the last call handed it back
+ *   session                       whose commit it would be, 1 to 16
+ *   operations, operations_len    1 to 8 operations of 80 bytes, one after the other
+ * Answers done (value: the number that the commit would have), or refused 1, 2, 3, 4, 5, 6, 7, 8, as commit would. */
+sulyobak_answer sulyobak_preview(const uint8_t *library, size_t library_len, const uint8_t *log, size_t log_len,
+                                 const uint8_t *sessions, size_t sessions_len, sulyobak_control control, uint32_t session,
+                                 const uint8_t *operations, size_t operations_len);
 
 /* Counts the next committed transaction as sent to a studio. Changes no memory.
  *   control   as the last call handed it back

@@ -15,6 +15,7 @@ typedef char library_is_five_copies[SULYOBAK_LIBRARY_SIZE == 5 * SULYOBAK_COPY_S
 uint32_t (*const of_the_version[])(void) = {sulyobak_version};
 sulyobak_answer (*const of_a_setup[])(WRITTEN, WRITTEN, WRITTEN, uint32_t, READ) = {sulyobak_setup};
 sulyobak_answer (*const of_a_commit[])(WRITTEN, WRITTEN, WRITTEN, sulyobak_control, uint32_t, READ) = {sulyobak_commit};
+sulyobak_answer (*const of_a_preview[])(READ, READ, READ, sulyobak_control, uint32_t, READ) = {sulyobak_preview};
 sulyobak_answer (*const of_a_send[])(READ, READ, READ, sulyobak_control, uint32_t) = {sulyobak_send};
 sulyobak_answer (*const of_a_refresh[])(WRITTEN, READ, READ, sulyobak_control, uint32_t) = {sulyobak_refresh};
 sulyobak_answer (*const of_a_read[])(READ, READ, WRITTEN, sulyobak_control, uint32_t, READ, WRITTEN) = {sulyobak_read};

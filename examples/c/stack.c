@@ -30,6 +30,7 @@ static sulyobak_answer nothing(void) { return answer; }
 static sulyobak_answer setup(void) { return sulyobak_setup(MEMORY, 1, studios, sizeof studios); }
 static sulyobak_answer commit_one(void) { return sulyobak_commit(MEMORY, answer.control, EDITOR, operations, 80); }
 static sulyobak_answer commit_eight(void) { return sulyobak_commit(MEMORY, answer.control, EDITOR, operations, sizeof operations); }
+static sulyobak_answer preview(void) { return sulyobak_preview(MEMORY, answer.control, EDITOR, operations, sizeof operations); }
 static sulyobak_answer send(void) { return sulyobak_send(MEMORY, answer.control, 1); }
 static sulyobak_answer refresh(void) { return sulyobak_refresh(MEMORY, answer.control, 1); }
 static sulyobak_answer read_as(uint32_t session)
@@ -120,6 +121,7 @@ int main(void)
     printf("Stack that a call takes on a full system\n");
     fill();
     measure("layout", layout);
+    measure("preview of 8 operations", preview);
     measure("commit of 1 operation", commit_one);
     measure("commit of 8 operations", commit_eight);
     measure("send", send);

@@ -4,6 +4,7 @@ use crate::words::Words;
 use replication::collect;
 use replication::commit;
 use replication::control::Control;
+use replication::preview;
 use replication::read;
 use replication::refresh;
 use replication::rows;
@@ -12,7 +13,7 @@ use replication::setup;
 ghost use mathlib.Core.Path.{_≡_};
 ghost use mathlib.Core.List.{[]};
 ghost use Rattle.replication.specs.Memory.{memory};
-ghost use Rattle.replication.specs.Calls.{setup, commit, send, refresh, read, collect};
+ghost use Rattle.replication.specs.Calls.{setup, commit, preview, send, refresh, read, collect};
 ghost use Rattle.sulyobak.specs.Words.{left, leftBy, layoutWords, version};
 
 pub mod words;
@@ -54,6 +55,22 @@ pub extern "C" fn sulyobak_commit(
         ≡ leftBy (commit control (memory (now (library .entry)) (now (log .entry)) (now (sessions .entry))) session (now (operations .entry))) ⌝ }
 {
     Words::of_count(commit::commit(control, library, log, sessions, session, operations))
+}
+
+// Preview of a commit of one to eight operations. Memory is only read.
+#[no_mangle]
+pub extern "C" fn sulyobak_preview(
+    library: &[u8],
+    log: &[u8],
+    sessions: &[u8],
+    control: Control,
+    session: u32,
+    operations: &[u8],
+) -> Words
+    ensures { λ r. ⌜ left r (memory (now (library .entry)) (now (log .entry)) (now (sessions .entry))) []
+        ≡ leftBy (preview control (memory (now (library .entry)) (now (log .entry)) (now (sessions .entry))) session (now (operations .entry))) ⌝ }
+{
+    Words::of_count(preview::preview(control, library, log, sessions, session, operations))
 }
 
 // Send. Memory is only read.

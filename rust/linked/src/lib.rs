@@ -39,6 +39,12 @@ pub fn commit(library: &mut [u8], log: &mut [u8], sessions: &mut [u8], control: 
     call!(sulyobak_commit, library, log, sessions, passed(control), session, operations.as_ptr(), operations.len())
 }
 
+/// Preview.
+#[inline]
+pub fn preview(library: &mut [u8], log: &mut [u8], sessions: &mut [u8], control: Control, session: u32, operations: &[u8]) -> Answer {
+    call!(sulyobak_preview, library, log, sessions, passed(control), session, operations.as_ptr(), operations.len())
+}
+
 /// Send.
 #[inline]
 pub fn send(library: &mut [u8], log: &mut [u8], sessions: &mut [u8], control: Control, studio: u32) -> Answer {

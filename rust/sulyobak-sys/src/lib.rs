@@ -5,7 +5,7 @@
 pub mod sizes;
 
 /// The version of the interface that these declarations are for: `SULYOBAK_VERSION`.
-pub const VERSION: u32 = 1;
+pub const VERSION: u32 = 2;
 
 /// The counts of a system. The engine is passed them and hands them back; any value may stand in any field, and each has its answer.
 ///
@@ -77,6 +77,20 @@ extern "C" {
         log: *mut u8,
         log_len: usize,
         sessions: *mut u8,
+        sessions_len: usize,
+        control: Control,
+        session: u32,
+        operations: *const u8,
+        operations_len: usize,
+    ) -> Answer;
+
+    /// Answers what a commit would answer, and changes nothing.
+    pub fn sulyobak_preview(
+        library: *const u8,
+        library_len: usize,
+        log: *const u8,
+        log_len: usize,
+        sessions: *const u8,
         sessions_len: usize,
         control: Control,
         session: u32,

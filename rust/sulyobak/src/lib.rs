@@ -50,6 +50,7 @@
 //! ```
 
 mod answer;
+mod call;
 mod cart;
 mod library;
 mod memory;
@@ -57,6 +58,7 @@ mod operation;
 mod request;
 mod title;
 mod version;
+mod view;
 
 pub use answer::{Found, Read, Refusal};
 pub use cart::Cart;

@@ -1,13 +1,14 @@
 use crate::answer::{Read, Refusal};
 use crate::memory::{self, Memory};
-use crate::operation::Operation;
+use crate::operation::{self, Operation};
 use crate::request::Request;
+use crate::view::View;
 use std::fmt;
 use sulyobak_sys::{sizes, Control};
 
 /// A system that owns its memory: the head end's copy, up to four studios' copies, the log and the sessions (some 93 kB).
 ///
-/// A call takes `&mut self`, so there is one at a time. See the [crate's page](crate) for an example.
+/// A call that changes something takes `&mut self`, so there is one at a time. See the [crate's page](crate) for an example.
 #[derive(Clone, PartialEq, Eq)]
 pub struct Library {
     library: Box<[u8]>,
@@ -72,8 +73,8 @@ impl Library {
     /// ```
     pub fn from_parts(parts: Parts) -> Result<Library, Refusal> {
         let Parts { library, log, sessions, control } = parts;
-        let mut library = Library { library, log, sessions, control };
-        library.memory().check()?;
+        let library = Library { library, log, sessions, control };
+        library.view().check()?;
         Ok(library)
     }
 
@@ -93,10 +94,45 @@ impl Library {
         Memory { library: &mut self.library, log: &mut self.log, sessions: &mut self.sessions, control: &mut self.control }
     }
 
+    fn view(&self) -> View<'_> {
+        View { library: &self.library, log: &self.log, sessions: &self.sessions, control: &self.control }
+    }
+
     /// Commits 1 to 8 operations at the head end, all or none. Returns the commit's number. Later reads of this session
     /// wait until its studio's copy has taken this commit.
     pub fn commit(&mut self, session: u32, operations: &[Operation]) -> Result<u32, Refusal> {
         self.memory().commit(session, operations)
+    }
+
+    /// Answers what [`commit`](Library::commit) would for the same session and operations, and changes nothing: the number that the
+    /// commit would have, or its refusal. The answer is the commit's as long as nothing is changed in between.
+    ///
+    /// A producer tries an edit before making it:
+    ///
+    /// ```
+    /// use sulyobak::{Library, Operation, Refusal, Title};
+    ///
+    /// # fn main() -> Result<(), Box<dyn std::error::Error>> {
+    /// let mut library = Library::new(1, &[1])?;
+    /// let news = Operation::New { cart: 30, title: Title::new("News bed")?, audio: 401, milliseconds: 60_000 };
+    /// assert_eq!(library.commit(1, &[news])?, 1);
+    /// let before = library.clone();
+    ///
+    /// // Cart 30 is there already, so the edit would be refused ..
+    /// let weather = Operation::New { cart: 30, title: Title::new("Weather bed")?, audio: 402, milliseconds: 30_000 };
+    /// assert_eq!(library.preview(1, &[weather]), Err(Refusal::WrongState));
+    ///
+    /// // .. and with the cart withdrawn first it would be commit 2.
+    /// let mended = [Operation::Withdraw { cart: 30 }, weather];
+    /// assert_eq!(library.preview(1, &mended)?, 2);
+    /// assert_eq!(library, before, "nothing has changed so far");
+    ///
+    /// assert_eq!(library.commit(1, &mended)?, 2);
+    /// # Ok(())
+    /// # }
+    /// ```
+    pub fn preview(&self, session: u32, operations: &[Operation]) -> Result<u32, Refusal> {
+        self.view().preview(session, &operation::bytes_of(operations))
     }
 
     /// Counts the next transaction as sent to a studio. Returns how many were sent.

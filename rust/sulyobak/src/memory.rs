@@ -1,7 +1,8 @@
 use crate::answer::{Found, Read, Refusal};
-use crate::operation::Operation;
+use crate::call::{call, counted, other_version};
+use crate::operation::{self, Operation};
 use crate::request::Request;
-use crate::version;
+use crate::view::View;
 use std::fmt;
 use sulyobak_sys::{self as sys, sizes, Control};
 
@@ -36,27 +37,6 @@ pub struct Memory<'a> {
     pub control: &'a mut Control,
 }
 
-// Calls an exported function with the three memories, and then the given arguments, if the linked engine is of this crate's version.
-macro_rules! call {
-    ($function:ident, $self:ident $(, $argument:expr)*) => {{
-        version::check()?;
-        // SAFETY: each pointer comes with its length from one slice, which stays borrowed for the whole call. What the engine writes
-        // (the memories, output) is borrowed mutably, so that no two of the slices overlap and no other thread has them. The engine
-        // accepts any bytes and any numbers, keeps no pointer, and does not unwind.
-        unsafe {
-            sys::$function(
-                $self.library.as_mut_ptr(),
-                $self.library.len(),
-                $self.log.as_mut_ptr(),
-                $self.log.len(),
-                $self.sessions.as_mut_ptr(),
-                $self.sessions.len(),
-                $($argument),*
-            )
-        }
-    }};
-}
-
 impl Memory<'_> {
     /// Sets up a fresh system: all memory zero, every cart empty, all counts zero.
     ///
@@ -64,7 +44,7 @@ impl Memory<'_> {
     /// A refused setup changes neither memory nor control, so a system that was live stays so. (The engine hands back a control of zeros
     /// then; it is not taken over.)
     pub fn setup(&mut self, studios: u32, session_studios: &[u8]) -> Result<(), Refusal> {
-        let answer = call!(sulyobak_setup, self, studios, session_studios.as_ptr(), session_studios.len());
+        let answer = call!(as_mut_ptr, sulyobak_setup, self, studios, session_studios.as_ptr(), session_studios.len());
         counted(&answer)?;
         *self.control = answer.control;
         Ok(())
@@ -72,35 +52,39 @@ impl Memory<'_> {
 
     /// Tests lengths and layout alone, as every call but setup does first. Whether a copy is what the log makes is not tested.
     pub fn check(&self) -> Result<(), Refusal> {
-        version::check()?;
-        let [(library, library_len), (log, log_len), (sessions, sessions_len)] =
-            [&self.library, &self.log, &self.sessions].map(|memory| (memory.as_ptr(), memory.len()));
-        // SAFETY: each pointer comes with its length from one slice, which stays borrowed for the whole call and is only read.
-        let answer = unsafe { sys::sulyobak_layout(library, library_len, log, log_len, sessions, sessions_len, *self.control) };
-        counted(&answer).map(|_| ())
+        self.view().check()
     }
 
     /// Commits 1 to 8 operations at the head end, all or none. Returns the commit's number.
     pub fn commit(&mut self, session: u32, operations: &[Operation]) -> Result<u32, Refusal> {
-        let bytes: Vec<u8> = operations.iter().flat_map(Operation::to_bytes).collect();
-        self.commit_bytes(session, &bytes)
+        self.commit_bytes(session, &operation::bytes_of(operations))
     }
 
     /// The same with the operations' bytes as they are.
     pub fn commit_bytes(&mut self, session: u32, operations: &[u8]) -> Result<u32, Refusal> {
-        let answer = call!(sulyobak_commit, self, *self.control, session, operations.as_ptr(), operations.len());
+        let answer = call!(as_mut_ptr, sulyobak_commit, self, *self.control, session, operations.as_ptr(), operations.len());
         self.done(answer)
+    }
+
+    /// Answers what a commit of these operations would, and changes nothing: [`Library::preview`](crate::Library::preview) has an example.
+    pub fn preview(&self, session: u32, operations: &[Operation]) -> Result<u32, Refusal> {
+        self.preview_bytes(session, &operation::bytes_of(operations))
+    }
+
+    /// The same with the operations' bytes as they are.
+    pub fn preview_bytes(&self, session: u32, operations: &[u8]) -> Result<u32, Refusal> {
+        self.view().preview(session, operations)
     }
 
     /// Counts the next transaction as sent to a studio. Returns how many were sent.
     pub fn send(&mut self, studio: u32) -> Result<u32, Refusal> {
-        let answer = call!(sulyobak_send, self, *self.control, studio);
+        let answer = call!(as_mut_ptr, sulyobak_send, self, *self.control, studio);
         self.done(answer)
     }
 
     /// Applies the next transaction that was sent to a studio to its copy. Returns how many the copy has taken.
     pub fn refresh(&mut self, studio: u32) -> Result<u32, Refusal> {
-        let answer = call!(sulyobak_refresh, self, *self.control, studio);
+        let answer = call!(as_mut_ptr, sulyobak_refresh, self, *self.control, studio);
         self.done(answer)
     }
 
@@ -114,7 +98,17 @@ impl Memory<'_> {
 
     /// The same with the request's bytes as they are, into output that the caller lends: 80 bytes for each number asked, or for a title.
     pub fn read_into(&mut self, session: u32, request: &[u8], output: &mut [u8]) -> Result<Found, Refusal> {
-        let answer = call!(sulyobak_read, self, *self.control, session, request.as_ptr(), request.len(), output.as_mut_ptr(), output.len());
+        let answer = call!(
+            as_mut_ptr,
+            sulyobak_read,
+            self,
+            *self.control,
+            session,
+            request.as_ptr(),
+            request.len(),
+            output.as_mut_ptr(),
+            output.len()
+        );
         self.answered(answer)
     }
 
@@ -128,8 +122,12 @@ impl Memory<'_> {
 
     /// The same into output that the caller lends.
     pub fn collect_into(&mut self, session: u32, output: &mut [u8]) -> Result<Found, Refusal> {
-        let answer = call!(sulyobak_collect, self, *self.control, session, output.as_mut_ptr(), output.len());
+        let answer = call!(as_mut_ptr, sulyobak_collect, self, *self.control, session, output.as_mut_ptr(), output.len());
         self.answered(answer)
+    }
+
+    fn view(&self) -> View<'_> {
+        View { library: self.library, log: self.log, sessions: self.sessions, control: self.control }
     }
 
     // How many places the session's waiting read asks for. (Of no matter where collect is then refused.)
@@ -155,20 +153,6 @@ impl Memory<'_> {
             kind => other_version(kind),
         }
     }
-}
-
-// What a call counts that does not read.
-fn counted(answer: &sys::Answer) -> Result<u32, Refusal> {
-    match answer.kind {
-        sys::DONE => Ok(answer.value),
-        sys::REFUSED => Err(Refusal::from_number(answer.value)),
-        kind => other_version(kind),
-    }
-}
-
-// No call of this version answers such a kind.
-fn other_version(kind: u32) -> ! {
-    panic!("the linked engine answers a kind {kind} that this call does not have: libsulyobak.a is of another version than this crate")
 }
 
 // So many bytes, not each of them.

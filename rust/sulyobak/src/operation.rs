@@ -73,6 +73,11 @@ impl Operation {
     }
 }
 
+// The bytes of operations, one after the other.
+pub(crate) fn bytes_of(operations: &[Operation]) -> Vec<u8> {
+    operations.iter().flat_map(Operation::to_bytes).collect()
+}
+
 fn put_audio(bytes: &mut [u8; sizes::CART], audio: u32, milliseconds: u32) {
     bytes[4..8].copy_from_slice(&audio.to_le_bytes());
     bytes[8..12].copy_from_slice(&milliseconds.to_le_bytes());

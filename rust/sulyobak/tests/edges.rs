@@ -1,17 +1,8 @@
 //! The edges that document 01 names for test runs, and every refusal, on the real engine.
-use sulyobak::{sizes, Control, Found, Library, Memory, Operation, Read, Refusal, Request, Title};
+mod made;
 
-fn fresh() -> Library {
-    Library::new(2, &[1, 1, 2]).expect("setup")
-}
-
-fn new(cart: u16) -> Operation {
-    Operation::New { cart, title: Title::new("Top hour A").expect("a title"), audio: 501, milliseconds: 8_000 }
-}
-
-fn recut(cart: u16) -> Operation {
-    Operation::Recut { cart, audio: 502, milliseconds: 9_000 }
-}
+use made::{fresh, new, recut};
+use sulyobak::{sizes, Control, Found, Library, Memory, Operation, Read, Refusal, Request};
 
 // Takes a system with its words, does a call that must be refused, and sees that nothing changed.
 fn refused<T: std::fmt::Debug + PartialEq>(library: &mut Library, refusal: Refusal, call: impl FnOnce(&mut Library) -> Result<T, Refusal>) {

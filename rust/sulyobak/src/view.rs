@@ -1,0 +1,29 @@
+use crate::answer::Refusal;
+use crate::call::{call, counted};
+use sulyobak_sys::{Answer, Control};
+
+// Memory and control of a system, for the calls that change neither.
+pub(crate) struct View<'a> {
+    pub(crate) library: &'a [u8],
+    pub(crate) log: &'a [u8],
+    pub(crate) sessions: &'a [u8],
+    pub(crate) control: &'a Control,
+}
+
+impl View<'_> {
+    pub(crate) fn check(&self) -> Result<(), Refusal> {
+        let answer = call!(as_ptr, sulyobak_layout, self, *self.control);
+        self.unchanged(answer).map(|_| ())
+    }
+
+    pub(crate) fn preview(&self, session: u32, operations: &[u8]) -> Result<u32, Refusal> {
+        let answer = call!(as_ptr, sulyobak_preview, self, *self.control, session, operations.as_ptr(), operations.len());
+        self.unchanged(answer)
+    }
+
+    // What such a call counts; control comes back as it was passed.
+    fn unchanged(&self, answer: Answer) -> Result<u32, Refusal> {
+        assert_eq!(answer.control, *self.control, "a call that changes nothing handed back another control");
+        counted(&answer)
+    }
+}
