@@ -1,4 +1,5 @@
-//! What the calls do to a system. A refused call's system is thrown away.
+//! What the calls do to a system. The system of a refused call is thrown away,
+//! and that of a preview, which is a commit in all else.
 
 use crate::cart::{Copy, encode_cart};
 use crate::control::Outcome;

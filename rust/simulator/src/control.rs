@@ -22,7 +22,7 @@ pub struct Control {
 
 /// The kind of a refusal.
 pub const REFUSED: u32 = 0;
-/// The kind of an accepted setup, commit, send or refresh.
+/// The kind of an accepted setup, commit, preview, send or refresh.
 pub const DONE: u32 = 1;
 /// The kind of an answered read.
 pub const ANSWERED: u32 = 2;

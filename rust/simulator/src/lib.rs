@@ -1,7 +1,9 @@
-//! The cart wall of document 01, by another hand.
+//! The cart wall of document 01, with request S-1 of document 02, by another
+//! hand.
 //!
 //! Every call decodes the lent memory and the control into a value, acts on
-//! the value, and encodes it again. Nothing here was taken from the engine.
+//! the value, and encodes it again; a preview throws the value away. Nothing
+//! here was taken from the engine.
 
 mod bytes;
 mod calls;
@@ -41,6 +43,13 @@ pub fn setup(library: &mut [u8], log: &mut [u8], sessions: &mut [u8], studios: u
 /// Commit.
 pub fn commit(library: &mut [u8], log: &mut [u8], sessions: &mut [u8], control: Control, session: u32, operations: &[u8]) -> Answer {
     play(library, log, sessions, control, |system| calls::commit(system, session, operations))
+}
+
+/// Preview: what commit would answer. It reads the memory, writes none of it,
+/// and hands control back as it was passed.
+pub fn preview(library: &mut [u8], log: &mut [u8], sessions: &mut [u8], control: Control, session: u32, operations: &[u8]) -> Answer {
+    let ended = decode(library, log, sessions, &control).and_then(|mut system| calls::commit(&mut system, session, operations));
+    ended.unwrap_or_else(Outcome::Refused).with(control)
 }
 
 /// Send.
@@ -90,6 +99,14 @@ fn right_lengths(library: &[u8], log: &[u8], sessions: &[u8]) -> bool {
     library.len() == LIBRARY && log.len() == LOG && sessions.len() == SESSION_MEMORY
 }
 
+/// The system that control and memory are, or the number of row 1 or 2.
+fn decode(library: &[u8], log: &[u8], sessions: &[u8], control: &Control) -> Result<system::System, u32> {
+    if !right_lengths(library, log, sessions) {
+        return Err(1);
+    }
+    system::System::decode(library, log, sessions, control).ok_or(2)
+}
+
 /// Rows 1 and 2, then the call itself, then the memory it leaves.
 fn play(
     library: &mut [u8],
@@ -98,14 +115,9 @@ fn play(
     control: Control,
     call: impl FnOnce(&mut system::System) -> calls::Ended,
 ) -> Answer {
-    if !right_lengths(library, log, sessions) {
-        return Outcome::Refused(1).with(control);
-    }
-    let Some(mut system) = system::System::decode(library, log, sessions, &control) else {
-        return Outcome::Refused(2).with(control);
-    };
-    match call(&mut system) {
-        Ok(outcome) => outcome.with(system.encode(library, log, sessions)),
-        Err(number) => Outcome::Refused(number).with(control),
-    }
+    let answer = decode(library, log, sessions, &control).and_then(|mut system| {
+        let outcome = call(&mut system)?;
+        Ok(outcome.with(system.encode(library, log, sessions)))
+    });
+    answer.unwrap_or_else(|number| Outcome::Refused(number).with(control))
 }

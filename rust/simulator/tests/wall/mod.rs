@@ -65,6 +65,19 @@ impl Wall {
         self.keep(before, answer)
     }
 
+    pub fn preview(&mut self, session: u32, operations: &[[u8; UNIT]]) -> Words {
+        self.preview_bytes(session, &operations.concat())
+    }
+
+    pub fn preview_bytes(&mut self, session: u32, bytes: &[u8]) -> Words {
+        let before = self.clone();
+        let (library, log) = (&mut self.library, &mut self.log);
+        let answer = simulator::preview(library, log, &mut self.sessions, self.control, session, bytes);
+        self.control = answer.control;
+        assert_eq!(*self, before, "a preview changes nothing, accepted or refused");
+        (answer.kind, answer.value, answer.found)
+    }
+
     pub fn send(&mut self, studio: u32) -> Words {
         let before = self.clone();
         let (library, log) = (&mut self.library, &mut self.log);
