@@ -6,27 +6,56 @@ use crate::random::Random;
 use crate::rows;
 use crate::wall::Wall;
 
+/// The kinds of call that have a weight, by their places among the weights.
+pub const CALLS: usize = 6;
+const COMMIT: usize = 0;
+const SEND: usize = 1;
+const REFRESH: usize = 2;
+pub const READ: usize = 3;
+const COLLECT: usize = 4;
+pub const PREVIEW: usize = 5;
+
+/// The weights by which one kind alone is chosen.
+pub fn only(kind: usize) -> [usize; CALLS] {
+    let mut weights = [0; CALLS];
+    weights[kind] = 1;
+    weights
+}
+
 /// How a list chooses its arguments.
 #[derive(Clone, Copy)]
 pub struct Taste {
-    /// Weights of commit, send, refresh, read and collect.
-    pub weights: [usize; 5],
-    /// Operations of a commit, from and to.
+    /// Weights of commit, send, refresh, read, collect and preview.
+    pub weights: [usize; CALLS],
+    /// Operations of a commit or a preview, from and to.
     pub sizes: (usize, usize),
     /// Percent of arguments that are meant to fit.
     pub fitting: usize,
 }
 
+/// A call; after a preview often the commit that it was of.
 pub fn call(random: &mut Random, maker: &Maker, taste: &Taste, wall: &Wall) -> Call {
+    if let Some((commit, _)) = &wall.previewed
+        && random.percent(60)
+    {
+        return commit.clone();
+    }
     let mut kind = random.weighted(&taste.weights);
-    if matches!(kind, 0 | 3) && all_waiting(wall) && random.percent(90) {
-        kind = *random.pick(&[1, 2, 2, 4]);
+    if matches!(kind, COMMIT | READ | PREVIEW) && all_waiting(wall) && random.percent(90) {
+        kind = *random.pick(&[SEND, REFRESH, REFRESH, COLLECT]);
     }
     match kind {
-        0 => commit(random, maker, taste, wall),
-        1 => Call::Send { studio: studio(random, taste, wall) },
-        2 => Call::Refresh { studio: studio(random, taste, wall) },
-        3 => read(random, maker, taste, wall),
+        COMMIT => {
+            let (session, operations) = edit(random, maker, taste, wall);
+            Call::Commit { session, operations }
+        }
+        PREVIEW => {
+            let (session, operations) = edit(random, maker, taste, wall);
+            Call::Preview { session, operations }
+        }
+        SEND => Call::Send { studio: studio(random, taste, wall) },
+        REFRESH => Call::Refresh { studio: studio(random, taste, wall) },
+        READ => read(random, maker, taste, wall),
         _ => collect(random, taste, wall),
     }
 }
@@ -37,7 +66,8 @@ fn all_waiting(wall: &Wall) -> bool {
     wall.used_sessions().into_iter().all(|session| wall.waiting(session))
 }
 
-pub fn commit(random: &mut Random, maker: &Maker, taste: &Taste, wall: &Wall) -> Call {
+/// The arguments of a commit or a preview: a session and operations.
+fn edit(random: &mut Random, maker: &Maker, taste: &Taste, wall: &Wall) -> (u32, Vec<u8>) {
     let session = session(random, taste, wall, false);
     let mut held = [false; 129];
     for (cart, state) in held.iter_mut().enumerate().skip(1) {
@@ -48,7 +78,7 @@ pub fn commit(random: &mut Random, maker: &Maker, taste: &Taste, wall: &Wall) ->
     if !random.percent(taste.fitting) {
         unsettle(random, maker, &mut operations);
     }
-    Call::Commit { session, operations }
+    (session, operations)
 }
 
 /// Makes operations that are of a wrong size, out of form, or in a wrong state.

@@ -2,10 +2,11 @@
 
 use std::fmt;
 
-#[derive(Clone, Debug)]
+#[derive(Clone, Debug, PartialEq, Eq)]
 pub enum Call {
     Setup { studios: u32, session_studios: Vec<u8> },
     Commit { session: u32, operations: Vec<u8> },
+    Preview { session: u32, operations: Vec<u8> },
     Send { studio: u32 },
     Refresh { studio: u32 },
     Read { session: u32, request: Vec<u8>, output: usize },
@@ -17,6 +18,7 @@ impl Call {
         match self {
             Call::Setup { .. } => "setup",
             Call::Commit { .. } => "commit",
+            Call::Preview { .. } => "preview",
             Call::Send { .. } => "send",
             Call::Refresh { .. } => "refresh",
             Call::Read { .. } => "read",
@@ -24,11 +26,11 @@ impl Call {
         }
     }
 
-    /// 01's rows for this call, from top to bottom.
+    /// The rows of this call, from top to bottom.
     pub fn rows(&self) -> &'static [u32] {
         match self {
             Call::Setup { .. } => &[1, 15],
-            Call::Commit { .. } => &[1, 2, 3, 4, 5, 6, 7, 8],
+            Call::Commit { .. } | Call::Preview { .. } => &[1, 2, 3, 4, 5, 6, 7, 8],
             Call::Send { .. } => &[1, 2, 3, 9, 10],
             Call::Refresh { .. } => &[1, 2, 3, 11],
             Call::Read { .. } => &[1, 2, 3, 4, 12, 13],
@@ -40,9 +42,17 @@ impl Call {
     pub fn input(&self) -> &[u8] {
         match self {
             Call::Setup { session_studios, .. } => session_studios,
-            Call::Commit { operations, .. } => operations,
+            Call::Commit { operations, .. } | Call::Preview { operations, .. } => operations,
             Call::Read { request, .. } => request,
             _ => &[],
+        }
+    }
+
+    /// The commit that a preview is of.
+    pub fn previewed(&self) -> Option<Call> {
+        match self {
+            Call::Preview { session, operations } => Some(Call::Commit { session: *session, operations: operations.clone() }),
+            _ => None,
         }
     }
 
@@ -61,8 +71,8 @@ impl fmt::Display for Call {
             Call::Setup { studios, session_studios } => {
                 write!(f, "setup S={studios} studio bytes={session_studios:?}")
             }
-            Call::Commit { session, operations } => {
-                write!(f, "commit session={session} {} bytes:", operations.len())?;
+            Call::Commit { session, operations } | Call::Preview { session, operations } => {
+                write!(f, "{} session={session} {} bytes:", self.name(), operations.len())?;
                 operations.chunks(80).try_for_each(|unit| write!(f, "\n    {}", hex(unit)))
             }
             Call::Send { studio } => write!(f, "send studio={studio}"),

@@ -1,7 +1,7 @@
 //! Bytes and words without any plan: many damages at once, links in circles,
 //! memory of one byte or of random ones. Every call must still end.
 
-use crate::arguments::{self, Taste};
+use crate::arguments::{self, CALLS, Taste};
 use crate::asides;
 use crate::direct;
 use crate::lent::{Lent, Part};
@@ -12,7 +12,7 @@ use crate::wall::Wall;
 
 pub fn play(player: &mut Player<'_>, seed: u64) -> Result<(), Mismatch> {
     let mut random = Random::new(seed);
-    let taste = Taste { weights: [1, 1, 1, 1, 1], sizes: (1, 8), fitting: 80 };
+    let taste = Taste { weights: [1; CALLS], sizes: (1, 8), fitting: 80 };
     for _ in 0..10 {
         let maker = Maker::new(&mut random, 6);
         let wall = direct::wall(&mut random, &maker);

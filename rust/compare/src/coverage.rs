@@ -1,7 +1,7 @@
 //! What was met: refusals, pairs of rows, boundaries, each counted.
 
 use crate::call::Call;
-use crate::keys::{DONE, Key, LENGTHS, READ, WAITED};
+use crate::keys::{COMMIT, DONE, Edit, Key, LENGTHS, PREVIEW, READ, WAITED};
 use crate::lent::Lent;
 use crate::rows;
 use simulator::{ANSWERED, Answer, Control, LIBRARY, LOG, REFUSED, SESSION_MEMORY, WAITS};
@@ -39,7 +39,7 @@ impl Coverage {
 
     pub fn note(&mut self, call: &Call, control: &Control, holding: &[u32], before: &Before, answer: &Answer) {
         let end = outcome(answer);
-        self.count((call.name(), 0, end));
+        self.count_end(call.name(), answer);
         for (i, row) in holding.iter().enumerate() {
             for other in &holding[i + 1..] {
                 let pair = (call.name(), *row.min(other), *row.max(other));
@@ -59,8 +59,10 @@ impl Coverage {
                 self.note_setup(*studios, session_studios, end);
             }
             Call::Commit { session, operations } => {
-                self.count(("commit, session", *session, end));
-                self.note_commit(operations, control, answer, end);
+                self.note_edit(&COMMIT, *session, operations, control, answer);
+            }
+            Call::Preview { session, operations } => {
+                self.note_edit(&PREVIEW, *session, operations, control, answer);
             }
             Call::Send { studio } => {
                 self.count(("send, number", answer.value, end));
@@ -88,6 +90,11 @@ impl Coverage {
         }
     }
 
+    /// How a call ended, under a subject of its own.
+    pub fn count_end(&mut self, subject: &'static str, answer: &Answer) {
+        self.count((subject, 0, outcome(answer)));
+    }
+
     fn note_lengths(&mut self, call: &Call, before: &Before, end: u32) {
         let right = [LIBRARY, LOG, SESSION_MEMORY];
         let subjects = LENGTHS[call_place(call)];
@@ -108,33 +115,36 @@ impl Coverage {
         }
     }
 
-    fn note_commit(&mut self, operations: &[u8], control: &Control, answer: &Answer, end: u32) {
-        self.count(("commit, size", operations.len() as u32, end));
+    /// The arguments of a commit or a preview.
+    fn note_edit(&mut self, of: &Edit, session: u32, operations: &[u8], control: &Control, answer: &Answer) {
+        let end = outcome(answer);
+        self.count((of.session, session, end));
+        self.count((of.size, operations.len() as u32, end));
         if end == DONE {
-            self.count(("commit, number", answer.value, end));
+            self.count((of.number, answer.value, end));
         }
         if matches!(end, 7 | 8 | DONE) {
             let after = control.used + (operations.len() / 80) as u32;
-            self.count(("commit, used", control.used, end));
-            self.count(("commit, used + operations", after, end));
+            self.count((of.used, control.used, end));
+            self.count((of.used_after, after, end));
         }
         if matches!(end, 6 | DONE) {
             for unit in operations.chunks_exact(80) {
-                self.note_operation(unit, end);
+                self.note_operation(of, unit, end);
             }
         }
     }
 
     /// For a refusal 6 only the operations that are out of form count.
-    fn note_operation(&mut self, unit: &[u8], end: u32) {
+    fn note_operation(&mut self, of: &Edit, unit: &[u8], end: u32) {
         if (end == DONE) != simulator::operation_in_form(unit) {
             return;
         }
         let cart = u32::from(unit[2]) | u32::from(unit[3]) << 8;
-        self.count(("operation, kind", u32::from(unit[0]), end));
-        self.count(("operation, cart", cart, end));
+        self.count((of.kind, u32::from(unit[0]), end));
+        self.count((of.cart, cart, end));
         if matches!(unit[0], 1 | 2) {
-            self.count(("operation, title length", u32::from(unit[1]), end));
+            self.count((of.title_length, u32::from(unit[1]), end));
         }
     }
 
@@ -232,5 +242,6 @@ fn call_place(call: &Call) -> usize {
         Call::Refresh { .. } => 3,
         Call::Read { .. } => 4,
         Call::Collect { .. } => 5,
+        Call::Preview { .. } => 6,
     }
 }

@@ -5,11 +5,11 @@ use crate::lent::Lent;
 use simulator::{Answer, Control};
 
 pub trait Engine {
-    /// Plays one of the six calls. Its input and output are already lent.
+    /// Plays a call. Its input and output are already lent.
     fn play(&mut self, call: &Call, control: Control, lent: &mut Lent) -> Answer;
 }
 
-/// Plays a call by one of the two crates that have the six functions.
+/// Plays a call by one of the two crates that have a function for each.
 macro_rules! play {
     ($by:ident, $call:ident, $control:ident, $lent:ident) => {{
         let Lent { library, log, sessions, input, output } = $lent;
@@ -18,6 +18,7 @@ macro_rules! play {
         match *$call {
             Call::Setup { studios, .. } => $by::setup(library, log, sessions, studios, input),
             Call::Commit { session, .. } => $by::commit(library, log, sessions, $control, session, input),
+            Call::Preview { session, .. } => $by::preview(library, log, sessions, $control, session, input),
             Call::Send { studio } => $by::send(library, log, sessions, $control, studio),
             Call::Refresh { studio } => $by::refresh(library, log, sessions, $control, studio),
             Call::Read { session, .. } => $by::read(library, log, sessions, $control, session, input, output),

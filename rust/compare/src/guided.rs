@@ -1,6 +1,6 @@
 //! Lists from fresh systems, guided so that deep states are reached.
 
-use crate::arguments::{self, Taste};
+use crate::arguments::{self, CALLS, PREVIEW, Taste};
 use crate::asides;
 use crate::call::Call;
 use crate::make::Maker;
@@ -79,9 +79,9 @@ impl Guide<'_, '_> {
 
     fn follow(&mut self, aim: Aim) -> Result<(), Mismatch> {
         match aim {
-            Aim::Mixed => self.steps(400, &taste([25, 20, 20, 25, 10], (1, 8), 85)),
-            Aim::Waits => self.steps(350, &taste([22, 13, 13, 30, 22], (1, 3), 93)),
-            Aim::Titles => self.steps(350, &taste([25, 18, 20, 30, 7], (1, 3), 93)),
+            Aim::Mixed => self.steps(400, &taste([25, 20, 20, 25, 10, 8], (1, 8), 85)),
+            Aim::Waits => self.steps(350, &taste([22, 13, 13, 30, 22, 6], (1, 3), 93)),
+            Aim::Titles => self.steps(350, &taste([25, 18, 20, 30, 7, 6], (1, 3), 93)),
             Aim::Eights => self.fill((8, 8), 504),
             Aim::Ones => self.fill((1, 1), 512),
             Aim::Varied => self.fill((1, 8), 500),
@@ -103,7 +103,7 @@ impl Guide<'_, '_> {
 
     /// Commits until `used` reaches the mark, then every way of ending.
     fn fill(&mut self, sizes: (usize, usize), mark: u32) -> Result<(), Mismatch> {
-        let filling = taste([66, 13, 13, 5, 3], sizes, 97);
+        let filling = taste([66, 13, 13, 5, 3, 7], sizes, 97);
         for _ in 0..1_200 {
             if self.wall.control.used >= mark {
                 break;
@@ -112,17 +112,17 @@ impl Guide<'_, '_> {
         }
         for _ in 0..60 {
             self.overfill()?;
-            self.step(&taste([50, 15, 15, 10, 10], (1, 2), 90))?;
+            self.step(&taste([50, 15, 15, 10, 10, 12], (1, 2), 90))?;
         }
-        self.steps(40, &taste([60, 12, 12, 10, 6], (1, 8), 80))?;
-        self.steps(150, &taste([5, 40, 40, 10, 5], (1, 1), 95))
+        self.steps(40, &taste([60, 12, 12, 10, 6, 12], (1, 8), 80))?;
+        self.steps(150, &taste([5, 40, 40, 10, 5, 3], (1, 1), 95))
     }
 
-    /// A commit that just fits the log, or is one operation too large, aside.
+    /// A preview and its commit that just fit the log, or are one operation too large, aside.
     fn overfill(&mut self) -> Result<(), Mismatch> {
         let space = 512 - self.wall.control.used as usize;
         let size = self.random.within(space, space + 1).clamp(1, 8);
-        let taste = taste([1, 0, 0, 0, 0], (size, size), 97);
+        let taste = taste(arguments::only(PREVIEW), (size, size), 97);
         let call = arguments::call(&mut self.random, &self.maker, &taste, &self.wall);
         self.player.play_aside(&self.wall, &call, |_| ()).map(|_| ())
     }
@@ -138,15 +138,15 @@ impl Guide<'_, '_> {
                 if self.wall.control.commits >= target {
                     break;
                 }
-                self.step(&taste([90, 2, 0, 6, 2], (1, 1), 97))?;
+                self.step(&taste([90, 2, 0, 6, 2, 4], (1, 1), 97))?;
             }
-            self.steps(80, &taste([2, 90, 0, 6, 2], (1, 1), 95))?;
-            self.steps(60, &taste([8, 36, 40, 10, 6], (1, 2), 90))?;
+            self.steps(80, &taste([2, 90, 0, 6, 2, 1], (1, 1), 95))?;
+            self.steps(60, &taste([8, 36, 40, 10, 6, 4], (1, 2), 90))?;
         }
         Ok(())
     }
 }
 
-fn taste(weights: [usize; 5], sizes: (usize, usize), fitting: usize) -> Taste {
+fn taste(weights: [usize; CALLS], sizes: (usize, usize), fitting: usize) -> Taste {
     Taste { weights, sizes, fitting }
 }

@@ -1,6 +1,6 @@
 //! The kinds of lists. A list's seed alone says its kind and its calls.
 
-use crate::arguments::{self, Taste};
+use crate::arguments::{self, CALLS, Taste};
 use crate::asides;
 use crate::chaos;
 use crate::direct;
@@ -65,7 +65,7 @@ pub fn play_fresh(player: &mut Player<'_>, seed: u64) -> Result<(), Mismatch> {
 /// Lists from memory of the layout that no list reaches.
 fn unreached(player: &mut Player<'_>, seed: u64) -> Result<(), Mismatch> {
     let mut random = Random::new(seed);
-    let taste = Taste { weights: [25, 15, 30, 18, 12], sizes: (1, 8), fitting: 92 };
+    let taste = Taste { weights: [25, 15, 30, 18, 12, 12], sizes: (1, 8), fitting: 92 };
     for _ in 0..8 {
         let maker = Maker::new(&mut random, 6);
         let mut wall = direct::wall(&mut random, &maker);
@@ -80,7 +80,7 @@ fn unreached(player: &mut Player<'_>, seed: u64) -> Result<(), Mismatch> {
 /// Damage of every kind to memory that has a place for every kind.
 fn damage(player: &mut Player<'_>, seed: u64) -> Result<(), Mismatch> {
     let mut random = Random::new(seed);
-    let taste = Taste { weights: [1, 1, 1, 1, 1], sizes: (1, 8), fitting: 75 };
+    let taste = Taste { weights: [1; CALLS], sizes: (1, 8), fitting: 75 };
     for _ in 0..10 {
         let maker = Maker::new(&mut random, 6);
         let wall = direct::wall(&mut random, &maker);

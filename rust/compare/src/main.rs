@@ -2,6 +2,7 @@
 
 mod arguments;
 mod asides;
+mod boundaries;
 mod call;
 mod chaos;
 mod coverage;

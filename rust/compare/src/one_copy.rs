@@ -38,7 +38,7 @@ impl History {
         History { entries: Vec::new(), waited: vec![Vec::new(); 17] }
     }
 
-    /// Takes in one call of H; `output` is as it stood when the call ended.
+    /// Takes in one call of H; `output` is as it stood when the call ended. Waits, refusals, sends, refreshes and previews have no entry.
     pub fn note(&mut self, number: u64, call: &Call, answer: &Answer, output: &[u8]) {
         match (call, answer.kind) {
             (Call::Commit { session, operations }, DONE) => {
@@ -161,6 +161,15 @@ mod tests {
         assert!(history(answer(ANSWERED, 1, 1), &[0; 80]).check().is_err());
         assert!(history(answer(ANSWERED, 1, 0), &new_cart_1()).check().is_err());
         assert!(history(answer(ANSWERED, 2, 1), &new_cart_1()).check().is_err());
+    }
+
+    #[test]
+    fn a_preview_has_no_entry() {
+        let mut history = history(answer(ANSWERED, 1, 1), &new_cart_1());
+        let preview = Call::Preview { session: 1, operations: vec![0; 80] };
+        history.note(3, &preview, &answer(DONE, 2, 0), &[]);
+        history.note(4, &read_cart_1(1), &answer(ANSWERED, 1, 1), &new_cart_1());
+        assert_eq!((history.len(), history.check()), (3, Ok(())));
     }
 
     #[test]

@@ -4,6 +4,7 @@ use crate::call::Call;
 use crate::coverage::Coverage;
 use crate::differ::{answer_text, first_difference};
 use crate::engine::{Engine, simulate};
+use crate::keys::{PREVIEWED, PREVIEWED_IN_LIST};
 use crate::one_copy::History;
 use crate::rows;
 use crate::wall::Wall;
@@ -47,12 +48,17 @@ impl<'e> Player<'e> {
         self.calls += 1;
         wall.lend(call, self.call_number);
         watch::call_begins(self.call_number, call);
+        let answer = match self.compares {
+            true => self.compare(wall, call)?,
+            false => self.engine.play(call, wall.control, &mut wall.played),
+        };
+        wall.control = answer.control;
+        wall.previewed = call.previewed().map(|commit| (commit, answer));
+        Ok(answer)
+    }
+
+    fn compare(&mut self, wall: &mut Wall, call: &Call) -> Result<Answer, Mismatch> {
         let control = wall.control;
-        if !self.compares {
-            let answer = self.engine.play(call, control, &mut wall.played);
-            wall.control = answer.control;
-            return Ok(answer);
-        }
         let mut holding = rows::holding(call, &control, &wall.simulated);
         let before = Coverage::before(call, &wall.simulated);
         let expected = simulate(call, control, &mut wall.simulated);
@@ -65,27 +71,38 @@ impl<'e> Player<'e> {
         }
         self.settle_row_2(&mut holding, call, &answer, wall, &control);
         self.check_rows(&holding, call, &answer)?;
+        self.check_preview(wall, call, &answer)?;
         self.coverage.note(call, &control, &holding, &before, &answer);
-        wall.control = answer.control;
         Ok(answer)
     }
 
     /// Plays a call of H and takes it into the history.
     pub fn play_in(&mut self, history: &mut History, wall: &mut Wall, call: &Call) -> Result<Answer, Mismatch> {
+        let previewed = wall.answer_previewed(call);
         let answer = self.play(wall, call)?;
+        if previewed.is_some() {
+            self.coverage.count_end(PREVIEWED_IN_LIST, &answer);
+        }
         history.note(self.call_number, call, &answer, wall.played.output.lent());
         Ok(answer)
     }
 
-    /// Plays a call on a changed copy of the wall, which itself stays.
+    /// Plays a call on a changed copy of the wall, which itself stays; after a preview also the commit that it was of.
     pub fn play_aside(&mut self, wall: &Wall, call: &Call, change: impl FnOnce(&mut Wall)) -> Result<Answer, Mismatch> {
         let mut aside = self.scratch.take().unwrap_or_else(Wall::zeros);
         aside.copy_from(wall);
         change(&mut aside);
         aside.mirror();
-        let answer = self.play(&mut aside, call);
+        let answer = self.play(&mut aside, call).and_then(|answer| self.play_previewed(&mut aside).map(|()| answer));
         self.scratch = Some(aside);
         answer
+    }
+
+    fn play_previewed(&mut self, wall: &mut Wall) -> Result<(), Mismatch> {
+        match wall.previewed.clone() {
+            Some((commit, _)) => self.play(wall, &commit).map(|_| ()),
+            None => Ok(()),
+        }
     }
 
     /// Checks the one-copy order of a whole list.
@@ -119,5 +136,39 @@ impl<'e> Player<'e> {
         }
         let words = format!("rows that hold {holding:?}, but the answer is refusal {refused:?}");
         Err(self.mismatch(call.to_string(), words))
+    }
+
+    /// 02's preview (S-1): the commit right after it gives the answer that it gave.
+    fn check_preview(&mut self, wall: &Wall, call: &Call, answer: &Answer) -> Result<(), Mismatch> {
+        let Some(previewed) = wall.answer_previewed(call) else { return Ok(()) };
+        if (previewed.kind, previewed.value, previewed.found) != (answer.kind, answer.value, answer.found) {
+            let words = format!("previewed as {}, but the commit is {}", answer_text(&previewed), answer_text(answer));
+            return Err(self.mismatch(call.to_string(), words));
+        }
+        self.coverage.count_end(PREVIEWED, answer);
+        Ok(())
+    }
+}
+
+#[cfg(test)]
+mod tests {
+    use super::*;
+    use crate::engine::Simulated;
+
+    #[test]
+    fn a_commit_must_answer_what_its_preview_did() {
+        let mut engine = Simulated;
+        let mut player = Player::new(&mut engine, true);
+        let mut wall = Wall::zeros();
+        player.play(&mut wall, &Call::Setup { studios: 1, session_studios: vec![1; 16] }).expect("no mismatch");
+        let preview = Call::Preview { session: 1, operations: vec![0; 81] };
+        player.play(&mut wall, &preview).expect("no mismatch");
+        let (commit, previewed) = wall.previewed.clone().expect("the latest call was a preview");
+        player.play(&mut wall.clone(), &commit).expect("no mismatch");
+
+        let otherwise = Answer { value: previewed.value + 1, ..previewed };
+        wall.previewed = Some((commit.clone(), otherwise));
+        let mismatch = player.play(&mut wall, &commit).expect_err("another answer than the preview's");
+        assert_eq!(mismatch.words, "previewed as refused 6 (found 0), but the commit is refused 5 (found 0)");
     }
 }

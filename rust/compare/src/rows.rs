@@ -36,7 +36,7 @@ fn row_holds(row: u32, call: &Call, control: &Control, lent: &Lent) -> bool {
         (3, _) => session_studio(call, control) == 0,
         (4, _) => waiting(call, lent),
         (14, _) => !waiting(call, lent),
-        (5..=8, Call::Commit { operations, .. }) => commit_row_holds(row, operations, control, lent),
+        (5..=8, Call::Commit { operations, .. } | Call::Preview { operations, .. }) => edit_row_holds(row, operations, control, lent),
         (9..=11, Call::Send { studio } | Call::Refresh { studio }) => studio_row_holds(row, *studio, control),
         (12, Call::Read { request, .. }) => !simulator::request_in_form(request),
         (13, Call::Read { request, output, .. }) => *output < output_asked(request),
@@ -52,7 +52,8 @@ fn row_holds(row: u32, call: &Call, control: &Control, lent: &Lent) -> bool {
 /// The session that a call names.
 pub fn session_of(call: &Call) -> Option<u32> {
     match call {
-        Call::Commit { session, .. } | Call::Read { session, .. } | Call::Collect { session, .. } => Some(*session),
+        Call::Commit { session, .. } | Call::Preview { session, .. } => Some(*session),
+        Call::Read { session, .. } | Call::Collect { session, .. } => Some(*session),
         _ => None,
     }
 }
@@ -88,7 +89,7 @@ pub fn output_asked(request: &[u8]) -> usize {
     }
 }
 
-fn commit_row_holds(row: u32, operations: &[u8], control: &Control, lent: &Lent) -> bool {
+fn edit_row_holds(row: u32, operations: &[u8], control: &Control, lent: &Lent) -> bool {
     let length = operations.len();
     match row {
         5 => !length.is_multiple_of(UNIT) || !(80..=640).contains(&length),
@@ -99,7 +100,7 @@ fn commit_row_holds(row: u32, operations: &[u8], control: &Control, lent: &Lent)
 }
 
 /// Row 8; operations out of form are passed over.
-fn wrong_state_met(operations: &[u8], lent: &Lent) -> bool {
+pub fn wrong_state_met(operations: &[u8], lent: &Lent) -> bool {
     let mut head_end: Vec<u8> = (0..COPY).map(|at| lent.library.byte(at)).collect();
     for unit in operations.chunks_exact(UNIT).filter(|unit| simulator::operation_in_form(unit)) {
         if !single::meets(&head_end, unit) {

@@ -1,7 +1,7 @@
 //! Sweeps: every byte of one unit, every control word, every byte of an
 //! input, and every memory's length, each with a row of values.
 
-use crate::arguments::{self, Taste};
+use crate::arguments::{self, CALLS, PREVIEW, READ, Taste};
 use crate::asides::{self, WORDS};
 use crate::call::Call;
 use crate::direct;
@@ -13,7 +13,7 @@ use crate::random::Random;
 use crate::wall::Wall;
 use simulator::UNIT;
 
-const EVEN: Taste = Taste { weights: [1, 1, 1, 1, 1], sizes: (1, 8), fitting: 92 };
+const EVEN: Taste = Taste { weights: [1; CALLS], sizes: (1, 8), fitting: 92 };
 
 const BYTES: [u8; 15] = [0, 1, 2, 3, 4, 5, 31, 32, 33, 64, 65, 126, 127, 128, 255];
 
@@ -77,7 +77,7 @@ pub const INPUTS: [&str; 6] = [
     "sweep of a request by title",
 ];
 
-/// Every byte of an operation or of a request; `turn` says of which kind.
+/// Every byte of an operation or of a request; `turn` says of which kind. Operations are previewed, and then committed.
 pub fn input(player: &mut Player<'_>, seed: u64, turn: usize) -> Result<(), Mismatch> {
     let mut random = Random::new(seed);
     let maker = Maker::new(&mut random, 10);
@@ -103,7 +103,7 @@ pub fn input(player: &mut Player<'_>, seed: u64, turn: usize) -> Result<(), Mism
 }
 
 fn input_call(random: &mut Random, maker: &Maker, wall: &Wall, kind: usize) -> Call {
-    let weights = if kind < 4 { [1, 0, 0, 0, 0] } else { [0, 0, 0, 1, 0] };
+    let weights = arguments::only(if kind < 4 { PREVIEW } else { READ });
     let taste = Taste { weights, sizes: (1, 3), fitting: 100 };
     arguments::call(random, maker, &taste, wall)
 }
@@ -117,10 +117,10 @@ fn unit_of_kind(call: &Call, kind: usize) -> Option<usize> {
 fn with_input_byte(call: &Call, at: usize, value: u8) -> Call {
     let mut call = call.clone();
     match &mut call {
-        Call::Commit { operations: input, .. } | Call::Read { request: input, .. } => {
+        Call::Preview { operations: input, .. } | Call::Read { request: input, .. } => {
             input[at] = value;
         }
-        _ => unreachable!("only commits and reads are swept"),
+        _ => unreachable!("only previews and reads are swept"),
     }
     call
 }
@@ -130,7 +130,7 @@ pub fn lengths(player: &mut Player<'_>, seed: u64) -> Result<(), Mismatch> {
     let mut random = Random::new(seed);
     let maker = Maker::new(&mut random, 10);
     let wall = direct::wall(&mut random, &maker);
-    for kind in 0..6 {
+    for kind in 0..=CALLS {
         for memory in 0..3 {
             for length in 0..8 {
                 let call = call_of_kind(&mut random, &maker, &wall, kind);
@@ -142,12 +142,10 @@ pub fn lengths(player: &mut Player<'_>, seed: u64) -> Result<(), Mismatch> {
 }
 
 fn call_of_kind(random: &mut Random, maker: &Maker, wall: &Wall, kind: usize) -> Call {
-    if kind == 5 {
+    if kind == CALLS {
         return arguments::setup(random, 80);
     }
-    let mut weights = [0; 5];
-    weights[kind] = 1;
-    let taste = Taste { weights, fitting: 60, ..EVEN };
+    let taste = Taste { weights: arguments::only(kind), fitting: 60, ..EVEN };
     arguments::call(random, maker, &taste, wall)
 }
 

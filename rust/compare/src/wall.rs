@@ -2,29 +2,38 @@
 
 use crate::call::Call;
 use crate::lent::Lent;
-use simulator::Control;
+use simulator::{Answer, Control};
 
 #[derive(Clone)]
 pub struct Wall {
     pub simulated: Lent,
     pub played: Lent,
     pub control: Control,
+    /// If the latest call was a preview: the commit that it was of, and its answer.
+    pub previewed: Option<(Call, Answer)>,
 }
 
 impl Wall {
     pub fn zeros() -> Wall {
-        Wall { simulated: Lent::zeros(), played: Lent::zeros(), control: Control::default() }
+        Wall { simulated: Lent::zeros(), played: Lent::zeros(), control: Control::default(), previewed: None }
     }
 
     pub fn copy_from(&mut self, other: &Wall) {
         self.simulated.copy_from(&other.simulated);
         self.played.copy_from(&other.played);
         self.control = other.control;
+        self.previewed.clone_from(&other.previewed);
     }
 
     /// Gives the simulator the engine's memory, after the latter was changed.
     pub fn mirror(&mut self) {
         self.simulated.copy_from(&self.played);
+        self.previewed = None;
+    }
+
+    /// The answer of the preview right before this call, if the call is the commit that it was of.
+    pub fn answer_previewed(&self, call: &Call) -> Option<Answer> {
+        self.previewed.as_ref().filter(|(commit, _)| commit == call).map(|(_, answer)| *answer)
     }
 
     /// Lends the call's input and an output of marked bytes.

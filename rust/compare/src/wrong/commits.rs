@@ -1,9 +1,10 @@
 //! Mistakes of commit.
 
 use super::mistake::{Mistake, Notes, copy_of, is_refused, mistake, order_mistake, refused, right};
-use super::mistake::{session_unit, transaction};
+use super::mistake::{clear_waiting, session_unit, transaction};
 use crate::call::Call;
 use crate::lent::Lent;
+use crate::rows;
 use crate::single;
 use simulator::{Answer, Control, DONE};
 
@@ -160,14 +161,8 @@ fn rows_6_7(_: &mut Notes, call: &Call, control: Control, lent: &mut Lent) -> An
 
 fn rows_7_8(_: &mut Notes, call: &Call, control: Control, lent: &mut Lent) -> Answer {
     let answer = right(call, control, lent);
-    if is_refused(&answer, 7) {
-        let mut head_end = copy_of(lent, 0).to_vec();
-        for unit in call.input().chunks_exact(80) {
-            if !single::meets(&head_end, unit) {
-                return refused(8, control);
-            }
-            single::act(&mut head_end, unit);
-        }
+    if is_refused(&answer, 7) && rows::wrong_state_met(call.input(), lent) {
+        return refused(8, control);
     }
     answer
 }
@@ -179,9 +174,7 @@ fn commits_while_waiting(_: &mut Notes, call: &Call, control: Control, lent: &mu
         return answer;
     }
     let stored = session_unit(lent, *session).to_vec();
-    let unit = session_unit(lent, *session);
-    unit[..2].fill(0);
-    unit[16..].fill(0);
+    clear_waiting(lent, *session);
     let answer = right(call, control, lent);
     let unit = session_unit(lent, *session);
     unit[..2].copy_from_slice(&stored[..2]);

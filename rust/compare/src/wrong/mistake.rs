@@ -50,6 +50,13 @@ pub fn session_unit(lent: &mut Lent, session: u32) -> &mut [u8] {
     &mut lent.sessions.lent_mut()[start..start + 80]
 }
 
+/// Takes a session's waiting read away; its number stays.
+pub fn clear_waiting(lent: &mut Lent, session: u32) {
+    let unit = session_unit(lent, session);
+    unit[..2].fill(0);
+    unit[16..].fill(0);
+}
+
 /// The copy of a studio, or the head end's for 0.
 pub fn copy_of(lent: &mut Lent, studio: u32) -> &mut [u8] {
     let start = simulator::COPY * studio as usize;

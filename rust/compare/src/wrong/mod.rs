@@ -5,6 +5,7 @@ mod bounds;
 mod commits;
 mod layouts;
 mod mistake;
+mod previews;
 mod reads;
 mod setups;
 mod studios;
@@ -17,7 +18,8 @@ use mistake::{Notes, Play};
 use simulator::{Answer, Control};
 
 pub fn all() -> Vec<Mistake> {
-    let groups = [commits::MISTAKES, studios::MISTAKES, reads::MISTAKES, layouts::MISTAKES, setups::MISTAKES, bounds::MISTAKES];
+    let groups =
+        [commits::MISTAKES, previews::MISTAKES, studios::MISTAKES, reads::MISTAKES, layouts::MISTAKES, setups::MISTAKES, bounds::MISTAKES];
     groups.concat()
 }
 

@@ -1,7 +1,7 @@
 //! Mistakes of read and collect.
 
-use super::mistake::session_unit;
 use super::mistake::{Mistake, Notes, copy_of, is_refused, mistake, order_mistake, refused, right};
+use super::mistake::{clear_waiting, session_unit};
 use crate::call::Call;
 use crate::lent::Lent;
 use crate::rows;
@@ -233,9 +233,7 @@ fn second_read(_: &mut Notes, call: &Call, control: Control, lent: &mut Lent) ->
     if !is_refused(&answer, 4) {
         return answer;
     }
-    let unit = session_unit(lent, *session);
-    unit[..2].fill(0);
-    unit[16..].fill(0);
+    clear_waiting(lent, *session);
     right(call, control, lent)
 }
 
