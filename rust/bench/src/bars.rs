@@ -1,10 +1,12 @@
 //! The bars: ratios that the engine must not pass, and whether it does.
 
-use crate::states::Kind;
+use crate::states::{FULL, Kind};
 
 pub struct Bar {
     what: &'static str,
     most: f64,
+    /// The one state that it covers; without a name, every state.
+    only: Option<&'static str>,
     /// The worst ratio seen, and where.
     worst: f64,
     at: String,
@@ -12,7 +14,15 @@ pub struct Bar {
 
 impl Bar {
     fn new(what: &'static str, most: f64) -> Bar {
-        Bar { what, most, worst: 0.0, at: String::new() }
+        Bar { what, most, only: None, worst: 0.0, at: String::new() }
+    }
+
+    fn only_on(self, state: &'static str) -> Bar {
+        Bar { only: Some(state), ..self }
+    }
+
+    pub fn covers(&self, state: &str) -> bool {
+        self.only.is_none_or(|only| only == state)
     }
 
     pub fn see(&mut self, ratio: f64, at: String) {
@@ -24,14 +34,14 @@ impl Bar {
 
     fn print(&self) {
         let verdict = if self.worst <= self.most { "met" } else { "MISSED" };
-        let Bar { what, most, worst, at } = self;
+        let Bar { what, most, worst, at, .. } = self;
         println!("  {verdict:<7} {worst:>5.2}  at most {most:.1}  {what} ({at})");
     }
 }
 
 pub struct Bars {
     pub layout: Bar,
-    pub calls: [(Kind, Bar); 3],
+    pub calls: [(Kind, Bar); 4],
     pub setup: Bar,
 }
 
@@ -42,6 +52,7 @@ impl Bars {
             calls: [
                 (Kind::Other, Bar::new("send, read, collect / layout test", 1.1)),
                 (Kind::Write, Bar::new("commit, refresh / layout test", 1.3)),
+                (Kind::Preview, Bar::new("preview / layout test, full memory", 1.1).only_on(FULL)),
                 (Kind::Title, Bar::new("read, collect by title / layout test", 1.3)),
             ],
             setup: Bar::new("setup / memset of 93,440 bytes", 1.5),

@@ -7,13 +7,14 @@ pub enum Call {
     Layout,
     Setup { studios: u32, places: [u8; 16] },
     Commit { session: u32, operations: Vec<u8> },
+    Preview { session: u32, operations: Vec<u8> },
     Send { studio: u32 },
     Refresh { studio: u32 },
     Read { session: u32, request: [u8; UNIT] },
     Collect { session: u32 },
 }
 
-/// Plays a call by one of the two crates that have the six functions, or the layout test by `$layout`.
+/// Plays a call by one of the two crates that have a function for each, or the layout test by `$layout`.
 macro_rules! play {
     ($by:ident, $layout:expr, $call:ident, $memory:ident, $control:ident, $output:ident) => {{
         let Memory { library, log, sessions } = $memory;
@@ -22,6 +23,7 @@ macro_rules! play {
             Call::Layout => $layout(library, log, sessions, control),
             Call::Setup { studios, places } => $by::setup(library, log, sessions, *studios, places),
             Call::Commit { session, operations } => $by::commit(library, log, sessions, control, *session, operations),
+            Call::Preview { session, operations } => $by::preview(library, log, sessions, control, *session, operations),
             Call::Send { studio } => $by::send(library, log, sessions, control, *studio),
             Call::Refresh { studio } => $by::refresh(library, log, sessions, control, *studio),
             Call::Read { session, request } => $by::read(library, log, sessions, control, *session, request, $output),

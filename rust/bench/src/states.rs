@@ -13,11 +13,15 @@ pub struct State {
     pub calls: Vec<(&'static str, Kind, Rc<Call>)>,
 }
 
+/// The name of the state that a bar may be taken on alone.
+pub const FULL: &str = "full";
+
 /// Which bar a call is held to.
 #[derive(Clone, Copy, PartialEq, Eq)]
 pub enum Kind {
     /// Commit and refresh.
     Write,
+    Preview,
     /// Reads and collects by title.
     Title,
     /// Every other call that begins with the layout test.
@@ -31,12 +35,13 @@ fn operations(operation: impl Fn(usize) -> [u8; UNIT]) -> Vec<u8> {
 
 fn calls(letters: &[u8], operations: Vec<u8>, is_empty: bool) -> Vec<(&'static str, Kind, Rc<Call>)> {
     let session = wall::READER;
-    let one = Call::Commit { session, operations: operations[..UNIT].to_vec() };
-    let eight = Call::Commit { session, operations };
+    let first = operations[..UNIT].to_vec();
     let read = |request| Call::Read { session, request };
     let mut calls = vec![
-        ("commit, 1 operation", Kind::Write, one),
-        ("commit, 8 operations", Kind::Write, eight),
+        ("commit, 1 operation", Kind::Write, Call::Commit { session, operations: first.clone() }),
+        ("commit, 8 operations", Kind::Write, Call::Commit { session, operations: operations.clone() }),
+        ("preview, 1 operation", Kind::Preview, Call::Preview { session, operations: first }),
+        ("preview, 8 operations", Kind::Preview, Call::Preview { session, operations }),
         ("read, 1 number", Kind::Other, read(units::by_numbers(1))),
         ("read, 32 numbers", Kind::Other, read(units::by_numbers(32))),
         ("read, title", Kind::Title, read(units::by_title(letters))),
@@ -81,7 +86,7 @@ pub fn typical() -> State {
 pub fn full() -> State {
     let retitle = |cart| units::retitle(cart, &units::title(cart, 64));
     State {
-        name: "full",
+        name: FULL,
         what: "4 studios, 5 x 128 held carts, titles of 64, 504 commits of 1 operation, 16 sessions",
         wall: Wall::full(504, 1),
         calls: calls(&units::title(7, 64), operations(retitle), false),

@@ -35,7 +35,7 @@ pub fn calls(race: &Race, state: &State, measured: &Measured, bars: &mut Bars) {
             engine - layout,
             simulator / engine
         );
-        for (_, bar) in bars.calls.iter_mut().filter(|(its_kind, _)| its_kind == kind) {
+        for (_, bar) in bars.calls.iter_mut().filter(|(its_kind, bar)| its_kind == kind && bar.covers(state.name)) {
             bar.see(engine / layout, format!("{name}; {}", state.name));
         }
     }
