@@ -4,7 +4,8 @@
  * Part one: two versions of a jingle have long titles that differ in the last letter. Imported by title and by cart number, the
  * playlist gets the same carts. Part two: a producer re-cuts the sponsor's jingle and reads it in the same chair while the studio's
  * copy is two edits behind. The read waits, and is collected with the new cut. One chair is one session: a second session in the
- * producer's chair has edited nothing, so its read is answered at once with the old cut.
+ * producer's chair has edited nothing, so its read is answered at once with the old cut. Part three: the producer tries an edit of two
+ * steps before making it, is told what is wrong with it, mends it and commits it.
  */
 #include "sulyobak_util.h"
 
@@ -14,7 +15,7 @@
 
 enum { MANAGER = 1, PRODUCER = 2, PRESENTER = 3, SECOND = 4 }; /* sessions, all of them in studio 1; the last one by mistake */
 enum { STUDIO = 1 };
-enum { JINGLE_A = 11, JINGLE_B = 12, SPONSOR = 20, NEWS = 30 }; /* carts */
+enum { JINGLE_A = 11, JINGLE_B = 12, SPONSOR = 20, NEWS = 30, WEATHER = 31 }; /* carts */
 
 /* The system: three memories, and the control that the last call handed back. */
 static uint8_t library_memory[SULYOBAK_LIBRARY_SIZE];
@@ -75,6 +76,12 @@ static void show(size_t place)
 static void commit(const char *what, uint32_t session, const uint8_t *operations, size_t count)
 {
     say(what, sulyobak_commit(MEMORY, control, session, operations, count * SULYOBAK_OPERATION_SIZE));
+}
+
+/* What a commit would answer; nothing is changed. */
+static void preview(const char *what, uint32_t session, const uint8_t *operations, size_t count)
+{
+    say(what, sulyobak_preview(MEMORY, control, session, operations, count * SULYOBAK_OPERATION_SIZE));
 }
 
 static void read_title(const char *what, uint32_t session, const char *title)
@@ -146,6 +153,20 @@ static void the_sponsors_jingle(void)
     say("the producer collects", sulyobak_collect(MEMORY, control, PRODUCER, output, sizeof output));
     show(0);
     say("nothing more is waiting", sulyobak_collect(MEMORY, control, PRODUCER, output, sizeof output));
+}
+
+static void the_weather_bed(void)
+{
+    uint8_t operations[2 * SULYOBAK_OPERATION_SIZE];
+
+    printf("\nThe weather bed\n");
+    made(sulyobak_operation_retitle(operations, SPONSOR, "Sponsor: Kovacs bakery, winter"));
+    made(sulyobak_operation_new(operations + 80, NEWS, "Weather bed", 402, 30000));
+    preview("the producer tries an edit that puts it where the news bed is", PRODUCER, operations, 2);
+    made(sulyobak_operation_new(operations + 80, WEATHER, "Weather bed", 402, 30000));
+    preview("the producer tries the edit with the next cart", PRODUCER, operations, 2);
+    printf("commits %u, as before\n", (unsigned)control.commits);
+    commit("the producer commits it", PRODUCER, operations, 2);
     say("control and memory are of the layout", sulyobak_layout(MEMORY, control));
 }
 
@@ -159,5 +180,6 @@ int main(void)
     say("set up one studio with three chairs, one of them with two sessions", sulyobak_setup(MEMORY, 1, studios, sizeof studios));
     the_title_column();
     the_sponsors_jingle();
+    the_weather_bed();
     return 0;
 }

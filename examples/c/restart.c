@@ -19,6 +19,9 @@
 
 enum { EDITOR = 1, STUDIO = 1, JINGLE = 7, WORDS = 27 };
 
+/* The oldest version whose control and memory are laid out as this version's (docs/FORMAT.md): such files are taken over too. */
+enum { OLDEST = 1 };
+
 #define CONTROL_AT 4
 #define LIBRARY_AT (CONTROL_AT + 4 * WORDS)
 #define LOG_AT (LIBRARY_AT + SULYOBAK_LIBRARY_SIZE)
@@ -130,7 +133,8 @@ static int load(station *to, const char *file)
     sulyobak_answer tested;
     unsigned i;
     size_t size = read_whole(file);
-    if (size < 4 || sulyobak_get(bytes, 4) != SULYOBAK_VERSION) {
+    uint32_t version = size < 4 ? 0 : sulyobak_get(bytes, 4);
+    if (version < OLDEST || version > SULYOBAK_VERSION) {
         printf("not loaded: the file is of another version\n");
         return 0;
     }
@@ -180,13 +184,19 @@ static void work_on(station *s)
     printf("collected at state %u: cart %u, %s\n", (unsigned)answer.value, (unsigned)sulyobak_cart_number(cart), title);
 }
 
-/* Stores the station with one byte changed, or cut to a size, and sees that it is not loaded. */
+/* Stores the station with one byte changed, or cut to a size. */
+static void save_changed(const station *from, const char *file, size_t at, uint8_t value, size_t size)
+{
+    put_station(from);
+    bytes[at] = value;
+    write_whole(file, size);
+}
+
+/* Stores the station so, and sees that it is not loaded. */
 static void try_damaged(station *s, const char *file, const char *what, size_t at, uint8_t value, size_t size)
 {
     printf("%s: ", what);
-    put_station(s);
-    bytes[at] = value;
-    write_whole(file, size);
+    save_changed(s, file, at, value, size);
     must(!load(s, file), "a damaged file was loaded");
 }
 
@@ -208,6 +218,9 @@ int main(int count, char **words)
     try_damaged(&after, words[1], "a byte of a cart damaged", LIBRARY_AT, 9, FILE_SIZE);
     try_damaged(&after, words[1], "another version", 0, SULYOBAK_VERSION + 1, FILE_SIZE);
     try_damaged(&after, words[1], "the last byte missing", 0, SULYOBAK_VERSION, FILE_SIZE - 1);
+    save_changed(&after, words[1], 0, OLDEST, FILE_SIZE);
+    must(load(&before, words[1]), "a file of an older version with this layout was not loaded");
+    printf("version %d: loaded\n", OLDEST);
     save(&after, words[1]);
     must(load(&before, words[1]), "the file was not loaded");
     printf("stored and loaded again: applied %u\n", (unsigned)before.control.applied[STUDIO - 1]);

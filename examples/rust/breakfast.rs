@@ -3,7 +3,8 @@
 //! Two versions of a jingle have long titles that differ in the last letter: a playlist imported by title and by cart number gets the
 //! same carts. Then a producer re-cuts the sponsor's jingle and reads it in the same chair while the studio's copy is two edits
 //! behind: the read waits, and is collected with the new cut. One chair is one session: a second session in the producer's chair has
-//! edited nothing, so its read is answered at once with the old cut.
+//! edited nothing, so its read is answered at once with the old cut. Last the producer tries an edit of two steps before making it, is
+//! told what is wrong with it, mends it and commits it.
 use std::error::Error;
 use sulyobak::{Library, Operation, Read, Refusal, Request, Title};
 
@@ -19,12 +20,15 @@ const JINGLE_A: u16 = 11;
 const JINGLE_B: u16 = 12;
 const SPONSOR: u16 = 20;
 const NEWS: u16 = 30;
+const WEATHER: u16 = 31;
 
 fn main() -> Result<(), Box<dyn Error>> {
     let mut wall = Library::new(1, &[1, 1, 1, 1])?;
     the_title_column(&mut wall)?;
     println!();
     the_sponsors_jingle(&mut wall)?;
+    println!();
+    the_weather_bed(&mut wall)?;
     Ok(())
 }
 
@@ -74,6 +78,22 @@ fn the_sponsors_jingle(wall: &mut Library) -> Result<(), Box<dyn Error>> {
     show("the producer collects", &wall.collect(PRODUCER)?);
     catch_up(wall)?;
     show("the producer collects", &wall.collect(PRODUCER)?);
+    Ok(())
+}
+
+fn the_weather_bed(wall: &mut Library) -> Result<(), Box<dyn Error>> {
+    println!("The weather bed");
+    let retitle = Operation::Retitle { cart: SPONSOR, title: Title::new("Sponsor: Kovacs bakery, winter")? };
+    let title = Title::new("Weather bed")?;
+    let weather = |cart| Operation::New { cart, title, audio: 402, milliseconds: 30_000 };
+    match wall.preview(PRODUCER, &[retitle, weather(NEWS)]) {
+        Ok(number) => println!("with cart {NEWS}: it would be commit {number}"),
+        Err(refusal) => println!("with cart {NEWS}: it would be {refusal}"),
+    }
+    let mended = [retitle, weather(WEATHER)];
+    println!("with cart {WEATHER}: it would be commit {}", wall.preview(PRODUCER, &mended)?);
+    println!("commits: {}, as before", wall.control().commits);
+    println!("commit {}: the producer's weather bed, and the sponsor's new title", wall.commit(PRODUCER, &mended)?);
     Ok(())
 }
 

@@ -15,6 +15,9 @@ const EDITOR: u32 = 1;
 const STUDIO: u32 = 1;
 const JINGLE: u16 = 7;
 
+// The oldest version whose control and memory are laid out as this version's (docs/FORMAT.md): such files are taken over too.
+const OLDEST: u32 = 1;
+
 // Where each part of the file begins.
 const CONTROL: usize = 4;
 const LIBRARY: usize = CONTROL + std::mem::size_of::<Control>();
@@ -52,7 +55,7 @@ fn save(library: &Library, path: &Path) -> std::io::Result<()> {
 // The library that the file holds, or why there is none.
 fn load(path: &Path) -> Result<Library, Box<dyn Error>> {
     let bytes = fs::read(path)?;
-    if bytes.get(..CONTROL) != Some(&VERSION.to_le_bytes()) {
+    if !(OLDEST..=VERSION).any(|version| bytes.starts_with(&version.to_le_bytes())) {
         return Err("the file is of another version".into());
     }
     if bytes.len() != END {
@@ -124,6 +127,11 @@ fn main() -> Result<(), Box<dyn Error>> {
     try_damaged(&after, path, "a byte of a cart damaged", |bytes| bytes[LIBRARY] = 9)?;
     try_damaged(&after, path, "another version", |bytes| bytes[0] += 1)?;
     try_damaged(&after, path, "the last byte missing", |bytes| bytes.truncate(END - 1))?;
+    let mut bytes = to_bytes(&after);
+    bytes[..CONTROL].copy_from_slice(&OLDEST.to_le_bytes());
+    write_whole(path, &bytes)?;
+    load(path)?;
+    println!("version {OLDEST}: loaded");
     save(&after, path)?;
     println!("stored and loaded again: applied {}", load(path)?.control().applied[0]);
     Ok(())
