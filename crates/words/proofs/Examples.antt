@@ -5,7 +5,7 @@ use Rattle.carts.specs.Bytes.{within}
 use Rattle.carts.specs.Cart.{printable}
 use Rattle.lines.specs.Words.{bytesOf}
 use Rattle.words.specs.Page.{digitsOf, decimal, countOf, hexDigit, shownByte, shownTo, shown}
-use Rattle.words.specs.Answers.{freshText, sentText, behindText, answeredText}
+use Rattle.words.specs.Answers.{freshText, previewedText, sentText, behindText, answeredText}
 
 pub record Numbers : Type 0 where
   zero : decimal 0 ≡ bytesOf "0"
@@ -30,15 +30,17 @@ numbers = record {
 
 pub record Answers : Type 0 where
   fresh : freshText 2 ≡ bytesOf "  a fresh system with 2 studios\n"
+  previewed : previewedText 5 ≡ bytesOf "  would be edit 5\n"
   sent : sentText 3 1 ≡ bytesOf "  edit 3 is sent to studio 1\n"
   answered : answeredText 2 0 1 ≡ bytesOf "  answered at edit 2, level with the head end, found 1:\n"
   answered-behind : answeredText 1 2 0 ≡ bytesOf "  answered at edit 1, 2 behind the head end, found 0:\n"
   bytes-shown : shown (99 ∷ 9 ∷ 195 ∷ 10 ∷ []) ≡ bytesOf "c\t\\xC3\\x0A"
 
 pub answers : Answers
-unfolding within printable digitsOf decimal countOf hexDigit shownByte shownTo shown freshText sentText behindText answeredText
+unfolding within printable digitsOf decimal countOf hexDigit shownByte shownTo shown freshText previewedText sentText behindText answeredText
 answers = record {
   fresh = refl;
+  previewed = refl;
   sent = refl;
   answered = refl;
   answered-behind = refl;

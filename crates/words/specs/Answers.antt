@@ -16,10 +16,15 @@ endedText = bytesOf "  the system before this line ends here\n"
 unfoldable pub goesOnText : List ℕ
 goesOnText = bytesOf "  the system before this line goes on unchanged\n"
 
--- a commit, a send, a refresh was accepted
+-- a commit was accepted
 unfoldable pub committedText : ℕ → List ℕ
 committedText n = numbered "  edit " n ++ bytesOf " is committed\n"
 
+-- a preview was accepted: the number that the commit would have
+unfoldable pub previewedText : ℕ → List ℕ
+previewedText n = numbered "  would be edit " n ++ bytesOf "\n"
+
+-- a send, a refresh was accepted
 unfoldable pub sentText : ℕ → ℕ → List ℕ
 sentText n studio = numbered "  edit " n ++ numbered " is sent to studio " studio ++ bytesOf "\n"
 

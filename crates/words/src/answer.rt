@@ -6,7 +6,7 @@ ghost use lib.ListN.{length};
 ghost use mathlib.Core.List.{_++_};
 ghost use Rattle.lines.specs.Words.{bytesOf};
 ghost use Rattle.words.specs.Page.{pageSize, Put, Told, decimal, numbered};
-ghost use Rattle.words.specs.Answers.{freshText, endedText, goesOnText, committedText, sentText, appliedText, behindText, answeredText, waitsText, untitledText, severalText};
+ghost use Rattle.words.specs.Answers.{freshText, endedText, goesOnText, committedText, previewedText, sentText, appliedText, behindText, answeredText, waitsText, untitledText, severalText};
 
 // A setup was accepted.
 pub fn fresh(out: &mut [u8], studios: u32) -> usize
@@ -39,6 +39,14 @@ pub fn committed(out: &mut [u8], n: u32) -> usize
     ensures { λ r. ⌜ Told (committedText n) (now (out .entry)) (now (out .exit)) r ⌝ }
 {
     page::put_between(out, 0, b"  edit ", n, b" is committed\n")
+}
+
+// A preview was accepted: the number that the commit would have.
+pub fn previewed(out: &mut [u8], n: u32) -> usize
+    requires { ⌜ length (now out) ≡ pageSize ⌝ }
+    ensures { λ r. ⌜ Told (previewedText n) (now (out .entry)) (now (out .exit)) r ⌝ }
+{
+    page::put_between(out, 0, b"  would be edit ", n, b"\n")
 }
 
 // What became of an edit at a studio.
