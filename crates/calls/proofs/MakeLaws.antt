@@ -18,7 +18,7 @@ use Rattle.report.specs.declared.turn.Came.the-variants as Came
 use Rattle.lines.specs.Text.{partIn}
 use Rattle.journal.specs.Progress.{requestIn}
 use Rattle.lines.specs.declared.parse.Call.{Call}
-use Rattle.calls.specs.Make.{Told, setUp, committed, moved, looked, shown, unread, nothing, told, Made, made, leaves, outputIn, leavesIn, askLeaves, readLeaves, collectLeaves, lineLeaves}
+use Rattle.calls.specs.Make.{Told, setUp, committed, previewed, moved, looked, shown, unread, nothing, told, Made, made, leaves, outputIn, leavesIn, askLeaves, readLeaves, collectLeaves, lineLeaves}
 
 -- the code's case for an answer of 01 that it can give
 setupBy : Answer → SetupAnswer
@@ -42,6 +42,7 @@ readBy (answered state found) = Read.Answered state found
 cameBy : Told → Came
 cameBy (setUp a studios) = Came.Setup (setupBy a) studios
 cameBy (committed a session operations) = Came.Commit (countBy a) session operations
+cameBy (previewed a session operations) = Came.Preview (countBy a) session operations
 cameBy (moved a studio sends) = Came.Moved (countBy a) studio sends
 cameBy (looked a session) = Came.Read (readBy a) session
 cameBy shown = Came.Show
@@ -55,6 +56,8 @@ told-back (Came.Setup Setup.Ready studios) = refl
 told-back (Came.Setup (Setup.Refused n) studios) = refl
 told-back (Came.Commit (Count.Number n) session operations) = refl
 told-back (Came.Commit (Count.Refused n) session operations) = refl
+told-back (Came.Preview (Count.Number n) session operations) = refl
+told-back (Came.Preview (Count.Refused n) session operations) = refl
 told-back (Came.Moved (Count.Number n) studio sends) = refl
 told-back (Came.Moved (Count.Refused n) studio sends) = refl
 told-back (Came.Read (Read.Answered state found) session) = refl

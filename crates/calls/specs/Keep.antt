@@ -10,11 +10,12 @@ use Rattle.report.specs.declared.turn.Came.{Came}
 use Rattle.report.specs.declared.turn.Came.the-variants as Came
 use Rattle.replication.specs.declared.control.Control.{Control}
 
--- a call's answer, with the payload of a commit or the block of a read; a line that cannot be read is counted; any other
--- line changes nothing
+-- a call's answer, with the payload of a commit or the block of a read; a preview "has no entry in the one-copy order" (02,
+-- S-1); a line that cannot be read is counted; any other line changes nothing
 unfoldable pub cameKept : Progress → Came → Control → List ℕ → List ℕ → List ℕ → List ℕ → Kept
 cameKept p (Came.Setup a studios) c payload block cells store = kept cells store (afterSetup p c a)
 cameKept p (Came.Commit a s n) c payload block cells store = afterCommit p c a s (partIn payload 0 (recordSize * n)) cells store
+cameKept p (Came.Preview a s n) c payload block cells store = kept cells store (afterMove p c a)
 cameKept p (Came.Moved a i sends) c payload block cells store = kept cells store (afterMove p c a)
 cameKept p (Came.Read a s) c payload block cells store = afterRead p c a s block cells store
 cameKept p Came.Show c payload block cells store = kept cells store p

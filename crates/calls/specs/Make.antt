@@ -1,12 +1,12 @@
 -- What a line of a transcript leaves: the engine's call that it asks for, on the bytes that belong to the line. The calls
--- are document 01's, by crates/replication/specs/Calls.antt.
+-- are documents 01's and 02's, by crates/replication/specs/Calls.antt.
 use mathlib.Core.Bool.{Bool, true, false}
 use mathlib.Core.List.{List}
 use Prim.Native.Nat.{ℕ, _*_, _-_}
 use Rattle.carts.specs.Bytes.{part, over}
 use Rattle.replication.specs.Answer.{Answer, setupAnswer, countAnswer, readAnswer}
 use Rattle.replication.specs.Memory.{Memory, sessionCount, sessionSize, recordSize}
-use Rattle.replication.specs.Calls.{After, setup, commit, send, refresh, read, collect}
+use Rattle.replication.specs.Calls.{After, setup, commit, preview, send, refresh, read, collect}
 use Rattle.replication.specs.declared.control.Control.{Control}
 use Rattle.lines.specs.Text.{partIn}
 use Rattle.lines.specs.declared.cursor.Mistake.{Mistake}
@@ -22,6 +22,7 @@ use Rattle.report.specs.declared.turn.Came.the-variants as Came
 pub data Told : Type 0 where
   setUp : Answer → ℕ → Told
   committed : Answer → ℕ → ℕ → Told
+  previewed : Answer → ℕ → ℕ → Told
   moved : Answer → ℕ → Bool → Told
   looked : Answer → ℕ → Told
   shown : Told
@@ -32,6 +33,7 @@ pub data Told : Type 0 where
 abbrev pub told : Came → Told
 told (Came.Setup a studios) = setUp (setupAnswer a) studios
 told (Came.Commit a session operations) = committed (countAnswer a) session operations
+told (Came.Preview a session operations) = previewed (countAnswer a) session operations
 told (Came.Moved a studio sends) = moved (countAnswer a) studio sends
 told (Came.Read a session) = looked (readAnswer a) session
 told Came.Show = shown
@@ -78,6 +80,7 @@ collectLeaves c m s store block = askLeaves s (collect c m s) (partIn store (slo
 unfoldable pub lineLeaves : Control → Memory → List ℕ → Call → List ℕ → List ℕ → Made
 lineLeaves c m store (Call.Setup studios) payload block = leaves (λ a. setUp a studios) (setup m studios (partIn payload 0 sessionCount)) block
 lineLeaves c m store (Call.Commit s n) payload block = leaves (λ a. committed a s n) (commit c m s (partIn payload 0 (recordSize * n))) block
+lineLeaves c m store (Call.Preview s n) payload block = leaves (λ a. previewed a s n) (preview c m s (partIn payload 0 (recordSize * n))) block
 lineLeaves c m store (Call.Send i) payload block = leaves (λ a. moved a i true) (send c m i) block
 lineLeaves c m store (Call.Refresh i) payload block = leaves (λ a. moved a i false) (refresh c m i) block
 lineLeaves c m store (Call.Read s) payload block = readLeaves c m s (partIn payload 0 sessionSize) block

@@ -37,6 +37,7 @@ pub fn keep(
             let result = CountResult { answer, control };
             p.after_commit(result, cells, store, session, ops)
         }
+        Came::Preview(answer, _, _) => p.after_move(CountResult { answer, control }),
         Came::Moved(answer, _, _) => p.after_move(CountResult { answer, control }),
         Came::Read(answer, session) => {
             let result = ReadResult { answer, control };

@@ -7,6 +7,7 @@ use lines::text;
 use replication::collect::collect;
 use replication::commit::commit;
 use replication::control::Control;
+use replication::preview::preview;
 use replication::read::read;
 use replication::record::Record;
 use replication::refresh::refresh;
@@ -21,10 +22,10 @@ ghost use mathlib.Core.List.{[]};
 ghost use Prim.Native.Nat.{_*_};
 ghost use lib.ListN.{length};
 ghost use Rattle.replication.specs.Memory.{memory, sessionCount, sessionSize, recordSize};
-ghost use Rattle.replication.specs.Calls.{setup, commit, send, refresh};
+ghost use Rattle.replication.specs.Calls.{setup, commit, preview, send, refresh};
 ghost use Rattle.lines.specs.Text.{partIn};
 ghost use Rattle.journal.specs.History.{mostBytes};
-ghost use Rattle.calls.specs.Make.{setUp, committed, moved, told, made, leaves, readLeaves, collectLeaves, lineLeaves};
+ghost use Rattle.calls.specs.Make.{setUp, committed, previewed, moved, told, made, leaves, readLeaves, collectLeaves, lineLeaves};
 
 // A setup, with the studios of its sessions at the start of the payload.
 fn make_setup(
@@ -66,6 +67,29 @@ fn make_commit(
     let control = result.control;
     Turn {
         came: Came::Commit(answer, session, operations),
+        control,
+    }
+}
+
+// A preview of a commit, with its operations at the start of the payload. Memory is only read.
+fn make_preview(
+    control: Control,
+    library: &[u8],
+    log: &[u8],
+    sessions: &[u8],
+    session: u32,
+    operations: u32,
+    payload: &[u8],
+) -> Turn
+    ensures { λ r. ⌜ made (told (r .came)) (r .control) (memory (now (library .entry)) (now (log .entry)) (now (sessions .entry))) []
+        ≡ leaves (λ a. previewed a session operations) (preview control (memory (now (library .entry)) (now (log .entry)) (now (sessions .entry))) session (partIn (now (payload .entry)) 0 (recordSize * operations))) [] ⌝ }
+{
+    let ops = text::part_of(payload, 0, Record::SIZE * (operations as usize));
+    let result = preview(control, library, log, sessions, session, ops);
+    let answer = result.answer;
+    let control = result.control;
+    Turn {
+        came: Came::Preview(answer, session, operations),
         control,
     }
 }
@@ -184,6 +208,18 @@ pub fn make(
             session,
             operations,
         } => make_commit(
+            control,
+            library,
+            log,
+            sessions,
+            session,
+            operations,
+            payload,
+        ),
+        Call::Preview {
+            session,
+            operations,
+        } => make_preview(
             control,
             library,
             log,

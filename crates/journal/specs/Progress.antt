@@ -75,7 +75,7 @@ unfoldable pub afterSetup : Progress → Control → SetupAnswer → Progress
 afterSetup p control Setup.Ready = stepped p control emptyHistory Accepted
 afterSetup p control (Setup.Refused n) = stepped p (p .control) (p .history) Refused
 
--- a send or a refresh
+-- a call without an entry: a send, a refresh or a preview
 unfoldable pub afterMove : Progress → Control → CountAnswer → Progress
 afterMove p control (Count.Number n) = stepped p control (p .history) Accepted
 afterMove p control (Count.Refused n) = stepped p control (p .history) Refused

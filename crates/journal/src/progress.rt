@@ -178,7 +178,7 @@ impl Progress {
         }
     }
 
-    // A send or a refresh was answered.
+    // A call without an entry was answered: a send, a refresh or a preview.
     pub fn after_move(self, result: CountResult) -> Progress
         ensures { λ r. ⌜ (r ≡ afterMove self (result .control) (result .answer)) × (r .history .entries ≤ self .history .entries) ⌝ }
     {

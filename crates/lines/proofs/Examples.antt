@@ -4,12 +4,12 @@ use mathlib.Core.List.{[], _∷_, _++_}
 use Rattle.carts.specs.Bytes.{zeros, u16Bytes, within, pairwise, every}
 use Rattle.carts.specs.Cart.{printable}
 use Rattle.lines.specs.declared.cursor.Mistake.the-variants.{UnknownWord, UnknownOperation, NumberMissing, NumberTooLarge, ColonMissing, AudioMissing, LengthMissing, TitleMissing, TitleOpen, TitleEmpty, TooManyOperations, TooManyNumbers, TooMuch}
-use Rattle.lines.specs.declared.parse.Call.the-variants.{Nothing, Show, Setup, Commit, Send, Refresh, Read, Collect, Unreadable}
+use Rattle.lines.specs.declared.parse.Call.the-variants.{Nothing, Show, Setup, Commit, Preview, Send, Refresh, Read, Collect, Unreadable}
 use Rattle.lines.specs.Text.{runLength, numeral, numberOf}
 use Rattle.lines.specs.Cursor.{pastWord, pastMark, numberAt, titleFrom, titleAt, isOver, endedAt}
 use Rattle.lines.specs.Words.{bytesOf}
 use Rattle.lines.specs.Build.{u32Bytes, titleField, operationBytes, u16List, numbersBytes, lowBytes, studioBytes}
-use Rattle.lines.specs.Parse.{titleIf, numberIf, fieldsAt, operationAt, moreOperations, operationsAt, numbersAt, titleRequestAt, numbersRequestAt, requestAt, wholeCall, line, setupAt, commitAt, readAt, numberCallAt, lineOf, callOf}
+use Rattle.lines.specs.Parse.{titleIf, numberIf, fieldsAt, operationAt, moreOperations, operationsAt, numbersAt, titleRequestAt, numbersRequestAt, requestAt, wholeCall, line, setupAt, editCall, editAt, readAt, numberCallAt, lineOf, callOf}
 
 pub record Calls : Type 0 where
   comment : lineOf (bytesOf "# words") ≡ line Nothing []
@@ -21,9 +21,10 @@ pub record Calls : Type 0 where
   by-numbers : lineOf (bytesOf "read 1: 7 300") ≡ line (Read 1) (1 ∷ 2 ∷ zeros 14 ++ (7 ∷ 0 ∷ 44 ∷ 1 ∷ zeros 60))
   by-title : lineOf (bytesOf "read 1: 'A \"B\"'") ≡ line (Read 1) (2 ∷ 5 ∷ zeros 14 ++ (65 ∷ 32 ∷ 34 ∷ 66 ∷ 34 ∷ zeros 59))
   commit : lineOf (bytesOf "commit 1: new 7 \"Hour\" audio 501 length 8000; retitle 7 \"B\"; re-cut 7 audio 2 length 3; withdraw 7") ≡ line (Commit 1 4) (operationBytes 1 7 501 8000 (bytesOf "Hour") ++ (operationBytes 2 7 0 0 (bytesOf "B") ++ (operationBytes 3 7 2 3 [] ++ operationBytes 4 7 0 0 [])))
+  preview : lineOf (bytesOf "preview 17: retitle 7 \"B\"; withdraw 7 # nothing is made") ≡ line (Preview 17 2) (operationBytes 2 7 0 0 (bytesOf "B") ++ operationBytes 4 7 0 0 [])
 
 pub calls : Calls
-unfolding zeros u16Bytes pairwise every within printable runLength numeral numberOf pastWord pastMark numberAt titleFrom titleAt isOver endedAt u32Bytes titleField operationBytes u16List numbersBytes lowBytes studioBytes titleIf numberIf fieldsAt operationAt moreOperations operationsAt numbersAt titleRequestAt numbersRequestAt requestAt wholeCall setupAt commitAt readAt numberCallAt lineOf
+unfolding zeros u16Bytes pairwise every within printable runLength numeral numberOf pastWord pastMark numberAt titleFrom titleAt isOver endedAt u32Bytes titleField operationBytes u16List numbersBytes lowBytes studioBytes titleIf numberIf fieldsAt operationAt moreOperations operationsAt numbersAt titleRequestAt numbersRequestAt requestAt wholeCall setupAt editCall editAt readAt numberCallAt lineOf
 calls = record {
   comment = refl;
   show = refl;
@@ -34,6 +35,7 @@ calls = record {
   by-numbers = refl;
   by-title = refl;
   commit = refl;
+  preview = refl;
 }
 
 pub record Mistakes : Type 0 where
@@ -42,6 +44,7 @@ pub record Mistakes : Type 0 where
   number-missing : callOf (bytesOf "send") ≡ Unreadable NumberMissing 4
   number-large : callOf (bytesOf "send 4294967296") ≡ Unreadable NumberTooLarge 5
   colon-missing : callOf (bytesOf "read 1 7") ≡ Unreadable ColonMissing 7
+  preview-unreadable : callOf (bytesOf "preview 1 withdraw 7") ≡ Unreadable ColonMissing 10
   audio-missing : callOf (bytesOf "commit 1: re-cut 7") ≡ Unreadable AudioMissing 18
   length-missing : callOf (bytesOf "commit 1: re-cut 7 audio 2") ≡ Unreadable LengthMissing 26
   title-missing : callOf (bytesOf "commit 1: retitle 7 B") ≡ Unreadable TitleMissing 20
@@ -52,13 +55,14 @@ pub record Mistakes : Type 0 where
   too-much : callOf (bytesOf "send 1 2") ≡ Unreadable TooMuch 7
 
 pub mistakes : Mistakes
-unfolding zeros u16Bytes pairwise every within printable runLength numeral numberOf pastWord pastMark numberAt titleFrom titleAt isOver endedAt u32Bytes titleField operationBytes u16List numbersBytes lowBytes studioBytes titleIf numberIf fieldsAt operationAt moreOperations operationsAt numbersAt titleRequestAt numbersRequestAt requestAt wholeCall setupAt commitAt readAt numberCallAt lineOf
+unfolding zeros u16Bytes pairwise every within printable runLength numeral numberOf pastWord pastMark numberAt titleFrom titleAt isOver endedAt u32Bytes titleField operationBytes u16List numbersBytes lowBytes studioBytes titleIf numberIf fieldsAt operationAt moreOperations operationsAt numbersAt titleRequestAt numbersRequestAt requestAt wholeCall setupAt editCall editAt readAt numberCallAt lineOf
 mistakes = record {
   unknown-word = refl;
   unknown-operation = refl;
   number-missing = refl;
   number-large = refl;
   colon-missing = refl;
+  preview-unreadable = refl;
   audio-missing = refl;
   length-missing = refl;
   title-missing = refl;

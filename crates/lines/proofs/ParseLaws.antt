@@ -19,12 +19,12 @@ use Rattle.lines.specs.declared.cursor.Mistake.the-variants.{ColonMissin
 use Rattle.lines.specs.declared.text.Class.the-variants.{Digit}
 use Rattle.lines.specs.declared.parse.Counted.{Counted}
 use Rattle.lines.specs.declared.parse.Call.{Call}
-use Rattle.lines.specs.declared.parse.Call.the-variants.{Setup, Commit, Read}
+use Rattle.lines.specs.declared.parse.Call.the-variants.{Setup, Read}
 use Rattle.lines.specs.Text.{inClass}
 use Rattle.lines.specs.Cursor.{stoppedBy, nextByte, pastMark, numberAt, lettersOf}
 use Rattle.lines.specs.Words.{bytesOf}
 use Rattle.lines.specs.Build.{operationBytes, numbersBytes, studioBytes}
-use Rattle.lines.specs.Parse.{anyNumber, twoBytes, Gathered, gathered, withFirst, titleIf, numberIf, fieldsAt, operationAt, moreOperations, operationsAt, numbersAt, numbersRequestAt, requestAt, wholeCall, Line, line, setupAt, commitAt, readAt, lineOf, begunWith, callOf, payloadOf, callFits, Means, Stored}
+use Rattle.lines.specs.Parse.{anyNumber, twoBytes, Gathered, gathered, withFirst, titleIf, numberIf, fieldsAt, operationAt, moreOperations, operationsAt, numbersAt, numbersRequestAt, requestAt, wholeCall, Line, line, setupAt, editCall, editAt, readAt, lineOf, begunWith, callOf, payloadOf, callFits, Means, Stored}
 
 pub fields-by-parts : (s : List ℕ) (c : Cursor) (kind : ℕ) (titled recorded : Bool) (cart : Taken) (title : Quoted) (audio milliseconds : Taken) →
     cart ≡ numberAt s c twoBytes → title ≡ titleIf s (cart .cursor) titled →
@@ -156,11 +156,11 @@ setup-by-parts s c colon studios places places′ read memory r e₁ e₂ h l e 
       fits = f;
     }
 
-pub commit-by-parts : (s : List ℕ) (c colon : Cursor) (session : Taken) (read : Counted) (memory memory′ : List ℕ) (r : Call) →
+pub edit-by-parts : (s : List ℕ) (c colon : Cursor) (previews : Bool) (session : Taken) (read : Counted) (memory memory′ : List ℕ) (r : Call) →
     session ≡ numberAt s c anyNumber → colon ≡ pastMark s (session .cursor) 58 ColonMissing → Stored 80 (operationsAt s colon) memory memory′ read →
-    r ≡ wholeCall s (read .cursor) (Commit (session .value) (read .count)) → callFits r → Means (commitAt s c) memory memory′ r
-unfolding commitAt
-commit-by-parts s c colon session read memory memory′ r e₁ e₂ h e f =
+    r ≡ wholeCall s (read .cursor) (editCall (session .value) (read .count) previews) → callFits r → Means (editAt s c previews) memory memory′ r
+unfolding editAt
+edit-by-parts s c colon previews session read memory memory′ r e₁ e₂ h e f =
     let z : 0 < 80 = omega arith in
     let d : read .count ≡ length ((operationsAt s colon) .items) / 80 = rw (h .count) (sym (mul-div-cancel-left (read .count) z)) in
     record { call = rw (e, h .cursor, d, e₂, e₁); payload = h .items ∙ rw (e₂, e₁); fits = f }

@@ -15,7 +15,7 @@ use Rattle.lines.specs.declared.cursor.Taken.{Taken}
 use Rattle.lines.specs.declared.cursor.Quoted.{Quoted}
 use Rattle.lines.specs.declared.parse.Counted.{Counted}
 use Rattle.lines.specs.declared.parse.Call.{Call}
-use Rattle.lines.specs.declared.parse.Call.the-variants.{Nothing, Show, Setup, Commit, Send, Refresh, Read, Collect, Unreadable}
+use Rattle.lines.specs.declared.parse.Call.the-variants.{Nothing, Show, Setup, Commit, Preview, Send, Refresh, Read, Collect, Unreadable}
 use Rattle.lines.specs.Text.{inClass}
 use Rattle.lines.specs.Cursor.{newAt, movedTo, stoppedBy, nextPlace, nextByte, nextWord, wordEnd, pastWord, pastMark, numberAt, titleAt, lettersOf, isOver, endedAt}
 use Rattle.lines.specs.Build.{operationBytes, numbersBytes, studioBytes, mostNumbers, mostStudios}
@@ -118,12 +118,16 @@ setupAt s c =
     let read = numbersAt mostStudios s (pastMark s (studios .cursor) 58 ColonMissing) 255 in
     line (wholeCall s (read .cursor) (Setup (studios .value))) (studioBytes (read .items))
 
--- commit: the session, a colon, the operations
-unfoldable pub commitAt : List ℕ → Cursor → Line
-commitAt s c =
+-- a session's operations, and whether they are only previewed
+unfoldable pub editCall : ℕ → ℕ → Bool → Call
+editCall session operations previews = cond previews (Preview session operations) (Commit session operations)
+
+-- commit and preview: the session, a colon, the operations
+unfoldable pub editAt : List ℕ → Cursor → Bool → Line
+editAt s c previews =
     let session = numberAt s c anyNumber in
     let read = operationsAt s (pastMark s (session .cursor) 58 ColonMissing) in
-    line (wholeCall s (read .cursor) (Commit (session .value) (length (read .items) / cartSize))) (read .items)
+    line (wholeCall s (read .cursor) (editCall (session .value) (length (read .items) / cartSize) previews)) (read .items)
 
 -- read: the session, a colon, the request
 unfoldable pub readAt : List ℕ → Cursor → Line
@@ -150,9 +154,10 @@ lineOf s =
     cond (isOver s c) (line Nothing [])
     (cond (says word "show") (line (wholeCall s next Show) [])
     (cond (says word "setup") (setupAt s next)
-    (cond (says word "commit") (commitAt s next)
+    (cond (says word "commit") (editAt s next false)
+    (cond (says word "preview") (editAt s next true)
     (cond (says word "read") (readAt s next)
-    (line (numberCallAt s next word) [])))))
+    (line (numberCallAt s next word) []))))))
 
 -- memory whose start is these bytes or numbers, the rest of it as it was
 abbrev pub begunWith : List ℕ → List ℕ → List ℕ
@@ -165,12 +170,13 @@ callOf s = (lineOf s) .call
 abbrev pub payloadOf : List ℕ → List ℕ → List ℕ
 payloadOf s payload = begunWith ((lineOf s) .bytes) payload
 
--- a commit has one to eight operations
+-- a commit and a preview have one to eight operations
 abbrev pub callFits : Call → Type 0
 callFits Nothing = Unit {0}
 callFits Show = Unit {0}
 callFits (Setup n) = Unit {0}
 callFits (Commit s n) = (1 ≤ n) × (n ≤ 8)
+callFits (Preview s n) = (1 ≤ n) × (n ≤ 8)
 callFits (Send n) = Unit {0}
 callFits (Refresh n) = Unit {0}
 callFits (Read n) = Unit {0}

@@ -15,15 +15,16 @@ ghost use lib.ListN.{length};
 ghost use Rattle.lines.specs.Build.{payloadSize};
 ghost use Rattle.carts.specs.Cart.{cartSize};
 ghost use Rattle.lines.specs.Cursor.{Titled};
-ghost use Rattle.lines.specs.Parse.{gathered, titleIf, numberIf, fieldsAt, operationAt, operationsAt, numbersAt, titleRequestAt, numbersRequestAt, wholeCall, setupAt, commitAt, readAt, numberCallAt, callOf, payloadOf, callFits, Means, Stored};
+ghost use Rattle.lines.specs.Parse.{gathered, titleIf, numberIf, fieldsAt, operationAt, operationsAt, numbersAt, titleRequestAt, numbersRequestAt, wholeCall, setupAt, editCall, editAt, readAt, numberCallAt, callOf, payloadOf, callFits, Means, Stored};
 
 // What a line asks for. The bytes that belong to it stand at the start of the payload: a setup's 16 studio bytes,
-// a commit's operations of 80 bytes, a read's request of 80 bytes.
+// a commit's or a preview's operations of 80 bytes, a read's request of 80 bytes.
 pub enum Call {
     Nothing,
     Show,
     Setup(u32),
     Commit { session: u32, operations: u32 },
+    Preview { session: u32, operations: u32 },
     Send(u32),
     Refresh(u32),
     Read(u32),
@@ -206,22 +207,33 @@ fn setup(s: &[u8], c: Cursor, payload: &mut [u8]) -> Call
     whole(s, read.cursor, Call::Setup(studios.value))
 }
 
-// Commit: the session, then the operations.
-fn commit(s: &[u8], c: Cursor, payload: &mut [u8]) -> Call
+// The call of a session's operations: a preview of the commit, or the commit.
+fn edit_call(session: u32, operations: u32, previews: bool) -> Call
+    requires { ⌜ (1 ≤ operations) × (operations ≤ 8) ⌝ }
+    ensures { λ r. ⌜ (r ≡ editCall session operations previews) × callFits r ⌝ }
+{
+    if previews {
+        return Call::Preview {
+            session,
+            operations,
+        };
+    }
+    Call::Commit {
+        session,
+        operations,
+    }
+}
+
+// Commit and preview: the session, then the operations.
+fn edit(s: &[u8], c: Cursor, payload: &mut [u8], previews: bool) -> Call
     requires { ⌜ length (now payload) ≡ payloadSize ⌝ }
-    ensures { λ r. ⌜ Means (commitAt (now (s .entry)) c) (now (payload .entry)) (now (payload .exit)) r ⌝ }
+    ensures { λ r. ⌜ Means (editAt (now (s .entry)) c previews) (now (payload .entry)) (now (payload .exit)) r ⌝ }
 {
     let session = cursor::number(s, c, ANY);
     let colon = cursor::mark(s, session.cursor, 58, Mistake::ColonMissing);
     let read = operations(s, colon, payload);
-    whole(
-        s,
-        read.cursor,
-        Call::Commit {
-            session: session.value,
-            operations: read.count as u32,
-        },
-    )
+    let call = edit_call(session.value, read.count as u32, previews);
+    whole(s, read.cursor, call)
 }
 
 // A request by title.
@@ -302,7 +314,10 @@ pub fn parse(s: &[u8], payload: &mut [u8]) -> Call
         return setup(s, next, payload);
     }
     if text::same(word, b"commit") {
-        return commit(s, next, payload);
+        return edit(s, next, payload, false);
+    }
+    if text::same(word, b"preview") {
+        return edit(s, next, payload, true);
     }
     if text::same(word, b"read") {
         return read(s, next, payload);

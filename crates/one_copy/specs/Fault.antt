@@ -1,4 +1,4 @@
--- Which operation of a refused commit is at fault.
+-- Which operation of a refused commit or preview is at fault.
 use mathlib.Core.Bool.{Bool, true, cond, _&&_}
 use mathlib.Core.List.{List}
 use Prim.Native.Nat.{ℕ, zero, suc, _*_}

@@ -1,4 +1,4 @@
-// Which operation of a refused commit is at fault.
+// Which operation of a refused commit or preview is at fault.
 use carts::cart::Cart;
 use carts::operation;
 use lines::text;

@@ -79,23 +79,32 @@ fn show_fault(library: &[u8], ops: &[u8], by_form: bool) {
     refusals::print::at_operation(ops, fault::first_fault(copy, ops, by_form));
 }
 
-// A refused commit: refusals 6 and 8 name the operation.
-fn refused_commit(row: u32, library: &[u8], session: u32, ops: &[u8]) {
-    refusals::print::refusal_of_session(row, session);
+// A refused commit or preview: refusals 6 and 8 name the operation.
+fn refused_edit(previews: bool, row: u32, library: &[u8], session: u32, ops: &[u8]) {
+    refusals::print::refusal_of_session(previews, row, session);
     if (row == 6) | (row == 8) {
         show_fault(library, ops, row == 6);
     }
 }
 
-// What a commit answered, with the head end's copy at the start of the library.
-pub fn committed(answer: CountAnswer, library: &[u8], session: u32, ops: &[u8]) {
+// The edit that was committed, or would be.
+fn accepted_edit(previews: bool, edit: u32) {
+    let mut page = io::buffer();
+    if previews {
+        let n = words::answer::previewed(&mut page, edit);
+        line::told(&page, n);
+        return;
+    }
+    let n = words::answer::committed(&mut page, edit);
+    line::told(&page, n);
+}
+
+// What a preview or a commit answered, with the head end's copy at the start of the library. A preview and a refused commit
+// leave that copy as it was, so the operation at fault is seen on it.
+pub fn edited(previews: bool, answer: CountAnswer, library: &[u8], session: u32, ops: &[u8]) {
     match answer {
-        CountAnswer::Number(edit) => {
-            let mut page = io::buffer();
-            let n = words::answer::committed(&mut page, edit);
-            line::told(&page, n);
-        }
-        CountAnswer::Refused(row) => refused_commit(row, library, session, ops),
+        CountAnswer::Number(edit) => accepted_edit(previews, edit),
+        CountAnswer::Refused(row) => refused_edit(previews, row, library, session, ops),
     }
 }
 
@@ -184,6 +193,6 @@ pub fn read(answer: ReadAnswer, commits: u32, session: u32, block: &[u8]) {
             answered(block, state, words::answer::behind(commits, state), found)
         }
         ReadAnswer::Waits(edit) => waits(edit),
-        ReadAnswer::Refused(row) => refusals::print::refusal_of_session(row, session),
+        ReadAnswer::Refused(row) => refusals::print::refusal_of_session(false, row, session),
     }
 }

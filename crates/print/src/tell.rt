@@ -2,6 +2,7 @@
 use crate::answer;
 use journal::progress::Progress;
 use lines::text;
+use replication::answer::CountAnswer;
 use replication::answer::SetupAnswer;
 use replication::record::Record;
 use report::show;
@@ -22,6 +23,19 @@ fn tell_setup(
     let control = before.control;
     let is_running = control.studios != 0;
     answer::made(answer, before.history, cells, store, studios, is_running)
+}
+
+// A preview or a commit was answered, with its operations at the start of the payload.
+fn tell_edit(
+    previews: bool,
+    answer: CountAnswer,
+    library: &[u8],
+    session: u32,
+    operations: u32,
+    payload: &[u8],
+) {
+    let ops = text::part_of(payload, 0, Record::SIZE * (operations as usize));
+    answer::edited(previews, answer, library, session, ops);
 }
 
 // A read or a collect was answered, a line shows the state or cannot be read.
@@ -53,8 +67,10 @@ pub fn tell(
             return tell_setup(before, answer, cells, store, studios);
         }
         Came::Commit(answer, session, operations) => {
-            let ops = text::part_of(payload, 0, Record::SIZE * (operations as usize));
-            answer::committed(answer, library, session, ops);
+            tell_edit(false, answer, library, session, operations, payload);
+        }
+        Came::Preview(answer, session, operations) => {
+            tell_edit(true, answer, library, session, operations, payload);
         }
         Came::Moved(answer, studio, is_sent) => answer::moved(answer, studio, is_sent),
         _ => tell_other(before, came, library, sessions, block),

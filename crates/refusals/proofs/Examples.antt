@@ -1,17 +1,27 @@
 -- WORKED EXAMPLES of refusals and mistakes as text, by computation.
 use mathlib.Core.Path.{_≡_, refl}
+use mathlib.Core.Bool.{true, false}
 use Rattle.lines.specs.declared.cursor.Mistake.the-variants.{NumberMissing}
 use Rattle.lines.specs.Words.{bytesOf}
 use Rattle.words.specs.Page.{digitsOf, decimal}
 use Rattle.refusals.specs.Sentences.{refusalSentence}
-use Rattle.refusals.specs.Refusals.{refusalText, atOperationText, unreadableText}
+use Rattle.refusals.specs.Refusals.{leadOf, refusalText, noSessionText, atOperationText, unreadableText}
 
 pub record Refusals : Type 0 where
-  refused : refusalText 9 ≡ bytesOf "  refused (9): every edit has been sent to this studio\n"
-  unnamed : refusalText 16 ≡ bytesOf "  refused (16): unknown\n"
+  refused : refusalText false 9 ≡ bytesOf "  refused (9): every edit has been sent to this studio\n"
+  unnamed : refusalText false 16 ≡ bytesOf "  refused (16): unknown\n"
+  previewed : refusalText true 4 ≡ bytesOf "  would be refused (4): a read of this session is waiting; collect it first\n"
+  no-session : noSessionText true 17 ≡ bytesOf "  would be refused (3): there is no session 17, or it is unused\n"
   unreadable : unreadableText 3 5 NumberMissing ≡ bytesOf "  line 3, column 5 cannot be read: a number is missing\n"
   operation : atOperationText 2 8 ≡ bytesOf "    it is operation 2 of the commit, on cart 8\n"
 
 pub refusals : Refusals
-unfolding digitsOf decimal refusalSentence refusalText atOperationText unreadableText
-refusals = record { refused = refl; unnamed = refl; unreadable = refl; operation = refl }
+unfolding digitsOf decimal refusalSentence leadOf refusalText noSessionText atOperationText unreadableText
+refusals = record {
+  refused = refl;
+  unnamed = refl;
+  previewed = refl;
+  no-session = refl;
+  unreadable = refl;
+  operation = refl;
+}

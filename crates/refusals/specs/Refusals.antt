@@ -1,4 +1,5 @@
 -- The lines that tell why a call is refused, or a line cannot be read.
+use mathlib.Core.Bool.{Bool, cond}
 use mathlib.Core.List.{List, _++_}
 use Prim.Native.Nat.{ℕ}
 use Rattle.lines.specs.declared.cursor.Mistake.{Mistake}
@@ -6,13 +7,17 @@ use Rattle.lines.specs.Words.{bytesOf}
 use Rattle.words.specs.Page.{decimal, numbered}
 use Rattle.refusals.specs.Sentences.{refusalSentence, mistakeSentence}
 
--- a refusal, by document 01's number
-unfoldable pub refusalText : ℕ → List ℕ
-refusalText n = numbered "  refused (" n ++ bytesOf "): " ++ refusalSentence n ++ bytesOf "\n"
+-- before the refusal of a preview, and of any other call
+unfoldable pub leadOf : Bool → List ℕ
+leadOf previews = cond previews (bytesOf "  would be ") (bytesOf "  ")
 
--- refusal 3 of a call that names a session, or a studio; the operation for which a commit was refused, counted from 1, and its cart
-unfoldable pub noSessionText : ℕ → List ℕ
-noSessionText session = numbered "  refused (3): there is no session " session ++ bytesOf ", or it is unused\n"
+-- a refusal, by document 01's number
+unfoldable pub refusalText : Bool → ℕ → List ℕ
+refusalText previews n = leadOf previews ++ numbered "refused (" n ++ bytesOf "): " ++ refusalSentence n ++ bytesOf "\n"
+
+-- refusal 3 of a call that names a session, or a studio; the operation for which a commit is refused, counted from 1, and its cart
+unfoldable pub noSessionText : Bool → ℕ → List ℕ
+noSessionText previews session = leadOf previews ++ numbered "refused (3): there is no session " session ++ bytesOf ", or it is unused\n"
 
 unfoldable pub noStudioText : ℕ → List ℕ
 noStudioText studio = numbered "  refused (3): there is no studio " studio ++ bytesOf "\n"

@@ -8,20 +8,25 @@ use lines::text;
 use words::line;
 
 // A refusal by document 01's number, and what it means.
-pub fn refusal(row: u32) {
+fn by_number(previews: bool, row: u32) {
     let mut page = io::buffer();
-    let n = refusal::refusal(&mut page, row);
+    let n = refusal::refusal(&mut page, previews, row);
     line::told(&page, n);
 }
 
-// Refusal 3 names the session that a call names.
-pub fn refusal_of_session(row: u32, session: u32) {
+// A refusal of a call that is no preview.
+pub fn refusal(row: u32) {
+    by_number(false, row);
+}
+
+// Refusal 3 names the session that a call names; the call is a preview, or any other.
+pub fn refusal_of_session(previews: bool, row: u32, session: u32) {
     if row != 3 {
-        refusal(row);
+        by_number(previews, row);
         return;
     }
     let mut page = io::buffer();
-    let n = refusal::no_session(&mut page, session);
+    let n = refusal::no_session(&mut page, previews, session);
     line::told(&page, n);
 }
 

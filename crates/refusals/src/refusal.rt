@@ -5,7 +5,7 @@ ghost use Prim.Native.Nat.{_+_, _<_, _≤_};
 ghost use lib.ListN.{length};
 ghost use Rattle.words.specs.Page.{pageSize, Put, Told};
 ghost use Rattle.refusals.specs.Sentences.{refusalSentence};
-ghost use Rattle.refusals.specs.Refusals.{refusalText, noSessionText, noStudioText, atOperationText};
+ghost use Rattle.refusals.specs.Refusals.{leadOf, refusalText, noSessionText, noStudioText, atOperationText};
 
 // What refusals 1 to 3 mean; there is no refusal 0.
 fn put_to_3(out: &mut [u8], at: usize, n: u32) -> usize
@@ -91,25 +91,38 @@ fn put_sentence(out: &mut [u8], at: usize, n: u32) -> usize
     page::put(out, at, b"unknown")
 }
 
-// A refusal by document 01's number, and what it means.
-pub fn refusal(out: &mut [u8], n: u32) -> usize
+// What stands before the refusal of a preview, and of any other call.
+fn put_lead(out: &mut [u8], previews: bool) -> usize
     requires { ⌜ length (now out) ≡ pageSize ⌝ }
-    ensures { λ r. ⌜ Told (refusalText n) (now (out .entry)) (now (out .exit)) r ⌝ }
+    ensures { λ r. ⌜ Put (leadOf previews) (now (out .entry)) 0 (now (out .exit)) r × (r ≤ 16) ⌝ }
 {
-    let a = page::put_between(out, 0, b"  refused (", n, b"): ");
-    let b = put_sentence(out, a, n);
-    page::put(out, b, b"\n")
+    if previews {
+        return page::put(out, 0, b"  would be ");
+    }
+    page::put(out, 0, b"  ")
+}
+
+// A refusal by document 01's number, and what it means; it is that of a preview, or of any other call.
+pub fn refusal(out: &mut [u8], previews: bool, n: u32) -> usize
+    requires { ⌜ length (now out) ≡ pageSize ⌝ }
+    ensures { λ r. ⌜ Told (refusalText previews n) (now (out .entry)) (now (out .exit)) r ⌝ }
+{
+    let a = put_lead(out, previews);
+    let b = page::put_between(out, a, b"refused (", n, b"): ");
+    let c = put_sentence(out, b, n);
+    page::put(out, c, b"\n")
 }
 
 // Refusal 3 of a call that names a session.
-pub fn no_session(out: &mut [u8], session: u32) -> usize
+pub fn no_session(out: &mut [u8], previews: bool, session: u32) -> usize
     requires { ⌜ length (now out) ≡ pageSize ⌝ }
-    ensures { λ r. ⌜ Told (noSessionText session) (now (out .entry)) (now (out .exit)) r ⌝ }
+    ensures { λ r. ⌜ Told (noSessionText previews session) (now (out .entry)) (now (out .exit)) r ⌝ }
 {
+    let a = put_lead(out, previews);
     page::put_between(
         out,
-        0,
-        b"  refused (3): there is no session ",
+        a,
+        b"refused (3): there is no session ",
         session,
         b", or it is unused\n",
     )
@@ -123,7 +136,7 @@ pub fn no_studio(out: &mut [u8], studio: u32) -> usize
     page::put_between(out, 0, b"  refused (3): there is no studio ", studio, b"\n")
 }
 
-// The operation for which a commit was refused, counted from 1, and its cart.
+// The operation for which a commit is refused, counted from 1, and its cart.
 pub fn at_operation(out: &mut [u8], i: u32, cart: u32) -> usize
     requires { ⌜ length (now out) ≡ pageSize ⌝ }
     ensures { λ r. ⌜ Told (atOperationText i cart) (now (out .entry)) (now (out .exit)) r ⌝ }

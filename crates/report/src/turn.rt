@@ -10,6 +10,7 @@ use replication::control::Control;
 pub enum Came {
     Setup(SetupAnswer, u32),
     Commit(CountAnswer, u32, u32),
+    Preview(CountAnswer, u32, u32),
     Moved(CountAnswer, u32, bool),
     Read(ReadAnswer, u32),
     Show,

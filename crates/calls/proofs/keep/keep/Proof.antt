@@ -37,6 +37,12 @@ after-move-requires c κs = search needs
 enum-known-came-4 : tie.Need-enum-known-came-4
 enum-known-came-4 c = search needs
 
+after-move-requires-2 : tie.Need-after-move-requires-2
+after-move-requires-2 c κs = search needs
+
+enum-known-came-5 : tie.Need-enum-known-came-5
+enum-known-came-5 c = search needs
+
 after-read-requires : tie.Need-after-read-requires
 after-read-requires c κs = search needs
 
@@ -80,30 +86,37 @@ unfolding cameKept
 returns-3 c = let s = c .before .before .before .before .before .before .before .before .before in
     (by-came _ _ _ _ _ _ (c .before .before .came3 .given .1) (same-entries (s .args .cells .now) (s .args .store .now) (c .after-move .ensures .0)), omega (arith, c .after-move .ensures .1, s .pre .1))
 
+returns-4 : tie.Need-returns-4
+unfolding cameKept
+returns-4 c = let s = c .before .before .before .before .before .before .before .before .before in
+    (by-came _ _ _ _ _ _ (c .before .before .came4 .given .1) (same-entries (s .args .cells .now) (s .args .store .now) (c .after-move2 .ensures .0)), omega (arith, c .after-move2 .ensures .1, s .pre .1))
+
 same-length-3 : tie.Need-same-length-3
 same-length-3 c = search needs
 
 same-length-4 : tie.Need-same-length-4
 same-length-4 c = search needs
 
-returns-4 : tie.Need-returns-4
-unfolding cameKept
-returns-4 c = let called = c .before .before .before .before in
-    let s = called .before .before .before .before .before .before .before .before .before .before .before in
-    (by-came _ _ _ _ _ _ (called .before .before .before .before .came4 .given .1) (called .after-read .ensures .0), omega (arith, called .after-read .ensures .1, s .pre .0))
-
 returns-5 : tie.Need-returns-5
 unfolding cameKept
-returns-5 c = let s = c .before .before .before .before .before .before .before .before in
-    (by-came _ _ _ _ _ _ (c .before .enum-told .given .1) (same-entries (s .args .cells .now) (s .args .store .now) (c .unreadable .ensures .0)), omega (arith, c .unreadable .ensures .1, s .pre .1))
+returns-5 c = let called = c .before .before .before .before in
+    let s = called .before .before .before .before .before .before .before .before .before .before .before in
+    (by-came _ _ _ _ _ _ (called .before .before .before .before .came5 .given .1) (called .after-read .ensures .0), omega (arith, called .after-read .ensures .1, s .pre .0))
 
 returns-6 : tie.Need-returns-6
 unfolding cameKept
-returns-6 c = (by-came _ _ _ _ _ _ (c .enum-told2 .given .1) refl, c .before .before .before .before .before .before .before .pre .1)
+returns-6 c = let s = c .before .before .before .before .before .before .before .before in
+    (by-came _ _ _ _ _ _ (c .before .enum-told .given .1) (same-entries (s .args .cells .now) (s .args .store .now) (c .unreadable .ensures .0)), omega (arith, c .unreadable .ensures .1, s .pre .1))
 
 returns-7 : tie.Need-returns-7
 unfolding cameKept
-returns-7 c = (by-came _ _ _ _ _ _ (c .enum-told3 .given .1) refl, c .before .before .before .before .before .before .before .pre .1)
+returns-7 c = let s = c .before .before .before .before .before .before .before in
+    (by-came _ _ _ _ _ _ (c .enum-told2 .given .1) refl, s .pre .1)
+
+returns-8 : tie.Need-returns-8
+unfolding cameKept
+returns-8 c = let s = c .before .before .before .before .before .before .before in
+    (by-came _ _ _ _ _ _ (c .enum-told3 .given .1) refl, s .pre .1)
 
 pub keep-spec : {M : Type 1} → statement M
 keep-spec =
@@ -119,6 +132,8 @@ keep-spec =
     enum-known-came-3
     after-move-requires
     enum-known-came-4
+    after-move-requires-2
+    enum-known-came-5
     after-read-requires
     enum-told
     unreadable-requires
@@ -129,9 +144,10 @@ keep-spec =
     same-length-2
     returns-2
     returns-3
+    returns-4
     same-length-3
     same-length-4
-    returns-4
     returns-5
     returns-6
-    returns-7)
+    returns-7
+    returns-8)

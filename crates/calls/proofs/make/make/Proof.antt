@@ -19,23 +19,29 @@ make-commit-requires c κs = search needs
 enum-known-call-3 : tie.Need-enum-known-call-3
 enum-known-call-3 c = search needs
 
-make-send-requires : tie.Need-make-send-requires
-make-send-requires c κs = search needs
+make-preview-requires : tie.Need-make-preview-requires
+make-preview-requires c κs = search needs
 
 enum-known-call-4 : tie.Need-enum-known-call-4
 enum-known-call-4 c = search needs
 
-make-refresh-requires : tie.Need-make-refresh-requires
-make-refresh-requires c κs = search needs
+make-send-requires : tie.Need-make-send-requires
+make-send-requires c κs = search needs
 
 enum-known-call-5 : tie.Need-enum-known-call-5
 enum-known-call-5 c = search needs
 
-make-read-requires : tie.Need-make-read-requires
-make-read-requires c κs = search needs
+make-refresh-requires : tie.Need-make-refresh-requires
+make-refresh-requires c κs = search needs
 
 enum-known-call-6 : tie.Need-enum-known-call-6
 enum-known-call-6 c = search needs
+
+make-read-requires : tie.Need-make-read-requires
+make-read-requires c κs = search needs
+
+enum-known-call-7 : tie.Need-enum-known-call-7
+enum-known-call-7 c = search needs
 
 make-collect-requires : tie.Need-make-collect-requires
 make-collect-requires c κs = search needs
@@ -46,8 +52,8 @@ enum-told c = search needs
 no-call-requires : tie.Need-no-call-requires
 no-call-requires c κs = search needs
 
-enum-known-call-7 : tie.Need-enum-known-call-7
-enum-known-call-7 c = search needs
+enum-known-call-8 : tie.Need-enum-known-call-8
+enum-known-call-8 c = search needs
 
 no-call-requires-2 : tie.Need-no-call-requires-2
 no-call-requires-2 c κs = search needs
@@ -69,7 +75,10 @@ same-length-3 c = search needs
 
 returns : tie.Need-returns
 unfolding lineLeaves
-returns c = by-case _ _ _ _ _ (c .before .before .before .before .before .before .before .before .before .before .before .call .given .1) (with-block (c .before .before .before .before .before .before .before .before .before .before .before .before .before .before .before .before .before .before .before .args .block .now) (c .before .before .before .before .before .before .make-setup .ensures))
+returns c = let called = c .before .before .before .before .before .before in
+    let arm = called .before .before .before .before .before in
+    let start = arm .before .before .before .before .before .before .before .before in
+    by-case _ _ _ _ _ (arm .call .given .1) (with-block (start .args .block .now) (called .make-setup .ensures))
 
 same-length-4 : tie.Need-same-length-4
 same-length-4 c = search needs
@@ -82,7 +91,10 @@ same-length-6 c = search needs
 
 returns-2 : tie.Need-returns-2
 unfolding lineLeaves
-returns-2 c = by-case _ _ _ _ _ (c .before .before .before .before .before .before .before .before .before .before .before .call2 .given .1) (with-block (c .before .before .before .before .before .before .before .before .before .before .before .before .before .before .before .before .before .before .before .args .block .now) (c .before .before .before .before .before .before .make-commit .ensures))
+returns-2 c = let called = c .before .before .before .before .before .before in
+    let arm = called .before .before .before .before .before in
+    let start = arm .before .before .before .before .before .before .before .before in
+    by-case _ _ _ _ _ (arm .call2 .given .1) (with-block (start .args .block .now) (called .make-commit .ensures))
 
 same-length-7 : tie.Need-same-length-7
 same-length-7 c = search needs
@@ -95,7 +107,9 @@ same-length-9 c = search needs
 
 returns-3 : tie.Need-returns-3
 unfolding lineLeaves
-returns-3 c = by-case _ _ _ _ _ (c .before .before .before .before .before .call3 .given .1) (with-block (c .before .before .before .before .before .before .before .before .before .before .before .before .before .args .block .now) (c .make-send .ensures))
+returns-3 c = let arm = c .before .before .before .before .before in
+    let start = arm .before .before .before .before .before .before .before .before in
+    by-case _ _ _ _ _ (arm .call3 .given .1) (with-block (start .args .block .now) (c .make-preview .ensures))
 
 same-length-10 : tie.Need-same-length-10
 same-length-10 c = search needs
@@ -108,7 +122,9 @@ same-length-12 c = search needs
 
 returns-4 : tie.Need-returns-4
 unfolding lineLeaves
-returns-4 c = by-case _ _ _ _ _ (c .before .before .before .before .before .before .before .call4 .given .1) (with-block (c .before .before .before .before .before .before .before .before .before .before .before .before .before .before .before .args .block .now) (c .before .before .make-refresh .ensures))
+returns-4 c = let arm = c .before .before .before .before .before in
+    let start = arm .before .before .before .before .before .before .before .before in
+    by-case _ _ _ _ _ (arm .call4 .given .1) (with-block (start .args .block .now) (c .make-send .ensures))
 
 same-length-13 : tie.Need-same-length-13
 same-length-13 c = search needs
@@ -119,13 +135,15 @@ same-length-14 c = search needs
 same-length-15 : tie.Need-same-length-15
 same-length-15 c = search needs
 
-same-length-16 : tie.Need-same-length-16
-same-length-16 c = search needs
-
 returns-5 : tie.Need-returns-5
 unfolding lineLeaves
-returns-5 c = let called = c .before .before .before .before in
-    by-case _ _ _ _ _ (called .before .before .before .before .before .before .call5 .given .1) (called .make-read .ensures)
+returns-5 c = let called = c .before .before in
+    let arm = called .before .before .before .before .before in
+    let start = arm .before .before .before .before .before .before .before .before in
+    by-case _ _ _ _ _ (arm .call5 .given .1) (with-block (start .args .block .now) (called .make-refresh .ensures))
+
+same-length-16 : tie.Need-same-length-16
+same-length-16 c = search needs
 
 same-length-17 : tie.Need-same-length-17
 same-length-17 c = search needs
@@ -136,25 +154,41 @@ same-length-18 c = search needs
 same-length-19 : tie.Need-same-length-19
 same-length-19 c = search needs
 
-same-length-20 : tie.Need-same-length-20
-same-length-20 c = search needs
-
 returns-6 : tie.Need-returns-6
 unfolding lineLeaves
 returns-6 c = let called = c .before .before .before .before in
-    by-case _ _ _ _ _ (called .before .before .before .before .before .before .call6 .given .1) (called .make-collect .ensures)
+    let arm = called .before .before .before .before .before .before in
+    by-case _ _ _ _ _ (arm .call6 .given .1) (called .make-read .ensures)
+
+same-length-20 : tie.Need-same-length-20
+same-length-20 c = search needs
+
+same-length-21 : tie.Need-same-length-21
+same-length-21 c = search needs
+
+same-length-22 : tie.Need-same-length-22
+same-length-22 c = search needs
+
+same-length-23 : tie.Need-same-length-23
+same-length-23 c = search needs
 
 returns-7 : tie.Need-returns-7
 unfolding lineLeaves
-returns-7 c = by-case _ _ _ _ _ (c .before .enum-told .given .1) (without-call _ _ (c .no-call .ensures .0) (c .no-call .ensures .1))
+returns-7 c = let called = c .before .before .before .before in
+    let arm = called .before .before .before .before .before .before in
+    by-case _ _ _ _ _ (arm .call7 .given .1) (called .make-collect .ensures)
 
 returns-8 : tie.Need-returns-8
 unfolding lineLeaves
-returns-8 c = by-case _ _ _ _ _ (c .before .before .call7 .given .1) (without-call _ _ (c .no-call2 .ensures .0) (c .no-call2 .ensures .1))
+returns-8 c = by-case _ _ _ _ _ (c .before .enum-told .given .1) (without-call _ _ (c .no-call .ensures .0) (c .no-call .ensures .1))
 
 returns-9 : tie.Need-returns-9
 unfolding lineLeaves
-returns-9 c = by-case _ _ _ _ _ (c .before .enum-told2 .given .1) (without-call _ _ (c .no-call3 .ensures .0) (c .no-call3 .ensures .1))
+returns-9 c = by-case _ _ _ _ _ (c .before .before .call8 .given .1) (without-call _ _ (c .no-call2 .ensures .0) (c .no-call2 .ensures .1))
+
+returns-10 : tie.Need-returns-10
+unfolding lineLeaves
+returns-10 c = by-case _ _ _ _ _ (c .before .enum-told2 .given .1) (without-call _ _ (c .no-call3 .ensures .0) (c .no-call3 .ensures .1))
 
 pub make-spec : {M : Type 1} → statement M
 make-spec =
@@ -165,16 +199,18 @@ make-spec =
     enum-known-call-2
     make-commit-requires
     enum-known-call-3
-    make-send-requires
+    make-preview-requires
     enum-known-call-4
-    make-refresh-requires
+    make-send-requires
     enum-known-call-5
-    make-read-requires
+    make-refresh-requires
     enum-known-call-6
+    make-read-requires
+    enum-known-call-7
     make-collect-requires
     enum-told
     no-call-requires
-    enum-known-call-7
+    enum-known-call-8
     no-call-requires-2
     enum-told-2
     no-call-requires-3
@@ -197,13 +233,17 @@ make-spec =
     same-length-13
     same-length-14
     same-length-15
-    same-length-16
     returns-5
+    same-length-16
     same-length-17
     same-length-18
     same-length-19
-    same-length-20
     returns-6
+    same-length-20
+    same-length-21
+    same-length-22
+    same-length-23
     returns-7
     returns-8
-    returns-9)
+    returns-9
+    returns-10)

@@ -12,7 +12,9 @@ same-length : tie.Need-same-length
 same-length c = search needs
 
 returns : tie.Need-returns
-returns c = told-by (λ a. moved a (c .before .before .before .before .before .before .before .before .args .studio) false) (c .before .before .before .refresh .ensures)
+returns c = let called = c .before .before .before in
+    let start = called .before .before .before .before .before in
+    told-by (λ a. moved a (start .args .studio) false) (called .refresh .ensures)
 
 pub make-refresh-spec : {M : Type 1} → statement M
 make-refresh-spec = tie.close (tie.spec refresh-requires same-length returns)

@@ -71,15 +71,15 @@ slice-aggregate-same-3 c = search needs
 same-requires-3 : tie.Need-same-requires-3
 same-requires-3 c κs = search needs
 
-commit-requires : tie.Need-commit-requires
-commit-requires c κs = search needs
+edit-requires : tie.Need-edit-requires
+edit-requires c κs = search needs
 
 same-length-2 : tie.Need-same-length-2
 same-length-2 c = search needs
 
 returns-4 : tie.Need-returns-4
 unfolding lineOf
-returns-4 c = let else3 = c .before .before .before .before .before .before .before in let at-past-word = c .before .before .before .before .before .before .before .before .before .before .before .before .before in line-means _ _ _ _ _ (c .before .before .commit .ensures) (rw (next (at-past-word), over (at-past-word .before .before), ← word (at-past-word), ← else3 .before .before .before .before .same .ensures, else3 .before .before .before .if2 .left, ← else3 .before .same2 .ensures, else3 .if3 .left, ← c .before .before .before .before .before .same3 .ensures, c .before .before .before .before .if4 .taken))
+returns-4 c = let else3 = c .before .before .before .before .before .before .before in let at-past-word = c .before .before .before .before .before .before .before .before .before .before .before .before .before in line-means _ _ _ _ _ (c .before .before .edit .ensures) (rw (next (at-past-word), over (at-past-word .before .before), ← word (at-past-word), ← else3 .before .before .before .before .same .ensures, else3 .before .before .before .if2 .left, ← else3 .before .same2 .ensures, else3 .if3 .left, ← c .before .before .before .before .before .same3 .ensures, c .before .before .before .before .if4 .taken))
 
 slice-aggregate-same-4 : tie.Need-slice-aggregate-same-4
 slice-aggregate-same-4 c = search needs
@@ -87,22 +87,38 @@ slice-aggregate-same-4 c = search needs
 same-requires-4 : tie.Need-same-requires-4
 same-requires-4 c κs = search needs
 
-read-requires : tie.Need-read-requires
-read-requires c κs = search needs
+edit-requires-2 : tie.Need-edit-requires-2
+edit-requires-2 c κs = search needs
 
 same-length-3 : tie.Need-same-length-3
 same-length-3 c = search needs
 
 returns-5 : tie.Need-returns-5
 unfolding lineOf
-returns-5 c = let else4 = c .before .before .before .before .before .before .before in let else2 = c .before .before .before .before .before .before .before .before .before .before .before .before .before in line-means _ _ _ _ _ (c .before .before .read .ensures) (rw (next (else2 .before .before .before), over (else2 .before .before .before .before .before), ← word (else2 .before .before .before), ← else2 .before .same .ensures, else2 .if2 .left, ← else4 .before .before .before .before .same2 .ensures, else4 .before .before .before .if3 .left, ← else4 .before .same3 .ensures, else4 .if4 .left, ← c .before .before .before .before .before .same4 .ensures, c .before .before .before .before .if5 .taken))
+returns-5 c = let else4 = c .before .before .before .before .before .before .before in let else2 = c .before .before .before .before .before .before .before .before .before .before .before .before .before in let at-past-word = else2 .before .before .before in line-means _ _ _ _ _ (c .before .before .edit2 .ensures) (rw (next (at-past-word), over (at-past-word .before .before), ← word (at-past-word), ← else2 .before .same .ensures, else2 .if2 .left, ← else4 .before .before .before .before .same2 .ensures, else4 .before .before .before .if3 .left, ← else4 .before .same3 .ensures, else4 .if4 .left, ← c .before .before .before .before .before .same4 .ensures, c .before .before .before .before .if5 .taken))
+
+slice-aggregate-same-5 : tie.Need-slice-aggregate-same-5
+slice-aggregate-same-5 c = search needs
+
+same-requires-5 : tie.Need-same-requires-5
+same-requires-5 c κs = search needs
+
+read-requires : tie.Need-read-requires
+read-requires c κs = search needs
+
+same-length-4 : tie.Need-same-length-4
+same-length-4 c = search needs
+
+returns-6 : tie.Need-returns-6
+unfolding lineOf
+returns-6 c = let else5 = c .before .before .before .before .before .before .before in let else3 = c .before .before .before .before .before .before .before .before .before .before .before .before .before in let at-past-word = else3 .before .before .before .before .before .before in line-means _ _ _ _ _ (c .before .before .read .ensures) (rw (next (at-past-word), over (at-past-word .before .before), ← word (at-past-word), ← else3 .before .before .before .before .same .ensures, else3 .before .before .before .if2 .left, ← else3 .before .same2 .ensures, else3 .if3 .left, ← else5 .before .before .before .before .same3 .ensures, else5 .before .before .before .if4 .left, ← else5 .before .same4 .ensures, else5 .if5 .left, ← c .before .before .before .before .before .same5 .ensures, c .before .before .before .before .if6 .taken))
 
 by-number-requires : tie.Need-by-number-requires
 by-number-requires c κs = search needs
 
-returns-6 : tie.Need-returns-6
+returns-7 : tie.Need-returns-7
 unfolding lineOf
-returns-6 c = let else3 = c .before .before .before .before .before .before .before in let at-past-word = c .before .before .before .before .before .before .before .before .before .before .before .before .before in line-means _ (line (numberCallAt _ (at-past-word .past-word .result) (at-past-word .before .peek-word .result .now)) []) _ _ _ (record { call = c .by-number .ensures .0; payload = refl; fits = c .by-number .ensures .1 }) (rw (next (at-past-word), over (at-past-word .before .before), ← word (at-past-word), ← else3 .before .before .before .before .same .ensures, else3 .before .before .before .if2 .left, ← else3 .before .same2 .ensures, else3 .if3 .left, ← c .before .before .before .before .before .same3 .ensures, c .before .before .before .before .if4 .left, ← c .before .before .same4 .ensures, c .before .if5 .left))
+returns-7 c = let else4 = c .before .before .before .before .before .before .before in let else2 = c .before .before .before .before .before .before .before .before .before .before .before .before .before in let at-past-word = else2 .before .before .before in line-means _ (line (numberCallAt _ (at-past-word .past-word .result) (at-past-word .before .peek-word .result .now)) []) _ _ _ (record { call = c .by-number .ensures .0; payload = refl; fits = c .by-number .ensures .1 }) (rw (next (at-past-word), over (at-past-word .before .before), ← word (at-past-word), ← else2 .before .same .ensures, else2 .if2 .left, ← else4 .before .before .before .before .same2 .ensures, else4 .before .before .before .if3 .left, ← else4 .before .same3 .ensures, else4 .if4 .left, ← c .before .before .before .before .before .same4 .ensures, c .before .before .before .before .if5 .left, ← c .before .before .same5 .ensures, c .before .if6 .left))
 
 pub parse-spec : {M : Type 1} → statement M
 parse-spec =
@@ -124,13 +140,18 @@ parse-spec =
     returns-3
     slice-aggregate-same-3
     same-requires-3
-    commit-requires
+    edit-requires
     same-length-2
     returns-4
     slice-aggregate-same-4
     same-requires-4
-    read-requires
+    edit-requires-2
     same-length-3
     returns-5
+    slice-aggregate-same-5
+    same-requires-5
+    read-requires
+    same-length-4
+    returns-6
     by-number-requires
-    returns-6)
+    returns-7)
