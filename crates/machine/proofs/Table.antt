@@ -13,7 +13,7 @@ use Rattle.replication.specs.Calls.{numberAfter}
 use Rattle.machine.specs.Machine as Machine
 use Rattle.machine.specs.Machine.{afterCalls}
 use Rattle.replication.specs.Answer.{refused, done, waits, answered}
-use Rattle.replication.specs.Call.{commit, preview, send, refresh, read, collect, run, final}
+use Rattle.replication.specs.Call.{Call, commit, preview, send, refresh, read, collect, run, final}
 use Rattle.machine.specs.OneCopy.{Event, event}
 use Rattle.machine.specs.Table.{studioBytes, topHourA, longTitle, payload, new, A, withdraw7, seven, titleRead, buffer, holding, cases2to10, case11, case12, callsOf, Table}
 use Rattle.machine.proofs.Entries.{plainHistory}
@@ -26,8 +26,13 @@ pub started : start .answer ≡ done 0
 unfolding start studioBytes Machine.setup setupRows stopped unless all within every zeros
 started = refl
 
+-- a list's history from that start; whoever unfolds this unfolds all that the plain machine computes a history with
+computed : List Call → List Event
+unfolding zeros u16 u32 u16s within all every allZero pairwise parts cartAt printable titleForm hasTitle noTitle hasAudio noAudio held operationFields operationForm operationsOf made retitled recut meetsCart effect actedOn meets act meetsAll actAll shownByNumbers foundByNumbers sameLetter titled titledFrom titledIn theOne topHourA noRoom numbersIn requestOf numbersForm requestFields requestForm isWaiting needed foundIn shownFrom stopped unless setupRows sessionRow studioRow sizeForm commitRows sendRows refreshRows readRows collectRows numberAfter replay L recordsUsed Machine.fresh Machine.setup Machine.refusedCommit Machine.commit Machine.preview Machine.send Machine.refresh Machine.answerFrom Machine.block Machine.wait Machine.read Machine.collect Machine.call run final plainHistory start A buffer holding studioBytes payload new withdraw7 seven
+computed H = plainHistory start H
+
 pub table : Table (plainHistory start) (afterCalls start (callsOf cases2to10) .next .log)
-unfolding zeros u16 u32 u16s within all every allZero pairwise parts cartAt printable titleForm hasTitle noTitle hasAudio noAudio held operationFields operationForm operationsOf made retitled recut meetsCart effect actedOn meets act meetsAll actAll shownByNumbers foundByNumbers sameLetter titled titledFrom titledIn theOne topHourA longTitle noRoom numbersIn requestOf numbersForm requestFields requestForm isWaiting needed foundIn shownFrom stopped unless setupRows sessionRow studioRow sizeForm commitRows sendRows refreshRows readRows collectRows numberAfter replay L recordsUsed Machine.fresh Machine.setup Machine.refusedCommit Machine.commit Machine.send Machine.refresh Machine.answerFrom Machine.block Machine.wait Machine.read Machine.collect Machine.call run final plainHistory start A buffer holding studioBytes payload new withdraw7 seven titleRead cases2to10 case11 case12
+unfolding computed longTitle titleRead cases2to10 case11 case12
 table = record { fresh = refl; followed = refl; audio = refl; empty = refl; longTitles = refl; oneTitle = refl }
 
 -- a studio that lags behind what it was sent: its reads show the state that it has applied
@@ -50,7 +55,7 @@ lagging =
     ∷ []
 
 pub applied-shown : plainHistory start (callsOf lagging) ≡ lagging
-unfolding zeros u16 u32 u16s within all every allZero pairwise parts cartAt printable titleForm hasTitle noTitle hasAudio noAudio held operationFields operationForm operationsOf made retitled recut meetsCart effect actedOn meets act meetsAll actAll shownByNumbers foundByNumbers sameLetter titled titledFrom titledIn theOne topHourA noRoom numbersIn requestOf numbersForm requestFields requestForm isWaiting needed foundIn shownFrom stopped unless setupRows sessionRow studioRow sizeForm commitRows sendRows refreshRows readRows collectRows numberAfter replay L recordsUsed Machine.fresh Machine.setup Machine.refusedCommit Machine.commit Machine.send Machine.refresh Machine.answerFrom Machine.block Machine.wait Machine.read Machine.collect Machine.call run final plainHistory start A buffer holding studioBytes payload new withdraw7 seven lagging
+unfolding computed lagging
 applied-shown = refl
 
 -- previews: commit's number and refusals, also in a session whose read is waiting, and nothing of it is left
@@ -72,5 +77,5 @@ trying =
     ∷ []
 
 pub preview-tried : plainHistory start (callsOf trying) ≡ trying
-unfolding zeros u16 u32 u16s within all every allZero pairwise parts cartAt printable titleForm hasTitle noTitle hasAudio noAudio held operationFields operationForm operationsOf made retitled recut meetsCart effect actedOn meets act meetsAll actAll shownByNumbers foundByNumbers sameLetter titled titledFrom titledIn theOne topHourA noRoom numbersIn requestOf numbersForm requestFields requestForm isWaiting needed foundIn shownFrom stopped unless setupRows sessionRow studioRow sizeForm commitRows sendRows refreshRows readRows collectRows numberAfter replay L recordsUsed Machine.fresh Machine.setup Machine.refusedCommit Machine.commit Machine.preview Machine.send Machine.refresh Machine.answerFrom Machine.block Machine.wait Machine.read Machine.collect Machine.call run final plainHistory start A buffer holding studioBytes payload new withdraw7 seven trying
+unfolding computed trying
 preview-tried = refl
