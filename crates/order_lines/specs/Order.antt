@@ -1,12 +1,13 @@
 -- The lines that tell the one-copy order.
 use mathlib.Core.Bool.{Bool, cond, _&&_}
 use mathlib.Core.List.{List, [], _++_}
-use Prim.Native.Nat.{ℕ}
+use Prim.Native.Nat.{ℕ, zero, suc, _+_}
 use lib.Dec.{eqb, ltb}
 use Rattle.carts.specs.Cart.{titleAt}
 use Rattle.carts.specs.Bytes.{byte, u16}
 use Rattle.lines.specs.Text.{partIn}
 use Rattle.lines.specs.Words.{bytesOf}
+use Rattle.journal.specs.History.{entryAt}
 use Rattle.journal.specs.declared.history.Entry.{Entry}
 use Rattle.words.specs.Page.{numbered, countOf, quoted}
 use Rattle.words.specs.Request.{askedNumbers}
@@ -14,6 +15,14 @@ use Rattle.words.specs.Request.{askedNumbers}
 -- the one-copy order begins: how many edits and reads it has
 unfoldable pub orderText : ℕ → ℕ → List ℕ
 orderText edits reads = bytesOf "One-copy order of " ++ countOf edits (bytesOf "edit") ++ bytesOf " and " ++ countOf reads (bytesOf "read") ++ bytesOf ":\n"
+
+-- how many of the first n entries are edits
+unfoldable pub ifEdit : Entry → ℕ
+ifEdit e = cond (eqb (e .kind) 1) 1 0
+
+unfoldable pub editsIn : List ℕ → ℕ → ℕ
+editsIn cells zero = 0
+editsIn cells (suc n) = editsIn cells n + ifEdit (entryAt cells n)
 
 -- an entry of the order: its line and session, and what it did: an edit's number and, one by one, its operations
 unfoldable pub placeText : Entry → List ℕ

@@ -4,9 +4,11 @@ use journal::history;
 use journal::history::Entry;
 use lines::text;
 use words::line;
+ghost use mathlib.Core.Path.{_≡_};
 ghost use Prim.Native.Nat.{_<_, _≤_};
 ghost use lib.ListN.{length};
 ghost use Rattle.journal.specs.History.{mostEntries};
+ghost use Rattle.order_lines.specs.Order.{ifEdit, editsIn};
 
 // An operation, after the one before it.
 fn operation(op: &[u8], is_first: bool) {
@@ -125,7 +127,7 @@ pub fn left_out(answers: u32) {
 
 // 1 for an edit, 0 for a read.
 fn if_edit(e: Entry) -> u32
-    ensures { λ r. ⌜ r ≤ 1 ⌝ }
+    ensures { λ r. ⌜ (r ≡ ifEdit e) × (r ≤ 1) ⌝ }
 {
     if e.kind == 1 {
         return 1;
@@ -136,7 +138,7 @@ fn if_edit(e: Entry) -> u32
 // How many of the first n entries are edits.
 pub fn edits(cells: &[u32], n: u32) -> u32
     requires { ⌜ n ≤ mostEntries ⌝ }
-    ensures { λ r. ⌜ r ≤ n ⌝ }
+    ensures { λ r. ⌜ (r ≡ editsIn (now (cells .entry)) n) × (r ≤ n) ⌝ }
 {
     let mut count: u32 = 0;
     let mut i: u32 = 0;
