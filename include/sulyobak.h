@@ -110,7 +110,8 @@ typedef struct {
     uint32_t kind;  /* one of the four below */
     uint32_t value; /* refused: the number, below; done: what the call counts; answered: the state; waits: the session's number */
     uint32_t found; /* answered: how many carts were found */
-    sulyobak_control control; /* control for the next call; unchanged where the call was refused (setup's apart), and by preview, read, collect, layout */
+    sulyobak_control control; /* control for the next call; unchanged where the call was refused (setup's apart), and by preview, read,
+                               * collect and layout */
 } sulyobak_answer;
 
 /* Kinds of answer. */

@@ -17,8 +17,8 @@ version = 2
 abbrev pub words : ℕ → ℕ → ℕ → Control → Words
 words kind value found c = record { kind = kind; value = value; found = found; control = c }
 
--- 0 refused: the row's number; 1 done: the commit's number (of a preview the one that it would have), sent or applied (0 for setup); 2 answered: the state, with found;
--- 3 waits: the session's number
+-- 0 refused: the row's number; 1 done: the commit's number (of a preview the one that it would have), sent or applied (0 for setup);
+-- 2 answered: the state, with found; 3 waits: the session's number
 abbrev pub wordsOf : Answer → Control → Words
 wordsOf (refused n) c = words 0 n 0 c
 wordsOf (done n) c = words 1 n 0 c
