@@ -1,15 +1,16 @@
--- WORKED EXAMPLES of the definitions, by computation: forms, each operation's effect in each state, transactions, title match, found.
+-- WORKED EXAMPLES of the definitions, by computation: forms, titles that differ by a space, each operation's effect in each state, transactions, title
+-- match, found.
 use mathlib.Core.Path.{_≡_, refl}
 use mathlib.Core.Bool.{true, false}
 use mathlib.Core.List.{List, [], _∷_, _++_}
 use Prim.Native.Nat.{ℕ}
-use lib.ListN.{length, take, set}
-use Rattle.carts.specs.Bytes.{zeros, u16, u32, u16Bytes, within, all, every, allZero, pairwise}
+use lib.ListN.{length, take, set, replicate}
+use Rattle.carts.specs.Bytes.{zeros, u16, u32, u16Bytes, within, all, every, any, allZero, pairwise}
 use Rattle.carts.specs.Cart.{cartAt, printable, titleForm, hasTitle, noTitle, hasAudio, noAudio, held, heldForm, cartForm}
-use Rattle.carts.specs.Operation.{operationFields, operationForm, made, retitled, recut, meetsCart, effect, actedOn, meets, act, meetsAll, actAll}
+use Rattle.carts.specs.Operation.{operationFields, operationForm, spaced, made, retitled, recut, meetsCart, effect, actedOn, meets, act, meetsAll, actAll}
 use Rattle.carts.specs.Title.{shownByNumbers, foundByNumbers, sameLetter, titled, titledFrom, titledIn, theOne, searchAnswer}
 use Rattle.carts.specs.declared.titles.Found.the-variants.{One, None, Several}
-use Rattle.carts.proofs.Samples.{u32Bytes, operation, newCart, retitleCart, recutCart, withdrawCart, topHourA, longTitle}
+use Rattle.carts.proofs.Samples.{u32Bytes, operation, newCart, retitleCart, recutCart, withdrawCart, topHourA, news, longTitle}
 
 -- a short copy of eight empty carts; and with cart 7 held
 unfoldable none : List ℕ
@@ -81,6 +82,55 @@ forms = record {
   cart-other-number = refl;
   cart-state-2 = refl;
   cart-spare-bytes = refl;
+}
+
+-- cart 7 with the title " News", from before such titles were refused
+unfoldable old : List ℕ
+old = act none (newCart 7 (32 ∷ news) 501 8000)
+
+pub record Spaces : Type 0 where
+  begins : spaced (newCart 7 (32 ∷ news) 501 8000) ≡ true
+  ends : spaced (newCart 7 (news ++ (32 ∷ [])) 501 8000) ≡ true
+  only : spaced (newCart 7 (32 ∷ []) 501 8000) ≡ true
+  inside : spaced (newCart 7 (78 ∷ 32 ∷ 119 ∷ []) 501 8000) ≡ false
+  retitle-begins : spaced (retitleCart 7 (32 ∷ news)) ≡ true
+  retitle-ends : spaced (retitleCart 7 (news ++ (32 ∷ []))) ≡ true
+  retitle-inside : spaced (retitleCart 7 topHourA) ≡ false
+  letter-64 : spaced (newCart 7 (longTitle 32) 1 1) ≡ true
+  letter-63 : spaced (newCart 7 (replicate 62 97 ++ (32 ∷ 97 ∷ [])) 1 1) ≡ false
+  recut : spaced (set (recutCart 7 1 1) 16 32) ≡ false
+  withdraw : spaced (set (withdrawCart 7) 16 32) ≡ false
+  last-operation : any spaced (A ∷ withdrawCart 7 ∷ newCart 7 (32 ∷ news) 1 1 ∷ []) ≡ true
+  no-operation : any spaced (A ∷ withdrawCart 7 ∷ []) ≡ false
+  in-form : operationForm (newCart 7 (32 ∷ news) 501 8000) ≡ true
+  in-log : operationFields (set (newCart 7 (32 ∷ news) 501 8000) 12 9) ≡ true
+  in-copy : cartForm 7 (cartAt old 7) ≡ true
+  matched : titledIn (32 ∷ news) old ≡ 7 ∷ []
+  not-matched : titledIn news old ≡ []
+  retitled-away : cartAt (act old (retitleCart 7 news)) 7 ≡ newCart 7 news 501 8000
+
+pub spaces : Spaces
+unfolding none A old zeros u16 u32 u16Bytes within all every any allZero pairwise cartAt printable titleForm hasTitle noTitle hasAudio noAudio held heldForm cartForm operationFields operationForm spaced made retitled meetsCart effect actedOn act sameLetter titled titledFrom titledIn u32Bytes operation newCart retitleCart recutCart withdrawCart topHourA news longTitle
+spaces = record {
+  begins = refl;
+  ends = refl;
+  only = refl;
+  inside = refl;
+  retitle-begins = refl;
+  retitle-ends = refl;
+  retitle-inside = refl;
+  letter-64 = refl;
+  letter-63 = refl;
+  recut = refl;
+  withdraw = refl;
+  last-operation = refl;
+  no-operation = refl;
+  in-form = refl;
+  in-log = refl;
+  in-copy = refl;
+  matched = refl;
+  not-matched = refl;
+  retitled-away = refl;
 }
 
 pub record Effects : Type 0 where

@@ -10,7 +10,7 @@ use lib.Seq.{getD-set-same, getD-set-other, drop-set-lt}
 use borrow.Author.Tests.{eq-eqb, eqb-true, eqb-false}
 use Rattle.carts.specs.Bytes.{zeros, byte, u16, part, over, all, every, allZero}
 use Rattle.carts.specs.Cart.{cartAt, hasTitle, hasAudio, held, heldForm, cartForm, copyForm}
-use Rattle.carts.specs.Operation.{isNew, isRetitle, isRecut, isWithdraw, operationFields, made, retitled, recut, meetsCart, effect, actedOn, act, actAll}
+use Rattle.carts.specs.Operation.{isNew, isRetitle, isRecut, isWithdraw, operationFields, writesTitle, made, retitled, recut, meetsCart, effect, actedOn, act, actAll}
 use Rattle.carts.proofs.CartLaws.{length-cart, cart-held}
 use Rattle.carts.proofs.OperationLaws.{operationTests, length-acted, length-act, length-actAll, fields-cart, Operations}
 use Rattle.carts.proofs.PartLaws.{length-part, length-over, part-over, over-before, over-after, part-in, byte-in, u16-in, u32-in}
@@ -28,6 +28,18 @@ module _ (copy op : List ℕ) (l : length copy ≡ 10240) (o : length op ≡ 80)
   pub act-other : (c : ℕ) → 1 ≤ c → (c ≡ u16 op 2 → ⊥) → cartAt (act copy op) c ≡ cartAt copy c
   unfolding act cartAt
   act-other c h ne = record-other copy (actedOn op (cartAt copy (u16 op 2))) 80 (u16 op 2 - 1) (c - 1) (omega arith) (length-acted op (cartAt copy (u16 op 2)) o (length-cart copy (u16 op 2) l high)) (λ e. ne (omega arith))
+
+-- what holds of each cart of a copy, and of the cart that an operation leaves, holds of each cart after the operation
+pub act-each : (P : ℕ → List ℕ → Type 0) (copy op : List ℕ) → length copy ≡ 10240 → length op ≡ 80 → operationFields op ≡ true
+    → P (u16 op 2) (actedOn op (cartAt copy (u16 op 2))) → ((c : ℕ) → 1 ≤ c → c ≤ 128 → P c (cartAt copy c)) → (c : ℕ) → 1 ≤ c → c ≤ 128 → P c (cartAt (act copy op) c)
+act-each P copy op l o f named others c h k = pick (eqb c (u16 op 2)) refl
+  where
+    pick : (b : Bool) → eqb c (u16 op 2) ≡ b → P c (cartAt (act copy op) c)
+    pick true q =
+        let r = fields-cart op f in
+        let n : c ≡ u16 op 2 = eqb-true c (u16 op 2) q in
+        rw (n, act-named copy op l o (r .0) (r .1)) named
+    pick false q = let r = fields-cart op f in rw (act-other copy op l o (r .0) (r .1) c h (eqb-false c (u16 op 2) q)) (others c h k)
 
 -- a copy is of its form where each of its carts is
 pub copy-cart : (copy : List ℕ) (c : ℕ) → copyForm copy ≡ true → 1 ≤ c → c ≤ 128 → cartForm c (cartAt copy c) ≡ true
@@ -126,7 +138,7 @@ module _ (op cart : List ℕ) (o : length op ≡ 80) (l : length cart ≡ 80) wh
       (ap allZero (over-after cart 4 8 audio 12 4 (omega arith) f (omega arith)) ∙ held-test c cart 4 e)
 
   -- what the operation's kind asks for is there
-  title-there : operationFields op ≡ true → (isNew (byte op 0) || isRetitle (byte op 0)) ≡ true → hasTitle op ≡ true
+  pub title-there : operationFields op ≡ true → writesTitle op ≡ true → hasTitle op ≡ true
   unfolding operationFields
   title-there e k = rw k at (all-at 2 (operationTests op) e)
 
@@ -169,14 +181,10 @@ module _ (op cart : List ℕ) (o : length op ≡ 80) (l : length cart ≡ 80) wh
 
 -- a copy of its form stays so
 pub copy-kept : (copy op : List ℕ) → length copy ≡ 10240 → length op ≡ 80 → operationFields op ≡ true → copyForm copy ≡ true → copyForm (act copy op) ≡ true
-copy-kept copy op l o f e = copy-of (act copy op) (λ c h k. pick c h k (eqb c (u16 op 2)) refl)
-  where
-    pick : (c : ℕ) → 1 ≤ c → c ≤ 128 → (b : Bool) → eqb c (u16 op 2) ≡ b → cartForm c (cartAt (act copy op) c) ≡ true
-    pick c h k true q =
-        let r = fields-cart op f in
-        let n : c ≡ u16 op 2 = eqb-true c (u16 op 2) q in
-        rw (n, act-named copy op l o (r .0) (r .1)) (cart-kept op (cartAt copy (u16 op 2)) o (length-cart copy (u16 op 2) l (r .1)) f (copy-cart copy (u16 op 2) e (r .0) (r .1)))
-    pick c h k false q = let r = fields-cart op f in rw (act-other copy op l o (r .0) (r .1) c h (eqb-false c (u16 op 2) q)) (copy-cart copy c e h k)
+copy-kept copy op l o f e =
+    let r = fields-cart op f in
+    let named = cart-kept op (cartAt copy (u16 op 2)) o (length-cart copy (u16 op 2) l (r .1)) f (copy-cart copy (u16 op 2) e (r .0) (r .1)) in
+    copy-of (act copy op) (act-each (λ c (s : List ℕ). cartForm c s ≡ true) copy op l o f named (λ c h k. copy-cart copy c e h k))
 
 pub copy-kept-all : (ops : List (List ℕ)) (copy : List ℕ) → length copy ≡ 10240 → every (λ op. eqb (length op) 80) ops ≡ true → every operationFields ops ≡ true → copyForm copy ≡ true → copyForm (actAll copy ops) ≡ true
 unfolding actAll every

@@ -10,6 +10,7 @@ pub mod PartLaws
 pub mod RecordLaws
 pub mod Samples
 pub mod ScanLaws
+pub mod SpaceLaws
 pub mod StateLaws
 pub mod TestLaws
 pub mod TitleKept

@@ -9,12 +9,13 @@ use lib.Dec.{eqb}
 use lib.ListN.{length, take, drop, set, length-set, length-replicate}
 use borrow.Author.Tests.{eqb-true}
 use Rattle.carts.specs.Bytes.{byte, u16, zeros, part, over, parts, within, every, allZero}
-use Rattle.carts.specs.Cart.{cartAt, hasTitle, noTitle, hasAudio, noAudio}
+use Rattle.carts.specs.Cart.{cartAt, titleForm, hasTitle, noTitle, hasAudio, noAudio}
 use Rattle.carts.specs.Operation.{isNew, isRetitle, isRecut, isWithdraw, operationFields, operationForm, operationsOf, made, retitled, recut, meetsCart, effect, actedOn, meets, act, meetsAll, actAll}
-use Rattle.carts.proofs.TestLaws.{by-cond, all-at}
+use Rattle.carts.proofs.TestLaws.{by-cond, all-at, every-at}
 use Rattle.carts.proofs.ScanLaws.{and-left, and-right, within-true, every-implied}
 use Rattle.carts.proofs.CartLaws.{length-cart}
 use Rattle.carts.proofs.PartLaws.{length-part, length-over, part-in, byte-in, u16-in, u32-in}
+use Rattle.carts.proofs.EachLaws.{length-parts, parts-at}
 use Rattle.carts.proofs.RecordLaws.{parts-next, parts-end, sized-parts}
 
 -- the tests of an operation's fields, read by position
@@ -27,6 +28,25 @@ operationTests op =
 pub fields-cart : (op : List ℕ) → operationFields op ≡ true → (1 ≤ u16 op 2) × (u16 op 2 ≤ 128)
 unfolding operationFields
 fields-cart op e = within-true 1 128 (u16 op 2) (all-at 1 (operationTests op) e)
+
+-- and its title ends within its bytes
+pub fields-title : (op : List ℕ) → operationFields op ≡ true → byte op 1 ≤ 64
+unfolding operationFields hasTitle noTitle titleForm
+fields-title op e =
+    let kind = byte op 0 in
+    let t = all-at 2 (operationTests op) e in
+    by-cond (λ (b : Bool). b ≡ true → byte op 1 ≤ 64) (isNew kind || isRetitle kind) (hasTitle op) (noTitle op)
+    (λ _ h. within-true 1 64 (byte op 1) (all-at 0 _ h) .1)
+    (λ _ h. let z = eqb-true (byte op 1) 0 (all-at 0 _ h) in omega arith)
+    t
+
+-- operation i of a commit
+pub fields-at : (ops : List ℕ) → every operationFields (operationsOf ops) ≡ true → (i : ℕ) → i < length ops / 80 → operationFields (take 80 (drop (80 * i) ops)) ≡ true
+unfolding operationsOf
+fields-at ops f i h =
+    let n = length-parts 80 (length ops / 80) ops in
+    let e = every-at operationFields (parts 80 (length ops / 80) ops) [] i f (omega arith) in
+    rw (parts-at 80 (length ops / 80) ops i h) at e
 
 -- the operations left of n, of which i have been passed: the first, and the others
 module _ (n i : ℕ) (s : List ℕ) (h : i < n) where
@@ -143,3 +163,20 @@ pub record Operations (ops : List (List ℕ)) : Type 0 where
 
 pub operations-of : (bytes : List ℕ) → every operationForm (operationsOf bytes) ≡ true → Operations (operationsOf bytes)
 operations-of bytes e = record { sizes = sized-operations bytes; fields = forms-fields (operationsOf bytes) e }
+
+-- the first of them, and the others
+pub record Whole (op : List ℕ) : Type 0 where
+  pub size : length op ≡ 80
+  pub fields : operationFields op ≡ true
+  pub low : 1 ≤ u16 op 2
+  pub high : u16 op 2 ≤ 128
+
+pub operations-first : (op : List ℕ) (ops : List (List ℕ)) → Operations (op ∷ ops) → Whole op × Operations ops
+unfolding every
+operations-first op ops h =
+    let sized : List ℕ → Bool = λ o. eqb (length o) 80 in
+    let f = and-left (operationFields op) (every operationFields ops) (h .fields) in
+    let c = fields-cart op f in (
+      record { size = eqb-true _ _ (and-left (sized op) (every sized ops) (h .sizes)); fields = f; low = c .0; high = c .1 },
+      record { sizes = and-right (sized op) (every sized ops) (h .sizes); fields = and-right (operationFields op) (every operationFields ops) (h .fields) },
+    )

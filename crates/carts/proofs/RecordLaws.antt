@@ -1,7 +1,7 @@
 -- Laws for loops over records of one size that stand one after the other: i of n records have been passed.
 use Prim.Native.Nat.{ℕ, zero, suc, _+_, _-_, _*_, _<_, _≤_}
 use mathlib.Core.Path.{_≡_, refl, ap}
-use mathlib.Core.Bool.{Bool, true, _&&_}
+use mathlib.Core.Bool.{Bool, true, false, _&&_, _||_}
 use mathlib.Core.List.{List, [], _∷_}
 use native.Mathlib.Nat.{mul-suc}
 use native.Mathlib.Numerals.{add-one}
@@ -10,8 +10,8 @@ use lib.Dec.{eqb}
 use lib.ListN.{length, take, drop, length-drop}
 use borrow.Author.Tests.{eq-eqb}
 use lib.Seq.{drop-drop, length-take-le}
-use Rattle.carts.specs.Bytes.{every, parts, eachPart}
-use Rattle.carts.proofs.ScanLaws.{test-more, test-end}
+use Rattle.carts.specs.Bytes.{every, any, parts, eachPart}
+use Rattle.carts.proofs.ScanLaws.{test-more, test-end, either-more, either-end}
 pub use Rattle.carts.proofs.EachLaws.{each-at, at-each as each-of}
 
 -- past one record more
@@ -52,6 +52,22 @@ pub every-parts : (p : List ℕ → Bool) (size n m : ℕ) (s : List ℕ) → ev
 unfolding every parts eachPart
 every-parts p size zero m s = refl
 every-parts p size (suc n) m s = ap (λ b. p (take size s) && b) (every-parts p size n (m + 1) (drop size s))
+
+-- a turn of a loop that looks for a record that passes a test, and its end
+module _ (p : List ℕ → Bool) (size n i : ℕ) (s : List ℕ) (found : Bool) where
+  any-next : i < n → any p (parts size (n - i) (drop (size * i) s)) ≡ (p (take size (drop (size * i) s)) || any p (parts size (n - (i + 1)) (drop (size * (i + 1)) s)))
+  unfolding any
+  any-next h = rw (parts-next size n i s h)
+
+  pub any-more : {new whole : Bool} → i < n → whole ≡ (found || any p (parts size (n - i) (drop (size * i) s))) → new ≡ (found || p (take size (drop (size * i) s))) → whole ≡ (new || any p (parts size (n - (i + 1)) (drop (size * (i + 1)) s)))
+  any-more h inv e = either-more found (p (take size (drop (size * i) s))) (any p (parts size (n - (i + 1)) (drop (size * (i + 1)) s))) inv (any-next h) e
+
+  any-end : n ≤ i → any p (parts size (n - i) (drop (size * i) s)) ≡ false
+  unfolding any
+  any-end h = rw (parts-end size n i (drop (size * i) s) h)
+
+  pub any-done : {whole : Bool} → n ≤ i → whole ≡ (found || any p (parts size (n - i) (drop (size * i) s))) → found ≡ whole
+  any-done h inv = either-end found inv (any-end h)
 
 -- each part has its size
 pub sized-parts : (size n : ℕ) (s : List ℕ) → size * n ≤ length s → every (λ r. eqb (length r) size) (parts size n s) ≡ true

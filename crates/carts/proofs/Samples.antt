@@ -30,6 +30,10 @@ withdrawCart c = operation 4 c [] 0 0
 unfoldable pub topHourA : List ℕ
 topHourA = 84 ∷ 111 ∷ 112 ∷ 32 ∷ 104 ∷ 111 ∷ 117 ∷ 114 ∷ 32 ∷ 65 ∷ []
 
+-- "News"
+unfoldable pub news : List ℕ
+news = 78 ∷ 101 ∷ 119 ∷ 115 ∷ []
+
 -- 63 letters a, then the given one
 unfoldable pub longTitle : ℕ → List ℕ
 longTitle last = replicate 63 97 ++ (last ∷ [])

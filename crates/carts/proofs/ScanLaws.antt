@@ -1,7 +1,7 @@
 -- Laws of list tests, for loops that walk a list from its front: the whole test is the tests so far and the test of what is left.
 use Prim.Native.Nat.{ℕ, zero, suc, _+_, _<_, _≤_}
 use mathlib.Core.Path.{_≡_, refl, sym, ap, _∙_}
-use mathlib.Core.Bool.{Bool, true, _&&_, and-assoc, and-true}
+use mathlib.Core.Bool.{Bool, true, false, _&&_, _||_, and-assoc, and-true, or-assoc, or-false}
 use mathlib.Core.List.{List, [], _∷_}
 use native.Mathlib.Numerals.{add-one}
 use native.Mathlib.Omega.{arith}
@@ -15,12 +15,27 @@ use Rattle.carts.proofs.TestLaws.{within-low, within-high}
 pub use Rattle.carts.proofs.TestLaws.{and-left, and-right, within-of, pairwise-eq as pairwise-equal}
 pub use Rattle.carts.proofs.ZeroLaws.{zero-part, zero-zeros, zeros-of}
 
--- a turn of a loop that joins tests, and its end
+-- a turn of a loop that joins tests, and its end: by an associative operation and its unit
+module _ (join : Bool → Bool → Bool) (assoc : (a b c : Bool) → join (join a b) c ≡ join a (join b c)) (unit : Bool) (right : (a : Bool) → join a unit ≡ a) where
+  join-more : (a t next : Bool) {new whole left : Bool} → whole ≡ join a left → left ≡ join t next → new ≡ join a t → whole ≡ join new next
+  join-more a t next p q e = p ∙ ap (join a) q ∙ sym (assoc a t next) ∙ ap (λ b. join b next) (sym e)
+
+  join-end : (a : Bool) {whole left : Bool} → whole ≡ join a left → left ≡ unit → a ≡ whole
+  join-end a p q = sym (p ∙ ap (join a) q ∙ right a)
+
+-- every test holds
 pub test-more : (ok t next : Bool) {new whole left : Bool} → whole ≡ (ok && left) → left ≡ (t && next) → new ≡ (ok && t) → whole ≡ (new && next)
-test-more ok t next p q e = p ∙ ap (λ b. ok && b) q ∙ sym (and-assoc ok t next) ∙ ap (λ b. b && next) (sym e)
+test-more = join-more _&&_ and-assoc true and-true
 
 pub test-end : (ok : Bool) {whole left : Bool} → whole ≡ (ok && left) → left ≡ true → ok ≡ whole
-test-end ok p q = sym (p ∙ ap (λ b. ok && b) q ∙ and-true ok)
+test-end = join-end _&&_ and-assoc true and-true
+
+-- some test holds
+pub either-more : (found t next : Bool) {new whole left : Bool} → whole ≡ (found || left) → left ≡ (t || next) → new ≡ (found || t) → whole ≡ (new || next)
+either-more = join-more _||_ or-assoc false or-false
+
+pub either-end : (found : Bool) {whole left : Bool} → whole ≡ (found || left) → left ≡ false → found ≡ whole
+either-end = join-end _||_ or-assoc false or-false
 
 -- from a joint test to its parts
 pub within-true : (low high n : ℕ) → within low high n ≡ true → (low ≤ n) × (n ≤ high)

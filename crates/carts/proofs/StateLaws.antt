@@ -11,12 +11,12 @@ use borrow.Author.Tests.{eqb-true, eqb-false, ne-eqb}
 use Rattle.carts.specs.Bytes.{byte, u16, zeros, parts, every}
 use Rattle.carts.specs.Cart.{cartAt, held}
 use Rattle.carts.specs.Operation.{isNew, isRetitle, isRecut, isWithdraw, operationFields, operationsOf, made, retitled, recut, meetsCart, effect, actedOn, meets, act, actAll}
-use Rattle.carts.proofs.TestLaws.{and-left, and-right, every-at}
+use Rattle.carts.proofs.TestLaws.{and-left, and-right}
 use Rattle.carts.proofs.CartLaws.{length-cart}
 use Rattle.carts.proofs.PartLaws.{length-part}
-use Rattle.carts.proofs.EachLaws.{next-part, length-parts, parts-at}
+use Rattle.carts.proofs.EachLaws.{next-part}
 use Rattle.carts.proofs.RecordLaws.{sized-parts}
-use Rattle.carts.proofs.OperationLaws.{fields-cart, length-actAll}
+use Rattle.carts.proofs.OperationLaws.{fields-cart, fields-at, length-actAll}
 use Rattle.carts.proofs.KeepLaws.{act-named, act-other}
 
 -- the state of the cart that an operation names, after it; and that of cart c
@@ -92,11 +92,7 @@ act-none copy s = refl
 -- after the first i operations of a commit, and after one more
 module _ (copy ops : List ℕ) (l : length copy ≡ 10240) (f : every operationFields (operationsOf ops) ≡ true) (i : ℕ) (h : i < length ops / 80) where
   pub operation-here : (length (take 80 (drop (80 * i) ops)) ≡ 80) × ((1 ≤ u16 (take 80 (drop (80 * i) ops)) 2) × (u16 (take 80 (drop (80 * i) ops)) 2 ≤ 128))
-  unfolding operationsOf
-  operation-here =
-      let n = length-parts 80 (length ops / 80) ops in
-      let e = every-at operationFields (parts 80 (length ops / 80) ops) [] i f (omega arith) in
-      (length-part ops (80 * i) 80 (omega arith), fields-cart (take 80 (drop (80 * i) ops)) (rw (parts-at 80 (length ops / 80) ops i h) at e))
+  operation-here = (length-part ops (80 * i) 80 (omega arith), fields-cart (take 80 (drop (80 * i) ops)) (fields-at ops f i h))
 
   pub held-more : (c : ℕ) → 1 ≤ c → held (cartAt (actAll copy (parts 80 (i + 1) ops)) c) ≡ heldThen (take 80 (drop (80 * i) ops)) c (held (cartAt (actAll copy (parts 80 i ops)) c))
   unfolding operationsOf

@@ -1,19 +1,24 @@
 -- Laws of Bool tests: lists of tests, ranges, and tests of each element.
-use mathlib.Core.Path.{_≡_, refl, ap}
-use mathlib.Core.Bool.{Bool, true, false, cond, _&&_, and-false, and-eq-true-iff}
+use mathlib.Core.Path.{_≡_, refl, sym, ap}
+use mathlib.Core.Bool.{Bool, true, false, cond, _&&_, _||_, and-false, or-true, and-eq-true-iff, false≢true}
 use mathlib.Core.List.{List, [], _∷_, map}
 use Prim.Native.Nat.{ℕ, zero, suc, _≤_, _<_}
 use native.Mathlib.Omega.{arith}
 use borrow.Author.Tests.{leb-true, le-leb, eqb-true, eq-eqb}
 use lib.Dec.{leb, eqb}
 use lib.ListN.{length, getD, set}
-use Rattle.carts.specs.Bytes.{within, all, every, pairwise}
+use Rattle.carts.specs.Bytes.{within, all, every, any, pairwise}
 
 pub and-left : (a b : Bool) → (a && b) ≡ true → a ≡ true
 and-left a b h = and-eq-true-iff a b .0 h .0
 
 pub and-right : (a b : Bool) → (a && b) ≡ true → b ≡ true
 and-right a b h = and-eq-true-iff a b .0 h .1
+
+-- none of two tests holds
+pub or-false-both : (a b : Bool) → (a || b) ≡ false → (a ≡ false) × (b ≡ false)
+or-false-both true b h = (h, absurd (false≢true (sym h)))
+or-false-both false b h = (refl, h)
 
 -- test n of a list that passes
 pub all-at : (n : ℕ) (bs : List Bool) → all bs ≡ true → getD bs n true ≡ true
@@ -70,6 +75,13 @@ pub at-every : {A : Type 0} (p : A → Bool) (l : List A) (d : A) → ((i : ℕ)
 unfolding every
 at-every p [] d f = refl
 at-every p (x ∷ xs) d f = rw (f 0 (omega arith)) (at-every p xs d (λ i l. f (suc i) (omega arith)))
+
+-- an element that passes the test that is looked for
+pub any-at : {A : Type 0} (p : A → Bool) (l : List A) (d : A) (i : ℕ) → i < length l → p (getD l i d) ≡ true → any p l ≡ true
+unfolding any
+any-at p [] d i l h = let z : ⊥ = omega arith in absurd z
+any-at p (x ∷ xs) d zero l h = rw h
+any-at p (x ∷ xs) d (suc i) l h = rw (any-at p xs d i (omega arith) h) (or-true (p x))
 
 -- a test of what a function makes of each element
 pub every-map : {A B : Type 0} (p : B → Bool) (f : A → B) (l : List A) → every p (map f l) ≡ every (λ x. p (f x)) l

@@ -8,7 +8,7 @@ use lib.ListN.{length, set, length-set}
 use lib.Seq.{getD-set-same}
 use Rattle.carts.specs.Bytes.{over, part, byte, u16}
 use Rattle.carts.specs.Cart.{cartAt}
-use Rattle.carts.specs.Operation.{isNew, isRetitle, made, retitled, effect, actedOn, meets, act}
+use Rattle.carts.specs.Operation.{isNew, isRetitle, writesTitle, made, retitled, effect, actedOn, meets, act}
 use Rattle.carts.proofs.PartLaws.{length-part, length-over, part-over, over-before, byte-in}
 use Rattle.carts.proofs.CartLaws.{length-cart}
 
@@ -42,7 +42,7 @@ unfolding retitled
 retitled-title op cart o l =
     over-title op (set cart 1 (byte op 1)) o (length-set cart 1 (byte op 1) ∙ l) (getD-set-same cart 1 (byte op 1) 0 (omega arith))
 
-effect-title : (op cart : List ℕ) → length op ≡ 80 → length cart ≡ 80 → (isNew (byte op 0) || isRetitle (byte op 0)) ≡ true → SameTitle op (effect op cart) × (length (effect op cart) ≡ 80)
+pub effect-title : (op cart : List ℕ) → length op ≡ 80 → length cart ≡ 80 → writesTitle op ≡ true → SameTitle op (effect op cart) × (length (effect op cart) ≡ 80)
 unfolding effect
 effect-title op cart o l k = go (isNew (byte op 0)) refl k
   where
@@ -52,7 +52,7 @@ effect-title op cart o l k = go (isNew (byte op 0)) refl k
 
 -- kept whole: after a new or a retitle that meets its cart in the right state, the cart's title is the operation's, byte for byte
 pub title-kept : (copy op : List ℕ) → length copy ≡ 10240 → length op ≡ 80 → 1 ≤ u16 op 2 → u16 op 2 ≤ 128 → meets copy op ≡ true
-    → (isNew (byte op 0) || isRetitle (byte op 0)) ≡ true → SameTitle op (cartAt (act copy op) (u16 op 2))
+    → writesTitle op ≡ true → SameTitle op (cartAt (act copy op) (u16 op 2))
 unfolding cartAt act meets actedOn
 title-kept copy op lc lo h₁ h₂ m k =
     let cart : List ℕ = cartAt copy (u16 op 2) in

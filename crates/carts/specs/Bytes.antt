@@ -1,5 +1,5 @@
 -- Bytes: parts of a list, little-endian numbers, and tests that walk a list once from its front.
-use mathlib.Core.Bool.{Bool, true, false, _&&_}
+use mathlib.Core.Bool.{Bool, true, false, _&&_, _||_}
 use mathlib.Core.List.{List, [], _∷_, _++_}
 use Prim.Native.Nat.{ℕ, zero, suc, _+_, _*_, _/_, _%_}
 use lib.ListN.{take, drop, getD, replicate}
@@ -50,6 +50,11 @@ all (b ∷ bs) = let rest = all bs in b && rest
 unfoldable pub every : {A : Type 0} → (A → Bool) → List A → Bool
 every p [] = true
 every p (x ∷ xs) = let rest = every p xs in p x && rest
+
+-- some element passes the test
+unfoldable pub any : {A : Type 0} → (A → Bool) → List A → Bool
+any p [] = false
+any p (x ∷ xs) = let rest = any p xs in p x || rest
 
 unfoldable pub allZero : List ℕ → Bool
 allZero s = every (λ b. eqb b 0) s

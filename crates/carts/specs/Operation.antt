@@ -1,7 +1,7 @@
--- Document 01, "Operation", and what an operation does to a copy ("The plain machine").
+-- Document 01, "Operation", and what an operation does to a copy ("The plain machine"). Document 02, S-2: titles that differ by a space.
 use mathlib.Core.Bool.{Bool, true, cond, _&&_, _||_, not}
 use mathlib.Core.List.{List, [], _∷_}
-use Prim.Native.Nat.{ℕ, _*_, _-_, _/_}
+use Prim.Native.Nat.{ℕ, _+_, _*_, _-_, _/_}
 use lib.ListN.{length, set}
 use lib.Dec.{eqb}
 use Rattle.carts.specs.Bytes.{zeros, part, over, byte, within, all, allZero, parts}
@@ -33,6 +33,18 @@ operationFields op =
 -- "As handed in, 12–15 are zero."
 unfoldable pub operationForm : List ℕ → Bool
 operationForm op = all (operationFields op ∷ allZero (part op linksAt (titleAt - linksAt)) ∷ [])
+
+-- a new or a retitle
+abbrev pub writesTitle : List ℕ → Bool
+writesTitle op = isNew (byte op 0) || isRetitle (byte op 0)
+
+-- S-2: "title begins or ends with byte 32": its letters are bytes 16 to 16 + length − 1
+abbrev pub spaceAtEnd : List ℕ → Bool
+spaceAtEnd s = eqb (byte s titleAt) 32 || eqb (byte s (titleAt + byte s 1 - 1)) 32
+
+-- S-2: "A new or retitle whose title begins or ends with byte 32"
+unfoldable pub spaced : List ℕ → Bool
+spaced op = writesTitle op && spaceAtEnd op
 
 -- the operations in the bytes of a commit
 unfoldable pub operationsOf : List ℕ → List (List ℕ)

@@ -28,6 +28,9 @@ impl Cart {
 
     pub const TITLE_LONGEST: u8 = 64;
 
+    // A space: a title that a commit writes may have it inside only (02, S-2).
+    pub const SPACE: u8 = 32;
+
     // Where a cart's fields begin, and an operation's; a record has its links where a cart has four zeros.
     pub const NUMBER_AT: usize = 2;
 

@@ -7,9 +7,9 @@ ghost use mathlib.Core.Bool.{true, false, cond, not};
 ghost use Prim.Native.Nat.{_≤_, _/_};
 ghost use lib.ListN.{length};
 ghost use lib.Dec.{eqb};
-ghost use Rattle.carts.specs.Bytes.{zeros, byte, every, parts};
+ghost use Rattle.carts.specs.Bytes.{zeros, byte, every, any, parts};
 ghost use Rattle.carts.specs.Cart.{cartSize, cartCount, copySize, cartNumber, cartAt, held};
-ghost use Rattle.carts.specs.Operation.{isNew, isWithdraw, operationFields, operationForm, operationsOf, made, retitled, recut, actedOn, meets, act, meetsAll, actAll};
+ghost use Rattle.carts.specs.Operation.{isNew, isWithdraw, operationFields, operationForm, spaced, operationsOf, made, retitled, recut, actedOn, meets, act, meetsAll, actAll};
 
 // The operation has the fields of its kind, as it is stored: bytes 12 to 15 are free.
 pub fn has_fields(op: &[u8]) -> bool
@@ -45,6 +45,32 @@ pub fn all_operations(ops: &[u8]) -> bool
         i += 1;
     }
     ok
+}
+
+// The operation is a new or a retitle whose title begins or ends with a space.
+pub fn is_spaced(op: &[u8]) -> bool
+    requires { ⌜ (length (now op) ≡ cartSize) × (operationFields (now op) ≡ true) ⌝ }
+    ensures { λ r. ⌜ r ≡ spaced (now (op .entry)) ⌝ }
+{
+    let kind = op[0];
+    let last = Cart::TITLE_AT + op[1] as usize - 1;
+    ((kind == 1) | (kind == 2)) & ((op[Cart::TITLE_AT] == Cart::SPACE) | (op[last] == Cart::SPACE))
+}
+
+// Some operation is a new or a retitle whose title begins or ends with a space.
+pub fn any_spaced(ops: &[u8]) -> bool
+    requires { ⌜ every operationFields (operationsOf (now ops)) ≡ true ⌝ }
+    ensures { λ r. ⌜ r ≡ any spaced (operationsOf (now (ops .entry))) ⌝ }
+{
+    let count = ops.len() / Cart::SIZE;
+    let mut found = false;
+    let mut i = 0;
+    while i < count {
+        let start = Cart::SIZE * i;
+        found |= is_spaced(&ops[start..start + Cart::SIZE]);
+        i += 1;
+    }
+    found
 }
 
 // The cart's state is the right one: new asks for an empty cart, the other kinds for a held one.
