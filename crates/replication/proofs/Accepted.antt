@@ -6,8 +6,8 @@ use mathlib.Core.List.{List, [], _∷_}
 use lib.Dec.{eqb, leb, ltb}
 use lib.ListN.{length}
 use borrow.Author.Tests.{eqb-true, eqb-false, ltb-false, not-false}
-use Rattle.carts.specs.Bytes.{within, all, every}
-use Rattle.carts.specs.Operation.{operationForm, operationsOf, meetsAll}
+use Rattle.carts.specs.Bytes.{within, all, every, any}
+use Rattle.carts.specs.Operation.{operationForm, spaced, operationsOf, meetsAll}
 use Rattle.carts.proofs.TestLaws.{all-at}
 use Rattle.replication.specs.Memory.{Memory, lengthsForm}
 use Rattle.replication.specs.Log.{noRoom}
@@ -54,6 +54,7 @@ pub record CommitAccepted (s studio : ℕ) (waiting : Request) (used : ℕ) (pri
   pub idle : waiting ≡ nothing
   pub size : sizeForm bytes ≡ true
   pub form : every operationForm (operationsOf bytes) ≡ true
+  pub unspaced : any spaced (operationsOf bytes) ≡ false
   pub room : used + length (operationsOf bytes) ≤ 512
   pub meets : meetsAll primary (operationsOf bytes) ≡ true
 
@@ -65,13 +66,15 @@ commit-passed s studio waiting used primary bytes e =
     let p4 = passed 3 (isWaiting waiting) _ (p3 .1) in
     let p5 = passed 4 (not (sizeForm bytes)) _ (p4 .1) in
     let p6 = passed 5 (not (every operationForm (operationsOf bytes))) _ (p5 .1) in
-    let p7 = passed 6 (ltb 512 (used + length (operationsOf bytes))) _ (p6 .1) in
+    let p16 = passed 15 (any spaced (operationsOf bytes)) _ (p6 .1) in
+    let p7 = passed 6 (ltb 512 (used + length (operationsOf bytes))) _ (p16 .1) in
     let p8 = passed 7 (not (meetsAll primary (operationsOf bytes))) _ (p7 .1) in
     record {
       who = p3 .0;
       idle = idle-is waiting (p4 .0);
       size = not-false _ (p5 .0);
       form = not-false _ (p6 .0);
+      unspaced = p16 .0;
       room = ltb-false _ _ (p7 .0);
       meets = not-false _ (p8 .0);
     }

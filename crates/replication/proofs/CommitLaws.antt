@@ -1,4 +1,4 @@
--- Laws of commit: rows 4 to 8, what is known where no row stops it, and an accepted commit.
+-- Laws of commit: its rows from 4 on, what is known where no row stops it, and an accepted commit.
 use Prim.Native.Nat.{ℕ, _+_, _/_, _%_, _<_, _≤_}
 use mathlib.Core.Path.{_≡_, sym, ap, _∙_}
 use mathlib.Core.Bool.{Bool, true, false}
@@ -7,8 +7,8 @@ use native.Mathlib.Omega.{arith}
 use lib.ListN.{length}
 use lib.Dec.{eqb}
 use borrow.Author.Tests.{lt-ltb, le-ltb}
-use Rattle.carts.specs.Bytes.{part, over, within, every}
-use Rattle.carts.specs.Operation.{operationFields, operationForm, operationsOf, meetsAll, actAll}
+use Rattle.carts.specs.Bytes.{part, over, within, every, any}
+use Rattle.carts.specs.Operation.{operationFields, operationForm, spaced, operationsOf, meetsAll, actAll}
 use Rattle.carts.proofs.TestLaws.{all-at, within-low, within-high}
 use Rattle.carts.proofs.OperationLaws.{forms-fields}
 use Rattle.replication.specs.Answer.{refused, done}
@@ -38,7 +38,7 @@ size-few bytes e =
 pub operations-few : (bytes : List ℕ) → sizeForm bytes ≡ true → (1 ≤ length (operationsOf bytes)) × (length (operationsOf bytes) ≤ 8)
 operations-few bytes e = rw (length-operations bytes) (size-few bytes e)
 
--- rows 5 to 8
+-- rows 5, 6, 16, 7 and 8
 module _ (used : ℕ) (primary bytes : List ℕ) where
   pub size-wrong : sizeForm bytes ≡ false → 5 ≡ stopped (operationRows used primary bytes)
   unfolding stopped
@@ -50,18 +50,23 @@ module _ (used : ℕ) (primary bytes : List ℕ) where
     form-wrong e = rw (s, e)
 
     module _ (f : every operationForm (operationsOf bytes) ≡ true) where
-      pub log-full : 512 < used + length bytes / 80 → 7 ≡ stopped (operationRows used primary bytes)
-      unfolding stopped noRoom
-      log-full h = rw (s, f, length-operations bytes, lt-ltb 512 (used + length bytes / 80) h)
+      pub title-spaced : any spaced (operationsOf bytes) ≡ true → 16 ≡ stopped (operationRows used primary bytes)
+      unfolding stopped
+      title-spaced e = rw (s, f, e)
 
-      module _ (r : used + length bytes / 80 ≤ 512) where
-        pub carts-wrong : meetsAll primary (operationsOf bytes) ≡ false → 8 ≡ stopped (operationRows used primary bytes)
+      module _ (u : any spaced (operationsOf bytes) ≡ false) where
+        pub log-full : 512 < used + length bytes / 80 → 7 ≡ stopped (operationRows used primary bytes)
         unfolding stopped noRoom
-        carts-wrong e = rw (s, f, length-operations bytes, le-ltb 512 (used + length bytes / 80) r, e)
+        log-full h = rw (s, f, u, length-operations bytes, lt-ltb 512 (used + length bytes / 80) h)
 
-        pub may-commit : meetsAll primary (operationsOf bytes) ≡ true → 0 ≡ stopped (operationRows used primary bytes)
-        unfolding stopped noRoom
-        may-commit e = rw (s, f, length-operations bytes, le-ltb 512 (used + length bytes / 80) r, e)
+        module _ (r : used + length bytes / 80 ≤ 512) where
+          pub carts-wrong : meetsAll primary (operationsOf bytes) ≡ false → 8 ≡ stopped (operationRows used primary bytes)
+          unfolding stopped noRoom
+          carts-wrong e = rw (s, f, u, length-operations bytes, le-ltb 512 (used + length bytes / 80) r, e)
+
+          pub may-commit : meetsAll primary (operationsOf bytes) ≡ true → 0 ≡ stopped (operationRows used primary bytes)
+          unfolding stopped noRoom
+          may-commit e = rw (s, f, u, length-operations bytes, le-ltb 512 (used + length bytes / 80) r, e)
 
 -- neither memory nor who calls stops it: v is what the code has found of them, b whether a read is waiting
 module _ (c : Control) (m : Memory) (s : ℕ) (bytes : List ℕ) (v : ℕ) (e : v ≡ stopped (memoryRows c m ++ (sessionRow s (studioOf c s) ∷ []))) (z : v ≡ 0)

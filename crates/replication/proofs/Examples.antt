@@ -4,10 +4,10 @@ use mathlib.Core.Bool.{Bool, true, false, _&&_}
 use mathlib.Core.List.{List, [], _∷_, _++_}
 use Prim.Native.Nat.{ℕ}
 use lib.ListN.{set, replicate}
-use Rattle.carts.specs.Bytes.{zeros, u16, u32, u16Bytes, u16s, within, all, every, allZero, pairwise, parts}
+use Rattle.carts.specs.Bytes.{zeros, u16, u32, u16Bytes, u16s, within, all, every, any, allZero, pairwise, parts}
 use Rattle.carts.specs.Cart.{cartAt, printable, titleForm, hasTitle, noTitle, hasAudio, noAudio, held}
-use Rattle.carts.specs.Operation.{operationFields, operationForm, operationsOf, made, meetsCart, effect, actedOn, meets, act, meetsAll}
-use Rattle.carts.proofs.Samples.{u32Bytes, operation, newCart, withdrawCart, topHourA, longTitle}
+use Rattle.carts.specs.Operation.{operationFields, operationForm, spaced, operationsOf, made, meetsCart, effect, actedOn, meets, act, meetsAll}
+use Rattle.carts.proofs.Samples.{u32Bytes, operation, newCart, withdrawCart, topHourA, news, longTitle}
 use Rattle.replication.specs.Memory.{recordAt, withRecord, sequenceOf, studioOf}
 use Rattle.replication.specs.Log.{nextOperation, nextTransaction, chain, recordsOf, walk, logRecords, ownForm, transactionsForm, firstRecord, upFrom, filledUpward, freeRecords, noRoom, front, writeAll, linked, appended}
 use Rattle.replication.specs.Request.{nothing, byNumbers, byTitle, numbersIn, requestOf, numbersForm, requestFields, requestForm, isWaiting, needed}
@@ -19,6 +19,10 @@ use Rattle.replication.proofs.Samples.{filled, pairs, askNumbers, askTi
 
 unfoldable A : List ℕ
 A = newCart 7 topHourA 501 8000
+
+-- a new cart 7 with the title "News "
+unfoldable B : List ℕ
+B = newCart 7 (news ++ (32 ∷ [])) 501 8000
 
 -- short copies: eight empty carts, and with cart 7 held
 unfoldable none : List ℕ
@@ -40,6 +44,10 @@ pub record RowOrder : Type 0 where
   commit-5 : stopped (commitRows 1 1 nothing 512 one (zeros 79)) ≡ 5
   commit-5-long : stopped (commitRows 1 1 nothing 512 one (zeros 720)) ≡ 5
   commit-6 : stopped (commitRows 1 1 nothing 512 one (A ++ zeros 80)) ≡ 6
+  commit-6-later : stopped (commitRows 1 1 nothing 512 one (B ++ zeros 80)) ≡ 6
+  commit-16 : stopped (commitRows 1 1 nothing 512 one B) ≡ 16
+  commit-16-later : stopped (commitRows 1 1 nothing 512 one (A ++ B)) ≡ 16
+  commit-16-alone : stopped (commitRows 1 1 nothing 511 none B) ≡ 16
   commit-7 : stopped (commitRows 1 1 nothing 512 one A) ≡ 7
   commit-8 : stopped (commitRows 1 1 nothing 511 one A) ≡ 8
   commit-passes : stopped (commitRows 16 4 nothing 511 none A) ≡ 0
@@ -63,7 +71,7 @@ pub record RowOrder : Type 0 where
   collect-passes : stopped (collectRows 1 1 (byNumbers (7 ∷ 7 ∷ [])) 160) ≡ 0
 
 pub row-order : RowOrder
-unfolding A none one zeros u16 u32 u16Bytes u16s within all every allZero parts cartAt printable titleForm hasTitle noTitle hasAudio noAudio held operationFields operationForm operationsOf made meetsCart effect actedOn meets act meetsAll u32Bytes operation newCart topHourA noRoom numbersIn requestOf numbersForm requestFields requestForm isWaiting needed stopped setupRows sessionRow studioRow sizeForm commitRows sendRows refreshRows readRows collectRows filled pairs askNumbers askTitle
+unfolding A B none one zeros u16 u32 u16Bytes u16s within all every any allZero parts cartAt printable titleForm hasTitle noTitle hasAudio noAudio held operationFields operationForm spaced operationsOf made meetsCart effect actedOn meets act meetsAll u32Bytes operation newCart topHourA news noRoom numbersIn requestOf numbersForm requestFields requestForm isWaiting needed stopped setupRows sessionRow studioRow sizeForm commitRows sendRows refreshRows readRows collectRows filled pairs askNumbers askTitle
 row-order = record {
   setup-studios = refl;
   setup-none = refl;
@@ -76,6 +84,10 @@ row-order = record {
   commit-5 = refl;
   commit-5-long = refl;
   commit-6 = refl;
+  commit-6-later = refl;
+  commit-16 = refl;
+  commit-16-later = refl;
+  commit-16-alone = refl;
   commit-7 = refl;
   commit-8 = refl;
   commit-passes = refl;
@@ -112,6 +124,7 @@ pub record Requests : Type 0 where
   title : requestOf (askTitle topHourA) ≡ byTitle topHourA
   form : requestForm (askNumbers (replicate 32 128)) ≡ true
   form-title : requestForm (askTitle (longTitle 49)) ≡ true
+  form-spaces : requestForm (askTitle (32 ∷ news ++ (32 ∷ []))) ≡ true
   long : requestForm (askNumbers (7 ∷ []) ++ (0 ∷ [])) ≡ false
   number-0 : requestForm (askNumbers (7 ∷ 0 ∷ [])) ≡ false
   number-129 : requestForm (askNumbers (129 ∷ [])) ≡ false
@@ -139,12 +152,13 @@ pub record Requests : Type 0 where
   window-33 : countsForm (counted 33 0) 1 ≡ false
 
 pub requests : Requests
-unfolding three counted zeros u16 u16s within all every allZero printable titleForm sequenceOf studioOf numbersIn requestOf numbersForm requestFields requestForm waitingForm sessionForm sessionFormOf countsForm controlOf committed withSent withApplied topHourA longTitle filled pairs askNumbers askTitle
+unfolding three counted zeros u16 u16s within all every allZero printable titleForm sequenceOf studioOf numbersIn requestOf numbersForm requestFields requestForm waitingForm sessionForm sessionFormOf countsForm controlOf committed withSent withApplied topHourA news longTitle filled pairs askNumbers askTitle
 requests = record {
   numbers = refl;
   title = refl;
   form = refl;
   form-title = refl;
+  form-spaces = refl;
   long = refl;
   number-0 = refl;
   number-129 = refl;

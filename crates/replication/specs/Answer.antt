@@ -1,4 +1,4 @@
--- What a call answers, and document 01's number and values for each case of the code's answers.
+-- What a call answers, and the number and values of documents 01 and 02 for each case of the code's answers.
 use Prim.Native.Nat.{ℕ}
 use Rattle.replication.specs.declared.answer.SetupAnswer.{SetupAnswer}
 use Rattle.replication.specs.declared.answer.SetupAnswer.the-variants as Setup

@@ -1,4 +1,4 @@
--- Document 01's memory, requests, layout, rows and calls, in its order.
+-- Document 01's memory, requests, layout, rows and calls, in its order, and document 02's among them.
 pub mod Answer
 pub mod Memory
 pub mod Log

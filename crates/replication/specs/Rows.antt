@@ -1,13 +1,13 @@
 -- Document 01, "Where a call is stopped": for each call its rows, "checked from top to bottom", over what they look at, so that the
--- calls on bytes and the plain machine share them. Rows 1 and 2 are the bytes' own.
+-- calls on bytes and the plain machine share them. Rows 1 and 2 are the bytes' own. Row 16 is document 02's, S-2.
 use mathlib.Core.Bool.{Bool, cond, _||_, not}
 use mathlib.Core.List.{List, [], _∷_, _++_}
 use Prim.Native.Nat.{ℕ, zero, suc, _*_, _-_, _%_}
 use lib.ListN.{length}
 use lib.Dec.{leb, ltb, eqb}
-use Rattle.carts.specs.Bytes.{within, all, every}
+use Rattle.carts.specs.Bytes.{within, all, every, any}
 use Rattle.carts.specs.Cart.{cartSize}
-use Rattle.carts.specs.Operation.{operationForm, operationsOf, meetsAll}
+use Rattle.carts.specs.Operation.{operationForm, spaced, operationsOf, meetsAll}
 use Rattle.replication.specs.Memory.{Memory, mostOperations, sessionCount, studioCount, window, lengthsForm, copyAt, nth, studioOf}
 use Rattle.replication.specs.Log.{noRoom}
 use Rattle.replication.specs.Request.{Request, requestOf, requestForm, isWaiting, needed, waitingIn}
@@ -55,11 +55,12 @@ studioRow studios i = row 3 (not (within 1 studios i))
 unfoldable pub sizeForm : List ℕ → Bool
 sizeForm bytes = all (within cartSize (cartSize * mostOperations) (length bytes) ∷ eqb (length bytes % cartSize) 0 ∷ [])
 
--- rows 5 to 7: `used` records; the operations' bytes
+-- rows 5 to 7, and S-2's "Refusal 16, such a title in any operation, directly after 6": `used` records; the operations' bytes
 abbrev pub formRows : ℕ → List ℕ → List Row
 formRows used bytes =
     row 5 (not (sizeForm bytes))
     ∷ row 6 (not (every operationForm (operationsOf bytes)))
+    ∷ row 16 (any spaced (operationsOf bytes))
     ∷ row 7 (noRoom used (length (operationsOf bytes))) ∷ []
 
 -- and row 8, "commit: carts": "an operation meets its cart in the wrong state"; the head end's copy

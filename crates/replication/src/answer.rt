@@ -1,7 +1,7 @@
-// What the calls answer. specs/Answer.antt gives document 01's number and values for each case.
+// What the calls answer. specs/Answer.antt gives the number and values of documents 01 and 02 for each case.
 use crate::control::Control;
 
-// Setup: accepted, or refused with document 01's number.
+// Setup: accepted, or refused with the row's number.
 pub enum SetupAnswer {
     Ready,
     Refused(u32),

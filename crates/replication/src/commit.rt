@@ -28,7 +28,7 @@ fn is_size(operations: &[u8]) -> bool
     (Cart::SIZE <= n) & (n <= Record::TRANSACTION_SIZE) & (n % Cart::SIZE == 0)
 }
 
-// Rows 5 to 8: the number of the row that stops a commit of these operations, or 0.
+// Rows 5, 6, 16, 7 and 8: the number of the row that stops a commit of these operations, or 0.
 fn stopped_by_operations(used: u32, primary: &[u8], operations: &[u8]) -> u32
     requires { ⌜ (used ≤ recordCount) × (length (now primary) ≡ copySize) ⌝ }
     ensures { λ r. ⌜ r ≡ stopped (operationRows used (now (primary .entry)) (now (operations .entry))) ⌝ }
@@ -38,6 +38,9 @@ fn stopped_by_operations(used: u32, primary: &[u8], operations: &[u8]) -> u32
     }
     if !operation::all_operations(operations) {
         return 6;
+    }
+    if operation::any_spaced(operations) {
+        return 16;
     }
     let n = (operations.len() / Cart::SIZE) as u32;
     if Record::COUNT < used + n {
