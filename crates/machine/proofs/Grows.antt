@@ -1,17 +1,35 @@
--- The log grows by every call and every list of calls, and the library of each earlier count stays as it was.
+-- The log after a call: as it was, or with one accepted transaction more. So it grows by every list of calls, and the library of each earlier count stays as it
+-- was.
 use Prim.Native.Nat.{ℕ, _≤_}
 use native.Mathlib.Omega.{arith}
 use mathlib.Core.Path.{_≡_, refl, _∙_}
-use mathlib.Core.List.{List, [], _∷_}
+use mathlib.Core.List.{List, [], _∷_, _++_}
 use lib.ListN.{length}
 use Rattle.carts.specs.Operation.{operationsOf}
-use Rattle.carts.specs.Transaction.{Transaction, L}
+use Rattle.carts.specs.Transaction.{Transaction, L, recordsUsed}
 use Rattle.replication.specs.Call as Call
 use Rattle.replication.proofs.RowLaws.{unless-case}
-use Rattle.machine.specs.Machine.{Machine, Step, refusedCommit, commit, preview, send, refresh, answerFrom, wait, read, collect, call, afterCalls}
+use Rattle.replication.proofs.Accepted.{CommitAccepted, commit-passed}
+use Rattle.machine.specs.Machine.{Machine, Step, commits, sessionOf, refusedCommit, commit, preview, send, refresh, answerFrom, wait, read, collect, call, afterCalls}
 use Rattle.machine.proofs.Sort.{length-snoc}
 use Rattle.machine.proofs.Cases.{block-case}
 use Rattle.machine.proofs.Libraries.{L-before}
+
+-- what holds of the log before a call, and with an accepted commit's transaction appended, holds of the log after the call
+module _ (P : List Transaction → Type 0) (m : Machine) (same : P (m .log))
+    (more : (s : ℕ) (bytes : List ℕ) → CommitAccepted s (sessionOf m s .studio) (sessionOf m s .waiting) (recordsUsed (m .log)) (L (m .log) (commits m)) bytes
+    → P (m .log ++ (operationsOf bytes ∷ []))) where
+  abbrev Left : Step → Type 0
+  Left r = P (r .next .log)
+
+  pub log-case : (x : Call.Call) → Left (call m x)
+  unfolding call commit refusedCommit preview send refresh read collect answerFrom wait
+  log-case (Call.commit s bytes) = unless-case Left _ _ _ (λ k e. same) (λ e. more s bytes (commit-passed _ _ _ _ _ _ e))
+  log-case (Call.preview s bytes) = same
+  log-case (Call.send i) = unless-case Left _ _ _ (λ k e. same) (λ e. same)
+  log-case (Call.refresh i) = unless-case Left _ _ _ (λ k e. same) (λ e. same)
+  log-case (Call.read s request out) = unless-case Left _ _ _ (λ k e. same) (λ e. block-case m s _ _ out Left (λ u. same) (λ u. same))
+  log-case (Call.collect s out) = unless-case Left _ _ _ (λ k e. same) (λ e. block-case m s _ _ out Left (λ u. same) (λ u. same))
 
 -- a log that grows keeps the library of each count it had
 pub record Grown (log next : List Transaction) : Type 0 where
@@ -22,22 +40,10 @@ as-it-was : {log : List Transaction} → Grown log log
 as-it-was = record { more = omega arith; same = λ k u. refl }
 
 call-grows : (m : Machine) (x : Call.Call) → Grown (m .log) (call m x .next .log)
-unfolding call commit refusedCommit preview send refresh read collect answerFrom wait
-call-grows m x = case x
-  where
-    Grows : Step → Type 0
-    Grows r = Grown (m .log) (r .next .log)
-
-    case : (x : Call.Call) → Grows (call m x)
-    case (Call.commit s bytes) = unless-case Grows _ _ _ (λ k e. as-it-was) (λ e. record {
-      more = rw (length-snoc (m .log) (operationsOf bytes)) (omega arith);
-      same = λ k u. L-before (m .log) (operationsOf bytes) k u;
-    })
-    case (Call.preview s bytes) = as-it-was
-    case (Call.send i) = unless-case Grows _ _ _ (λ k e. as-it-was) (λ e. as-it-was)
-    case (Call.refresh i) = unless-case Grows _ _ _ (λ k e. as-it-was) (λ e. as-it-was)
-    case (Call.read s request out) = unless-case Grows _ _ _ (λ k e. as-it-was) (λ e. block-case m s _ _ out Grows (λ u. as-it-was) (λ u. as-it-was))
-    case (Call.collect s out) = unless-case Grows _ _ _ (λ k e. as-it-was) (λ e. block-case m s _ _ out Grows (λ u. as-it-was) (λ u. as-it-was))
+call-grows m = log-case (Grown (m .log)) m as-it-was (λ s bytes a. record {
+  more = rw (length-snoc (m .log) (operationsOf bytes)) (omega arith);
+  same = λ k u. L-before (m .log) (operationsOf bytes) k u;
+})
 
 pub after-grows : (H : List Call.Call) (r : Step) → Grown (r .next .log) (afterCalls r H .next .log)
 unfolding Call.run Call.final

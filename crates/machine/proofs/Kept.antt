@@ -1,4 +1,4 @@
--- Every call, whatever its arguments, keeps the machine sound.
+-- Every call, whatever its arguments, keeps the machine sound, and so does every list.
 use Prim.Native.Nat.{ℕ, _-_, _≤_, max}
 use native.Mathlib.Omega.{arith}
 use mathlib.Core.List.{List, [], _∷_}
@@ -83,7 +83,11 @@ module _ (m : Machine) (f : Sound m) where
   keeps (Call.read s request out) = keeps-read s request out
   keeps (Call.collect s out) = keeps-collect s out
 
-pub after-sound : (H : List Call.Call) (r : Step) → Sound (r .next) → Sound (afterCalls r H .next)
+-- what every call keeps, every list keeps
+pub after-keeps : (P : Machine → Type 0) → ((m : Machine) → P m → (x : Call.Call) → P (call m x .next)) → (H : List Call.Call) (r : Step) → P (r .next) → P (afterCalls r H .next)
 unfolding Call.run Call.final
-after-sound [] r f = f
-after-sound (x ∷ H) r f = after-sound H (call (r .next) x) (keeps (r .next) f x)
+after-keeps P kept [] r h = h
+after-keeps P kept (x ∷ H) r h = after-keeps P kept H (call (r .next) x) (kept (r .next) h x)
+
+pub after-sound : (H : List Call.Call) (r : Step) → Sound (r .next) → Sound (afterCalls r H .next)
+after-sound = after-keeps Sound keeps

@@ -17,3 +17,4 @@ pub mod TitleReads
 pub mod Places
 pub mod Table
 pub mod NotEmpty
+pub mod Spaces

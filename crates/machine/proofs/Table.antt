@@ -1,9 +1,9 @@
 -- The table of twelve, reads while transactions are sent and not applied, and previews, on the plain machine by computation.
 use mathlib.Core.Path.{_≡_, refl}
 use mathlib.Core.List.{List, [], _∷_, _++_}
-use Rattle.carts.specs.Bytes.{zeros, u16, u32, u16s, within, all, every, allZero, pairwise, parts}
+use Rattle.carts.specs.Bytes.{zeros, u16, u32, u16s, within, all, every, any, allZero, pairwise, parts}
 use Rattle.carts.specs.Cart.{cartAt, printable, titleForm, hasTitle, noTitle, hasAudio, noAudio, held}
-use Rattle.carts.specs.Operation.{operationFields, operationForm, operationsOf, made, retitled, recut, meetsCart, effect, actedOn, meets, act, meetsAll, actAll}
+use Rattle.carts.specs.Operation.{operationFields, operationForm, spaced, operationsOf, made, retitled, recut, meetsCart, effect, actedOn, meets, act, meetsAll, actAll}
 use Rattle.carts.specs.Transaction.{replay, L, recordsUsed}
 use Rattle.carts.specs.Title.{shownByNumbers, foundByNumbers, sameLetter, titled, titledFrom, titledIn, theOne}
 use Rattle.replication.specs.Log.{noRoom}
@@ -27,8 +27,8 @@ unfolding start studioBytes Machine.setup setupRows stopped unless all within ev
 started = refl
 
 -- a list's history from that start; whoever unfolds this unfolds all that the plain machine computes a history with
-computed : List Call → List Event
-unfolding zeros u16 u32 u16s within all every allZero pairwise parts cartAt printable titleForm hasTitle noTitle hasAudio noAudio held operationFields operationForm operationsOf made retitled recut meetsCart effect actedOn meets act meetsAll actAll shownByNumbers foundByNumbers sameLetter titled titledFrom titledIn theOne topHourA noRoom numbersIn requestOf numbersForm requestFields requestForm isWaiting needed foundIn shownFrom stopped unless setupRows sessionRow studioRow sizeForm commitRows sendRows refreshRows readRows collectRows numberAfter replay L recordsUsed Machine.fresh Machine.setup Machine.refusedCommit Machine.commit Machine.preview Machine.send Machine.refresh Machine.answerFrom Machine.block Machine.wait Machine.read Machine.collect Machine.call run final plainHistory start A buffer holding studioBytes payload new withdraw7 seven
+unfoldable pub computed : List Call → List Event
+unfolding zeros u16 u32 u16s within all every any allZero pairwise parts cartAt printable titleForm hasTitle noTitle hasAudio noAudio held operationFields operationForm spaced operationsOf made retitled recut meetsCart effect actedOn meets act meetsAll actAll shownByNumbers foundByNumbers sameLetter titled titledFrom titledIn theOne topHourA noRoom numbersIn requestOf numbersForm requestFields requestForm isWaiting needed foundIn shownFrom stopped unless setupRows sessionRow studioRow sizeForm commitRows sendRows refreshRows readRows collectRows numberAfter replay L recordsUsed Machine.fresh Machine.setup Machine.refusedCommit Machine.commit Machine.preview Machine.send Machine.refresh Machine.answerFrom Machine.block Machine.wait Machine.read Machine.collect Machine.call run final plainHistory start A buffer holding studioBytes payload new withdraw7 seven
 computed H = plainHistory start H
 
 pub table : Table (plainHistory start) (afterCalls start (callsOf cases2to10) .next .log)

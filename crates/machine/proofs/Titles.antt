@@ -8,14 +8,14 @@ use mathlib.Core.Bool.{true, not}
 use mathlib.Core.List.{List, [], _∷_, _++_}
 use lib.Dec.{eqb}
 use lib.ListN.{length, getD}
-use borrow.Author.Tests.{eqb-true, eqb-false, not-true}
+use borrow.Author.Tests.{eqb-false, not-true}
 use Rattle.carts.specs.Bytes.{part, u16, every}
 use Rattle.carts.specs.Cart.{copySize, cartAt}
-use Rattle.carts.specs.Operation.{operationFields, operationsOf, meets, act, meetsAll, actAll}
+use Rattle.carts.specs.Operation.{writesTitle, operationsOf, meets, act, meetsAll, actAll}
 use Rattle.carts.specs.Title.{shownByNumbers}
 use Rattle.carts.specs.Transaction.{Transaction, L, recordsUsed}
 use Rattle.carts.proofs.TestLaws.{and-left, and-right}
-use Rattle.carts.proofs.OperationLaws.{Operations, operations-of, fields-cart, length-act}
+use Rattle.carts.proofs.OperationLaws.{Operations, operations-of, operations-first, length-act}
 use Rattle.carts.proofs.KeepLaws.{act-other}
 use Rattle.carts.proofs.TitleKept.{title-kept}
 use Rattle.replication.specs.Answer.{done, answered}
@@ -25,26 +25,12 @@ use Rattle.replication.proofs.RowLaws.{unless-case}
 use Rattle.replication.proofs.ShownLaws.{Askable}
 use Rattle.replication.proofs.Accepted.{commit-passed}
 use Rattle.machine.specs.Machine.{Machine, Step, commits, sessionOf, refusedCommit, commit, call}
-use Rattle.machine.specs.Titles.{titleIn, writesTitle, spares, Writes, asked}
+use Rattle.machine.specs.Titles.{titleIn, spares, Writes, asked}
 use Rattle.machine.proofs.Sort.{All, all-getD, length-snoc}
 use Rattle.machine.proofs.Libraries.{length-L, L-next, L-after}
 use Rattle.machine.proofs.Sound.{Sound}
 use Rattle.machine.proofs.Grows.{Grown}
 use Rattle.machine.proofs.Shown.{call-shows, numbers-shown}
-
--- the first operation of a transaction, and the others
-pub record Whole (op : List ℕ) : Type 0 where
-  pub size : length op ≡ 80
-  pub low : 1 ≤ u16 op 2
-  pub high : u16 op 2 ≤ 128
-
-operations-first : (op : List ℕ) (ops : Transaction) → Operations (op ∷ ops) → Whole op × Operations ops
-unfolding every
-operations-first op ops h =
-    let c = fields-cart op (and-left (operationFields op) (every operationFields ops) (h .fields)) in (
-      record { size = eqb-true _ _ (and-left (eqb (length op) 80) (every (λ o. eqb (length o) 80) ops) (h .sizes)); low = c .0; high = c .1 },
-      record { sizes = and-right (eqb (length op) 80) (every (λ o. eqb (length o) 80) ops) (h .sizes); fields = and-right (operationFields op) (every operationFields ops) (h .fields) },
-    )
 
 -- a transaction that spares cart c leaves it as it was
 spared : (ops : Transaction) (copy : List ℕ) (c : ℕ) → length copy ≡ copySize → Operations ops → 1 ≤ c → spares c ops ≡ true → cartAt (actAll copy ops) c ≡ cartAt copy c
@@ -60,7 +46,7 @@ spared (op ∷ ops) copy c l h low e =
 written : (before : Transaction) (op : List ℕ) (later : Transaction) (copy : List ℕ) → length copy ≡ copySize → Operations (before ++ (op ∷ later))
     → meetsAll copy (before ++ (op ∷ later)) ≡ true → writesTitle op ≡ true → spares (u16 op 2) later ≡ true
     → (titleIn (cartAt (actAll copy (before ++ (op ∷ later))) (u16 op 2)) ≡ titleIn op) × (1 ≤ u16 op 2)
-unfolding writesTitle meetsAll actAll
+unfolding meetsAll actAll
 written [] op later copy l h m w e =
     let (o, rest) = operations-first op later h in
     let t = title-kept copy op l (o .size) (o .low) (o .high) (and-left (meets copy op) (meetsAll (act copy op) later) m) w in

@@ -1,14 +1,14 @@
--- Demand 2, "A title is kept whole or refused": the operations that write a title, the transactions that leave a cart as it is, and the reads that
--- show it.
+-- Demand 2, "A title is kept whole or refused": the commits that write a title, the transactions that leave a cart as it is, and the reads that show
+-- it.
 use mathlib.Core.Path.{_≡_}
-use mathlib.Core.Bool.{Bool, true, _||_, not}
+use mathlib.Core.Bool.{Bool, true, not}
 use mathlib.Core.List.{List, [], _∷_, _++_}
 use Prim.Native.Nat.{ℕ}
 use lib.ListN.{length}
 use lib.Dec.{eqb}
 use Rattle.carts.specs.Bytes.{part, byte, within, every}
 use Rattle.carts.specs.Cart.{cartSize, cartCount, titleSize, titleAt, cartNumber, cartAt}
-use Rattle.carts.specs.Operation.{isNew, isRetitle, operationsOf}
+use Rattle.carts.specs.Operation.{writesTitle, operationsOf}
 use Rattle.carts.specs.Transaction.{Transaction}
 use Rattle.carts.specs.Title.{titledIn}
 use Rattle.replication.specs.Request.{Request, nothing, requestOf}
@@ -19,10 +19,6 @@ use Rattle.machine.specs.OneCopy.{Kind, writes, reads, collects, neither
 -- the title in a cart or an operation: "byte 1 title length"; "16–79 the title"
 abbrev pub titleIn : List ℕ → List ℕ
 titleIn s = byte s 1 ∷ part s titleAt titleSize
-
--- a new or a retitle
-unfoldable pub writesTitle : List ℕ → Bool
-writesTitle op = isNew (byte op 0) || isRetitle (byte op 0)
 
 -- no operation of the transaction has cart number c
 unfoldable pub spares : ℕ → Transaction → Bool

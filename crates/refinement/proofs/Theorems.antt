@@ -5,9 +5,9 @@ use mathlib.Core.Bool.{true, false, not}
 use mathlib.Core.List.{List, [], _∷_, _++_, map}
 use Prim.Native.Nat.{ℕ, _*_, _≤_, _<_}
 use lib.ListN.{length, getD}
-use Rattle.carts.specs.Bytes.{zeros, part, u16}
+use Rattle.carts.specs.Bytes.{zeros, part, u16, every}
 use Rattle.carts.specs.Cart.{cartAt, hasTitle}
-use Rattle.carts.specs.Operation.{operationsOf}
+use Rattle.carts.specs.Operation.{operationForm, writesTitle, spaced, operationsOf}
 use Rattle.carts.specs.Transaction.{L}
 use Rattle.replication.specs.Answer.{refused, done, answered}
 use Rattle.replication.specs.Memory.{Memory, lengthsForm, copyAt, sessionAt, nth, studioOf}
@@ -22,8 +22,9 @@ use Rattle.replication.specs.declared.control.Control.{Control}
 use Rattle.machine.specs.Machine as Plain
 use Rattle.machine.specs.Machine.{Machine, Step}
 use Rattle.machine.specs.OneCopy.{event, history, Demand3}
-use Rattle.machine.specs.Titles.{titleIn, writesTitle, spares, Writes, asked, ShowsTheOne}
+use Rattle.machine.specs.Titles.{titleIn, spares, Writes, asked, ShowsTheOne}
 use Rattle.machine.proofs.Sound.{setup-sound}
+use Rattle.machine.proofs.Spaces.{setup-unspaced, after-unspaced}
 use Rattle.machine.proofs.Kept.{after-sound}
 use Rattle.machine.proofs.Entries.{plainHistory}
 use Rattle.machine.proofs.OneCopyOrder.{one-copy}
@@ -96,6 +97,13 @@ pub title-refused : (c : Control) (m : Memory) (s : ℕ) (bytes : List ℕ)
     → Bytes.commit c m s bytes .answer ≡ refused 6
 title-refused = Titles.title-refused
 
+-- 02, S-2. A commit that rows 1 to 6 let pass, with a new or a retitle whose title begins or ends with a space, is answered 16.
+pub spaced-refused : (c : Control) (m : Memory) (s : ℕ) (bytes : List ℕ)
+    → stopped (memoryRows c m ++ (sessionRow s (studioOf c s) ∷ row 4 (isWaiting (requestOf (sessionAt (m .sessions) s))) ∷ row 5 (not (sizeForm bytes))
+    ∷ row 6 (not (every operationForm (operationsOf bytes))) ∷ [])) ≡ 0
+    → (i : ℕ) → i < length (operationsOf bytes) → spaced (getD (operationsOf bytes) i []) ≡ true → Bytes.commit c m s bytes .answer ≡ refused 16
+spaced-refused = Titles.spaced-refused
+
 module _ (before : Memory) (studios : ℕ) (bytes : List ℕ) where
   -- SETUP. Lent memories of the right lengths, setup gives the plain machine's answer.
   pub setup-answer : lengthsForm before ≡ true → setup before studios bytes .answer ≡ Plain.setup studios bytes .answer
@@ -142,6 +150,11 @@ module _ (before : Memory) (studios : ℕ) (bytes : List ℕ) where
       pub title-read : (x : Call) (k : ℕ) (title : List ℕ) → let shown = Bytes.call (left .control) (left .memory) x in
           shown .answer ≡ answered k 1 → asked (plain .next) x ≡ byTitle title → ShowsTheOne title (L (plain .next .log) k) (shown .output)
       title-read = Titles.title-read _ _ simulates-after (after-sound H _ (setup-sound studios bytes plain-accepted))
+
+      -- 02, S-2. After H from a fresh system no cart of the head end's copy or of a studio's has a title that begins or ends with a space: `spaced` asks
+      -- that of a held cart, whose byte 0 is 1, as of a new.
+      pub no-spaced-title : (i : ℕ) → i ≤ 4 → (c : ℕ) → 1 ≤ c → c ≤ 128 → spaced (cartAt (copyAt (left .memory .library) i) c) ≡ false
+      no-spaced-title = Titles.no-spaced-title _ _ simulates-after (after-sound H _ (setup-sound studios bytes plain-accepted)) (after-unspaced H _ (setup-unspaced studios bytes plain-accepted))
 
       -- After H from a fresh system a commit with number n writes a title, the list goes on with `later`, and then a read or collect is answered at
       -- state k. Each place that asks for the cart shows that title, unless one of the transactions n + 1 to k has an operation on the cart.

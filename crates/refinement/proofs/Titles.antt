@@ -1,19 +1,21 @@
--- "A title is kept whole or refused", on bytes: in the head end's copy, in the reads that show it, and row 6.
+-- "A title is kept whole or refused", on bytes: in the head end's copy, in the reads that show it, and rows 6 and 16.
 use mathlib.Core.Path.{_≡_, refl, sym, ap, _∙_}
 use mathlib.Core.Bool.{Bool, true, false, not, false≢true}
 use mathlib.Core.List.{List, [], _∷_, _++_}
 use Prim.Native.Nat.{ℕ, _*_, _≤_, _<_}
 use native.Mathlib.Omega.{arith}
-use lib.ListN.{length, drop, getD}
+use lib.ListN.{length, take, drop, getD}
+use native.Mathlib.Decide.{ℕ-discrete}
 use Rattle.carts.specs.Bytes.{part, u16, every, allZero}
 use Rattle.carts.specs.Cart.{cartAt, hasTitle}
-use Rattle.carts.specs.Operation.{operationFields, operationForm, operationsOf}
+use Rattle.carts.specs.Operation.{operationFields, operationForm, writesTitle, spaced, operationsOf}
 use Rattle.carts.specs.Transaction.{L}
-use Rattle.carts.proofs.TestLaws.{all-at, every-at}
+use Rattle.carts.proofs.TestLaws.{all-at, every-at, any-at}
 use Rattle.carts.proofs.OperationLaws.{operationTests, operations-of, length-actAll}
+use Rattle.carts.proofs.SpaceLaws.{UnspacedCopy, UnspacedOperations}
 use Rattle.replication.specs.Answer.{refused, done, answered}
 use Rattle.replication.specs.Memory.{Memory, copyAt, sessionAt, studioOf}
-use Rattle.replication.specs.Request.{Request, byNumbers, byTitle, requestOf, isWaiting}
+use Rattle.replication.specs.Request.{byNumbers, byTitle, requestOf, isWaiting}
 use Rattle.replication.specs.Rows.{Row, row, stopped, unless, lengthsRow, memoryRows, sessionRow, sizeForm, commitRows, commitStop}
 use Rattle.replication.specs.Call as Call
 use Rattle.replication.specs.Call.{Call}
@@ -21,17 +23,19 @@ use Rattle.replication.specs.Calls as Bytes
 use Rattle.replication.specs.Calls.{After}
 use Rattle.replication.specs.declared.control.Control.{Control}
 use Rattle.replication.proofs.CopyLaws.{length-copyAt, copy-same}
-use Rattle.replication.proofs.RowLaws.{numbered, row-stops, passes-on, unless-case, none-stops, memory-numbered, right-memory, lengths-are}
+use Rattle.replication.proofs.RowLaws.{numbered, row-stops, decides, unless-case, none-stops, memory-numbered, right-memory, lengths-are}
 use Rattle.replication.proofs.Accepted.{commit-passed}
 use Rattle.machine.specs.Machine as Plain
 use Rattle.machine.specs.Machine.{Step}
-use Rattle.machine.specs.Titles.{titleIn, writesTitle, spares, Writes, asked, ShowsTheOne}
+use Rattle.machine.specs.Titles.{titleIn, spares, Writes, asked, ShowsTheOne}
 use Rattle.machine.proofs.Sound.{Sound}
 use Rattle.machine.proofs.Kept.{keeps, after-sound}
 use Rattle.machine.proofs.Grows.{after-grows}
 use Rattle.machine.proofs.Titles as Machine
 use Rattle.machine.proofs.Titles.{title-written, commit-writes}
 use Rattle.machine.proofs.TitleReads as Reads
+use Rattle.machine.proofs.Sort.{All}
+use Rattle.machine.proofs.Spaces.{L-unspaced}
 use Rattle.refinement.specs.Represents.{Simulates}
 use Rattle.refinement.proofs.Simulation.{simulates, simulates-after}
 
@@ -51,11 +55,15 @@ primary-title c m s bytes op n w accepted =
     ap (λ (z : List ℕ). titleIn (cartAt z (u16 op 2))) same ∙ title-written bytes op w _ copy ops (a .meets) .0)
     accepted
 
--- a commit with a title of another form that rows 1 to 5 let pass
+-- the first row that stops a call, after rows that let it pass
+stopped-by : (before later : List Row) (n : ℕ) (b : Bool) → numbered before ≡ true → stopped before ≡ 0 → b ≡ true → stopped (before ++ (row n b ∷ later)) ≡ n
+stopped-by before later n b k passes e = sym (decides before (row n b ∷ later) 0 n k (sym passes) refl (row-stops n b later e))
+
+-- a commit with a title of another form that rows 1 to 5 let pass, and one with a title that begins or ends with a space that rows 1 to 6 let pass
 module _ (c : Control) (m : Memory) (s : ℕ) (bytes : List ℕ) where
   form-wrong : (i : ℕ) → i < length (operationsOf bytes) → writesTitle (getD (operationsOf bytes) i []) ≡ true → hasTitle (getD (operationsOf bytes) i []) ≡ false
       → every operationForm (operationsOf bytes) ≡ false
-  unfolding writesTitle operationForm operationFields
+  unfolding operationForm operationFields
   form-wrong i u w e = go (every operationForm (operationsOf bytes)) refl
     where
       go : (b : Bool) → every operationForm (operationsOf bytes) ≡ b → b ≡ false
@@ -71,12 +79,17 @@ module _ (c : Control) (m : Memory) (s : ℕ) (bytes : List ℕ) where
       → Bytes.commit c m s bytes .answer ≡ refused 6
   unfolding Bytes.commit commitStop Bytes.refusedCommit commitRows memoryRows lengthsRow sessionRow numbered every unless
   title-refused passes i u w e =
-      let x : Request = requestOf (sessionAt (m .sessions) s) in
-      let rows : List Row = commitRows s (studioOf c s) x (c .used) (copyAt (m .library) 0) bytes in
+      let rows : List Row = commitRows s (studioOf c s) (requestOf (sessionAt (m .sessions) s)) (c .used) (copyAt (m .library) 0) bytes in
       let stops : not (every operationForm (operationsOf bytes)) ≡ true = rw (form-wrong i u w e) in
-      let sixth = sym (row-stops 6 (not (every operationForm (operationsOf bytes))) (drop 4 rows) stops) in
-      let first = passes-on (memoryRows c m ++ (sessionRow s (studioOf c s) ∷ row 4 (isWaiting x) ∷ row 5 (not (sizeForm bytes)) ∷ [])) (drop 3 rows) 0 refl (sym passes) refl in
-      rw (first ∙ sixth)
+      rw (stopped-by (memoryRows c m ++ take 3 rows) (drop 4 rows) 6 _ refl passes stops)
+
+  pub spaced-refused : stopped (memoryRows c m ++ (sessionRow s (studioOf c s) ∷ row 4 (isWaiting (requestOf (sessionAt (m .sessions) s))) ∷ row 5 (not (sizeForm bytes))
+      ∷ row 6 (not (every operationForm (operationsOf bytes))) ∷ [])) ≡ 0
+      → (i : ℕ) → i < length (operationsOf bytes) → spaced (getD (operationsOf bytes) i []) ≡ true → Bytes.commit c m s bytes .answer ≡ refused 16
+  unfolding Bytes.commit commitStop Bytes.refusedCommit commitRows memoryRows lengthsRow sessionRow numbered every unless
+  spaced-refused passes i u e =
+      let rows : List Row = commitRows s (studioOf c s) (requestOf (sessionAt (m .sessions) s)) (c .used) (copyAt (m .library) 0) bytes in
+      rw (stopped-by (memoryRows c m ++ take 4 rows) (drop 5 rows) 16 _ refl passes (any-at spaced (operationsOf bytes) [] i u e))
 
 -- a title in the reads of a list of calls: from what stands for a sound machine, after an accepted commit, as long as no transaction has an operation on
 -- its cart
@@ -107,3 +120,11 @@ pub title-read : (r : After) (p : Step) → Simulates r p → Sound (p .next) �
 title-read r p h f x k title answer q =
     let last = simulates (r .control) (r .memory) (p .next) (h .next) x in
     rw (last .output) (Reads.title-read (p .next) f x k title (sym (last .answer) ∙ answer) q)
+
+-- what stands for a machine whose transactions row 16 let pass: no cart of any copy has a title that begins or ends with a space
+pub no-spaced-title : (r : After) (p : Step) → Simulates r p → Sound (p .next) → All UnspacedOperations (p .next .log) → (i : ℕ) → i ≤ 4 → UnspacedCopy (copyAt (r .memory .library) i)
+no-spaced-title r p h f t i u = go (ℕ-discrete i 0)
+  where
+    go : Dec (i ≡ 0) → UnspacedCopy (copyAt (r .memory .library) i)
+    go (yes e) = rw (e, h .next .primary) (L-unspaced (p .next .log) _ (f .formed) t)
+    go (no n) = rw (h .next .replicas i (omega arith) u) (L-unspaced (p .next .log) _ (f .formed) t)
