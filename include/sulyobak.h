@@ -43,7 +43,7 @@ extern "C" {
 /* The version of this interface: functions, structs, numbers and layout of memory. sulyobak_control and sulyobak_answer may change
  * with it, so a header and a library go together (compare the macro with sulyobak_version() at the program's start), and control is stored
  * together with the version that wrote it. docs/FORMAT.md says which versions have the same control and layout. */
-#define SULYOBAK_VERSION 2
+#define SULYOBAK_VERSION 3
 
 /* Stack that every call keeps within, in bytes. Measured on a full system, not proved: examples/run runs examples/c/stack.c, which fails
  * where a call takes more. */
@@ -81,6 +81,8 @@ extern "C" {
  *   bytes 12-15   zero
  *   bytes 16-79   the title, each letter a byte from 32 to 126, then zeros
  * New has every field. Retitle has audio number and length zero. Re-cut has title length and title zero. Withdraw has the cart number only.
+ * A title that begins or ends with a space (byte 32) is of this form, and a commit that would write it is refused by 16: on the wall it
+ * could not be told from the title without. Carts that have such a title from before are kept, shown, found by it and retitled.
  *
  * A REQUEST is 80 bytes:
  *   byte 0        1 by cart numbers, 2 by title
@@ -136,6 +138,7 @@ typedef struct {
 #define SULYOBAK_SHORT_OUTPUT 13    /* Output is shorter than 80 bytes for each number asked (80 for a title). */
 #define SULYOBAK_NOTHING_WAITING 14 /* The session has no read waiting. */
 #define SULYOBAK_BAD_STUDIOS 15     /* Studios are 1 to 4, with one byte for each of 16 sessions, none above the number of studios. */
+#define SULYOBAK_SPACED_TITLE 16    /* The title of a new or retitle begins or ends with a space. */
 
 /* The version of the linked library: SULYOBAK_VERSION of the header that it was made with. */
 uint32_t sulyobak_version(void);
@@ -159,7 +162,7 @@ sulyobak_answer sulyobak_setup(uint8_t *library, size_t library_len, uint8_t *lo
  *   control                       as the last call handed it back
  *   session                       whose commit this is, 1 to 16; the session's later reads wait until its studio has taken this commit
  *   operations, operations_len    1 to 8 operations of 80 bytes, one after the other
- * Answers done (value: the commit's number, from 1), or refused 1, 2, 3, 4, 5, 6, 7, 8. */
+ * Answers done (value: the commit's number, from 1), or refused 1, 2, 3, 4, 5, 6, 16, 7, 8 (in this order). */
 sulyobak_answer sulyobak_commit(uint8_t *library, size_t library_len, uint8_t *log, size_t log_len, uint8_t *sessions, size_t sessions_len,
                                 sulyobak_control control, uint32_t session, const uint8_t *operations, size_t operations_len);
 
@@ -169,7 +172,7 @@ sulyobak_answer sulyobak_commit(uint8_t *library, size_t library_len, uint8_t *l
  *   control                       as the last call handed it back
  *   session                       whose commit it would be, 1 to 16
  *   operations, operations_len    1 to 8 operations of 80 bytes, one after the other
- * Answers done (value: the number that the commit would have), or refused 1, 2, 3, 4, 5, 6, 7, 8, as commit would. */
+ * Answers done (value: the number that the commit would have), or refused 1, 2, 3, 4, 5, 6, 16, 7, 8, as commit would. */
 sulyobak_answer sulyobak_preview(const uint8_t *library, size_t library_len, const uint8_t *log, size_t log_len,
                                  const uint8_t *sessions, size_t sessions_len, sulyobak_control control, uint32_t session,
                                  const uint8_t *operations, size_t operations_len);

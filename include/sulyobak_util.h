@@ -9,7 +9,8 @@
 
 /*
  * MAKING OPERATIONS AND REQUESTS. Each function writes 80 bytes and returns SULYOBAK_MADE, or leaves them alone and returns one of the other
- * numbers. A title ends with a zero byte, as in C, and is taken whole or not at all.
+ * numbers. A title ends with a zero byte, as in C, and is taken whole or not at all. One that begins or ends with a space is made too: a
+ * commit refuses it (SULYOBAK_SPACED_TITLE), a read may ask for it.
  */
 #define SULYOBAK_MADE 0
 #define SULYOBAK_TITLE_EMPTY 1       /* The title has no letter. */
@@ -247,6 +248,7 @@ static inline const char *sulyobak_refusal_sentence(uint32_t refusal)
     case SULYOBAK_SHORT_OUTPUT: return "output is shorter than 80 bytes for each number asked, or 80 for a title";
     case SULYOBAK_NOTHING_WAITING: return "the session has no read waiting";
     case SULYOBAK_BAD_STUDIOS: return "studios are 1 to 4, with a studio for each of 16 sessions, none above the number of studios";
+    case SULYOBAK_SPACED_TITLE: return "the title begins or ends with a space";
     default: return "a number that this version does not have";
     }
 }

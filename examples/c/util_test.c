@@ -77,7 +77,7 @@ static void test_operations(void)
     sulyobak_answer answer;
     size_t i;
     HOLD(sulyobak_operation_new(operations, 1, longest, 4294967295u, 8000) == SULYOBAK_MADE);
-    HOLD(sulyobak_operation_new(operations + 80, 128, " ~", 1, 1) == SULYOBAK_MADE);
+    HOLD(sulyobak_operation_new(operations + 80, 128, "~ ~", 1, 1) == SULYOBAK_MADE);
     HOLD(sulyobak_operation_retitle(operations + 160, 128, "B") == SULYOBAK_MADE);
     HOLD(sulyobak_operation_recut(operations + 240, 128, 7, 70000) == SULYOBAK_MADE);
     HOLD(commit(operations, 4).kind == SULYOBAK_DONE);
@@ -96,6 +96,24 @@ static void test_operations(void)
     answer = keep(sulyobak_read(MEMORY, control, 1, request, sizeof request, output, sizeof output));
     HOLD(answer.kind == SULYOBAK_ANSWERED && answer.found == 1 && sulyobak_cart_number(output) == 1);
     HOLD(sulyobak_cart_audio(output) == 4294967295u && sulyobak_title(output, title) == 64 && strcmp(title, longest) == 0);
+}
+
+/* A title with a space at an end is made; a commit refuses it, and a read asks for it. */
+static void test_spaces(void)
+{
+    static const char *const titles[] = {" ", " A", "A ", "012345678901234567890123456789012345678901234567890123456789012 "};
+    uint8_t operations[2 * 80], request[80], output[80];
+    sulyobak_answer answer;
+    size_t i;
+    for (i = 0; i < sizeof titles / sizeof titles[0]; i++) {
+        HOLD(sulyobak_operation_new(operations, 2, "A", 1, 1) == SULYOBAK_MADE);
+        HOLD(sulyobak_operation_retitle(operations + 80, 2, titles[i]) == SULYOBAK_MADE);
+        answer = commit(operations, 2);
+        HOLD(answer.kind == SULYOBAK_REFUSED && answer.value == SULYOBAK_SPACED_TITLE);
+        HOLD(sulyobak_request_title(request, titles[i]) == SULYOBAK_MADE);
+        answer = keep(sulyobak_read(MEMORY, control, 1, request, sizeof request, output, sizeof output));
+        HOLD(answer.kind == SULYOBAK_ANSWERED && answer.found == 0);
+    }
 }
 
 /* The session that the engine leaves: its number, and the read that it has waiting. */
@@ -128,9 +146,9 @@ static void test_sessions(void)
 static void test_sentences(void)
 {
     uint32_t i, j;
-    for (i = 0; i <= 15; i++)
-        for (j = i + 1; j <= 16; j++)
-            HOLD(strcmp(sulyobak_refusal_sentence(i), sulyobak_refusal_sentence(j)) != 0 || (i == 0 && j == 16));
+    for (i = 0; i <= 16; i++)
+        for (j = i + 1; j <= 17; j++)
+            HOLD(strcmp(sulyobak_refusal_sentence(i), sulyobak_refusal_sentence(j)) != 0 || (i == 0 && j == 17));
     for (i = 0; i <= 7; i++)
         for (j = i + 1; j <= 8; j++)
             HOLD(strcmp(sulyobak_made_sentence((int)i), sulyobak_made_sentence((int)j)) != 0);
@@ -143,6 +161,7 @@ int main(void)
     HOLD(keep(sulyobak_setup(MEMORY, 1, studios, sizeof studios)).kind == SULYOBAK_DONE);
     test_misfits();
     test_operations();
+    test_spaces();
     test_sessions();
     test_sentences();
     printf("util_test: everything held\n");

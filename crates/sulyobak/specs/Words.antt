@@ -1,4 +1,4 @@
--- An answer of document 01 as three words for C: kind, value, found. Words that have no meaning are 0.
+-- An answer as three words for C: kind, value, found. Words that have no meaning are 0.
 use mathlib.Core.Bool.{cond}
 use mathlib.Core.List.{List}
 use Prim.Native.Nat.{ℕ}
@@ -12,7 +12,7 @@ use Rattle.sulyobak.specs.declared.words.Words.{Words}
 
 -- the version of these words, and of the memory's layout: SULYOBAK_VERSION of include/sulyobak.h
 abbrev pub version : ℕ
-version = 2
+version = 3
 
 abbrev pub words : ℕ → ℕ → ℕ → Control → Words
 words kind value found c = record { kind = kind; value = value; found = found; control = c }

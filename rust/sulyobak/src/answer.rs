@@ -46,6 +46,8 @@ pub enum Refusal {
     NothingWaiting,
     /// 15: setup's studios are out of range.
     Studios,
+    /// 16: the title of a new or retitle begins or ends with a space.
+    SpacedTitle,
     /// A number that this version of the crate does not know.
     Unknown(u32),
     /// The linked engine is of this version of the interface, and this crate is for [`VERSION`](crate::VERSION): nothing was called.
@@ -54,7 +56,7 @@ pub enum Refusal {
 
 impl Refusal {
     // Every refusal, by its number from 1.
-    const ALL: [Refusal; 15] = [
+    const ALL: [Refusal; 16] = [
         Refusal::Lengths,
         Refusal::Layout,
         Refusal::Nobody,
@@ -70,15 +72,16 @@ impl Refusal {
         Refusal::Output,
         Refusal::NothingWaiting,
         Refusal::Studios,
+        Refusal::SpacedTitle,
     ];
 
-    /// The refusal with this number of document 01.
+    /// The refusal with this number of documents 01 and 02.
     pub fn from_number(number: u32) -> Refusal {
         let place = (number as usize).checked_sub(1);
         place.and_then(|place| Refusal::ALL.get(place)).copied().unwrap_or(Refusal::Unknown(number))
     }
 
-    /// Its number in document 01; 0 for [`Refusal::Version`], which it does not have.
+    /// Its number in documents 01 and 02; 0 for [`Refusal::Version`], which they do not have.
     pub fn number(self) -> u32 {
         match self {
             Refusal::Lengths => 1,
@@ -96,6 +99,7 @@ impl Refusal {
             Refusal::Output => 13,
             Refusal::NothingWaiting => 14,
             Refusal::Studios => 15,
+            Refusal::SpacedTitle => 16,
             Refusal::Unknown(number) => number,
             Refusal::Version(_) => 0,
         }
@@ -121,6 +125,7 @@ impl Refusal {
             Refusal::Output => "output is shorter than 80 bytes for each number asked, or 80 for a title",
             Refusal::NothingWaiting => "the session has no read waiting",
             Refusal::Studios => "studios are 1 to 4, with a studio for each of 16 sessions, none above the number of studios",
+            Refusal::SpacedTitle => "the title begins or ends with a space",
             Refusal::Unknown(_) => "a number that this version of the crate does not have",
             Refusal::Version(_) => "the linked libsulyobak.a is of another version than this crate",
         }
@@ -190,12 +195,12 @@ mod tests {
 
     #[test]
     fn every_refusal_has_its_number() {
-        for number in 1..=15 {
+        for number in 1..=16 {
             let refusal = Refusal::from_number(number);
             assert_eq!(refusal.number(), number);
             assert!(!matches!(refusal, Refusal::Unknown(_)));
         }
-        for number in [0, 16, u32::MAX] {
+        for number in [0, 17, u32::MAX] {
             assert_eq!(Refusal::from_number(number), Refusal::Unknown(number));
         }
     }

@@ -100,6 +100,24 @@ impl Library {
 
     /// Commits 1 to 8 operations at the head end, all or none. Returns the commit's number. Later reads of this session
     /// wait until its studio's copy has taken this commit.
+    ///
+    /// A title that begins or ends with a space is refused, since on the wall it could not be told from the title without. A read may
+    /// ask for such a title: a cart may have it from before version 3.
+    ///
+    /// ```
+    /// use sulyobak::{Library, Operation, Read, Refusal, Request, Title};
+    ///
+    /// # fn main() -> Result<(), Box<dyn std::error::Error>> {
+    /// let mut library = Library::new(1, &[1])?;
+    /// let spaced = Title::new("News bed ")?;
+    /// let news = |title| Operation::New { cart: 30, title, audio: 401, milliseconds: 60_000 };
+    ///
+    /// assert_eq!(library.read(1, &Request::Title(spaced))?, Read::Answered { state: 0, found: 0, carts: vec![None] });
+    /// assert_eq!(library.commit(1, &[news(spaced)]), Err(Refusal::SpacedTitle));
+    /// assert_eq!(library.commit(1, &[news(Title::new("News bed")?)]), Ok(1));
+    /// # Ok(())
+    /// # }
+    /// ```
     pub fn commit(&mut self, session: u32, operations: &[Operation]) -> Result<u32, Refusal> {
         self.memory().commit(session, operations)
     }

@@ -55,7 +55,8 @@ impl Memory<'_> {
         self.view().check()
     }
 
-    /// Commits 1 to 8 operations at the head end, all or none. Returns the commit's number.
+    /// Commits 1 to 8 operations at the head end, all or none. Returns the commit's number. A title that begins or ends with a space is
+    /// refused: [`Library::commit`](crate::Library::commit) has an example.
     pub fn commit(&mut self, session: u32, operations: &[Operation]) -> Result<u32, Refusal> {
         self.commit_bytes(session, &operation::bytes_of(operations))
     }

@@ -3,7 +3,9 @@ use sulyobak_sys::sizes;
 
 /// An edit of one cart. A commit has one to eight, and all of them act or none.
 ///
-/// Numbers are passed on as they are: the engine refuses what is out of range ([`Refusal::Operation`](crate::Refusal::Operation)).
+/// Numbers and titles are passed on as they are: the engine refuses what is out of range
+/// ([`Refusal::Operation`](crate::Refusal::Operation)), and a title that begins or ends with a space
+/// ([`Refusal::SpacedTitle`](crate::Refusal::SpacedTitle)).
 ///
 /// ```
 /// use sulyobak::Operation;
@@ -17,7 +19,7 @@ pub enum Operation {
     New {
         /// The cart's number, 1 to 128.
         cart: u16,
-        /// Its title.
+        /// Its title, without a space at either end.
         title: Title,
         /// The number of its audio, at least 1.
         audio: u32,
@@ -28,7 +30,7 @@ pub enum Operation {
     Retitle {
         /// The cart's number, 1 to 128.
         cart: u16,
-        /// The new title.
+        /// The new title, without a space at either end.
         title: Title,
     },
     /// Gives a cart that is held other audio; its title stays.

@@ -8,7 +8,8 @@ use sulyobak_sys::sizes;
 pub enum Request {
     /// Carts by their numbers; the answer has a place for each.
     Numbers(Numbers),
-    /// The one cart that has exactly this title; the answer has one place.
+    /// The one cart that has exactly this title; the answer has one place. The title may begin or end with a space, as a cart's from
+    /// before version 3 may.
     Title(Title),
 }
 

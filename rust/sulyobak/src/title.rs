@@ -5,7 +5,8 @@ use sulyobak_sys::sizes;
 
 /// A cart's title: 1 to 64 printable ASCII letters (space to `~`).
 ///
-/// A title is kept whole or refused, never cut: two titles that differ only in their last letter stay different.
+/// A title is kept whole or refused, never cut: two titles that differ only in their last letter stay different. A commit refuses a
+/// title that begins or ends with a space ([`Refusal::SpacedTitle`](crate::Refusal::SpacedTitle)); a read may ask for one.
 ///
 /// ```
 /// use sulyobak::{Title, TitleError};

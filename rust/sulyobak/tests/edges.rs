@@ -1,4 +1,4 @@
-//! The edges that document 01 names for test runs, and every refusal, on the real engine.
+//! The edges that document 01 names for test runs, and every refusal of 01, on the real engine.
 mod made;
 
 use made::{fresh, new, recut};

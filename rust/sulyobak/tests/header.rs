@@ -42,7 +42,7 @@ fn version_and_sizes() {
 
 #[test]
 fn sentences() {
-    for number in 1..=15 {
+    for number in 1..=16 {
         let sentence = Refusal::from_number(number).sentence();
         assert!(HELPERS.contains(&format!("return \"{sentence}\";")), "{number}: {sentence}");
     }

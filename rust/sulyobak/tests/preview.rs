@@ -1,24 +1,10 @@
 //! A preview answers what the commit answers, and changes nothing (document 02, S-1), on the real engine.
 mod made;
+mod tried;
 
 use made::{fresh, new, recut};
-use sulyobak::{sizes, Control, Library, Memory, Operation, Read, Refusal, Request};
-
-// Previews, sees that nothing changed, then commits the same: the answer of both.
-fn tried(library: &mut Library, session: u32, operations: &[u8]) -> Result<u32, Refusal> {
-    let before = library.clone();
-    let previewed = library.memory().preview_bytes(session, operations);
-    assert_eq!(*library, before, "a preview changes nothing");
-    assert_eq!(library.memory().commit_bytes(session, operations), previewed, "commit answers what the preview said");
-    if previewed.is_err() {
-        assert_eq!(*library, before, "a refused commit changes nothing");
-    }
-    previewed
-}
-
-fn bytes_of(operations: &[Operation]) -> Vec<u8> {
-    operations.iter().flat_map(Operation::to_bytes).collect()
-}
+use sulyobak::{sizes, Control, Memory, Operation, Read, Refusal, Request};
+use tried::{bytes_of, tried};
 
 #[test]
 fn who_previews() {
