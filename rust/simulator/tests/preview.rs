@@ -5,24 +5,6 @@ mod wall;
 use simulator::UNIT;
 use wall::*;
 
-/// Two previews, then the commit: the same answer three times.
-fn alike(case: &str, wall: &Wall, session: u32, operations: &[u8], words: Words) {
-    let mut wall = wall.clone();
-    assert_eq!(wall.preview_bytes(session, operations), words, "{case}: preview");
-    assert_eq!(wall.preview_bytes(session, operations), words, "{case}: preview once more");
-    assert_eq!(wall.commit_bytes(session, operations), words, "{case}: commit");
-}
-
-/// Cart 7 is held; session 1 has made all the commits, of one operation each.
-fn committed(commits: u32) -> Wall {
-    let mut wall = fresh();
-    assert_eq!(wall.commit(1, &[top_hour()]), done(1));
-    for n in 2..=commits {
-        assert_eq!(wall.commit(1, &[recut(7, n, n)]), done(n));
-    }
-    wall
-}
-
 #[test]
 fn fresh_and_later() {
     let (a, eight) = (top_hour(), new(8, "Eight", 1, 1));

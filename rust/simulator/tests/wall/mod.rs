@@ -110,6 +110,24 @@ impl Wall {
     }
 }
 
+/// Two previews, then the commit: the same answer three times.
+pub fn alike(case: &str, wall: &Wall, session: u32, operations: &[u8], words: Words) {
+    let mut wall = wall.clone();
+    assert_eq!(wall.preview_bytes(session, operations), words, "{case}: preview");
+    assert_eq!(wall.preview_bytes(session, operations), words, "{case}: preview once more");
+    assert_eq!(wall.commit_bytes(session, operations), words, "{case}: commit");
+}
+
+/// Cart 7 is held; session 1 has made all the commits, of one operation each.
+pub fn committed(commits: u32) -> Wall {
+    let mut wall = fresh();
+    assert_eq!(wall.commit(1, &[top_hour()]), done(1));
+    for n in 2..=commits {
+        assert_eq!(wall.commit(1, &[recut(7, n, n)]), done(n));
+    }
+    wall
+}
+
 fn unit(kind: u8, cart: u16, title: &str, audio: u32, length: u32) -> [u8; UNIT] {
     let mut unit = [0; UNIT];
     unit[0] = kind;
