@@ -3,7 +3,7 @@
 
 use crate::cart::{Copy, encode_cart};
 use crate::control::Outcome;
-use crate::operation::{Operation, Transaction};
+use crate::operation::{Operation, Transaction, title_spaced};
 use crate::session::{Request, Session};
 use crate::sizes::{RECORDS, TRANSACTION_OPERATIONS, UNIT, WINDOW};
 use crate::system::{Studio, System};
@@ -23,6 +23,9 @@ pub fn commit(system: &mut System, session: u32, operations: &[u8]) -> Ended {
     }
     let transaction: Option<Transaction> = operations.chunks_exact(UNIT).map(Operation::handed_in).collect();
     let transaction = transaction.ok_or(6u32)?;
+    if operations.chunks_exact(UNIT).any(title_spaced) {
+        return Err(16);
+    }
     let used: usize = system.transactions.iter().map(Vec::len).sum();
     if used + count > RECORDS {
         return Err(7);

@@ -1,5 +1,5 @@
-//! The cart wall of document 01, with request S-1 of document 02, by another
-//! hand.
+//! The cart wall of document 01, with requests S-1 and S-2 of document 02, by
+//! another hand.
 //!
 //! Every call decodes the lent memory and the control into a value, acts on
 //! the value, and encodes it again; a preview throws the value away. Nothing
@@ -88,6 +88,12 @@ pub fn of_layout(library: &[u8], log: &[u8], sessions: &[u8], control: &Control)
 /// Whether 80 bytes are an operation in form, as handed in.
 pub fn operation_in_form(unit: &[u8]) -> bool {
     operation::Operation::handed_in(unit).is_some()
+}
+
+/// Whether 80 bytes, an operation in form, are a new or retitle whose title
+/// begins or ends with byte 32. Any 80 bytes have an answer.
+pub fn title_spaced(unit: &[u8]) -> bool {
+    operation::title_spaced(unit)
 }
 
 /// Whether bytes are a read request in form, as handed in.

@@ -81,6 +81,12 @@ impl Operation {
     }
 }
 
+/// Whether a unit is a new or retitle whose title begins or ends with a space.
+/// That does not put it out of form.
+pub fn title_spaced(unit: &[u8]) -> bool {
+    matches!(unit[0], 1 | 2) && Title::spaced(unit)
+}
+
 fn decode_action(unit: &[u8]) -> Option<Action> {
     let (title, cut) = (Title::decode(unit), Cut::decode(unit));
     let (no_title, no_cut) = (Title::absent(unit), Cut::absent(unit));

@@ -4,6 +4,7 @@ use crate::bytes::all_zero;
 
 pub const TITLE_BYTES: usize = 64;
 const TITLE_AT: usize = 16;
+const SPACE: u8 = 32;
 
 /// The bytes after the title are zero, so equal titles are equal values.
 #[derive(Clone, Copy, PartialEq, Eq, Debug)]
@@ -35,5 +36,13 @@ impl Title {
     /// Whether a unit has neither title length nor title.
     pub fn absent(unit: &[u8]) -> bool {
         unit[1] == 0 && all_zero(&unit[TITLE_AT..])
+    }
+
+    /// Whether a unit's title begins or ends with a space. Out of form, a title
+    /// has as many bytes as byte 1 says, and at most 64.
+    pub fn spaced(unit: &[u8]) -> bool {
+        let length = usize::from(unit[1]).min(TITLE_BYTES);
+        let text = &unit[TITLE_AT..TITLE_AT + length];
+        text.first() == Some(&SPACE) || text.last() == Some(&SPACE)
     }
 }

@@ -70,8 +70,8 @@ fn rows_from_top_to_bottom() {
     unlaid.control.studios = u32::MAX;
     let mut short = unlaid.clone();
     short.sessions.pop();
-    let (a, formless) = (top_hour(), [9; UNIT]);
-    let (sixth, seventh) = ([a, formless].concat(), [a, a].concat());
+    let (a, formless, spaced) = (top_hour(), [9; UNIT], new(7, "A ", 1, 1));
+    let (sixth, sixteenth, seventh) = ([spaced, formless].concat(), [a, spaced].concat(), [a, a].concat());
     let odd = &sixth[..159];
     for (wall, session, operations, words) in [
         (&short, 17, odd, refused(1)),
@@ -80,6 +80,7 @@ fn rows_from_top_to_bottom() {
         (&wall, 1, odd, refused(4)),
         (&wall, 2, odd, refused(5)),
         (&wall, 2, &sixth, refused(6)),
+        (&wall, 2, &sixteenth, refused(16)),
         (&wall, 2, &seventh, refused(7)),
         (&wall, 2, &a, refused(8)),
         (&wall, 2, &withdraw(7), done(512)),
