@@ -14,6 +14,7 @@ mod guided;
 mod keys;
 mod lent;
 mod lists;
+mod log;
 mod make;
 mod one_copy;
 mod options;

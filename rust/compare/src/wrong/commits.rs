@@ -1,9 +1,10 @@
 //! Mistakes of commit.
 
 use super::mistake::{Mistake, Notes, copy_of, is_refused, mistake, order_mistake, refused, right};
-use super::mistake::{clear_waiting, session_unit, transaction};
+use super::mistake::{clear_waiting, session_unit};
 use crate::call::Call;
 use crate::lent::Lent;
+use crate::log::transaction;
 use crate::rows;
 use crate::single;
 use simulator::{Answer, Control, DONE};

@@ -1,8 +1,9 @@
 //! Mistakes of send and refresh.
 
-use super::mistake::{Mistake, Notes, copy_of, is_refused, mistake, order_mistake, refused, right, transaction};
+use super::mistake::{Mistake, Notes, copy_of, is_refused, mistake, order_mistake, refused, right};
 use crate::call::Call;
 use crate::lent::Lent;
+use crate::log::transaction;
 use crate::single;
 use simulator::{Answer, Control, DONE};
 
