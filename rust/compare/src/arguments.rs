@@ -76,6 +76,9 @@ fn edit(random: &mut Random, maker: &Maker, taste: &Taste, wall: &Wall) -> (u32,
     let size = random.within(taste.sizes.0, taste.sizes.1);
     let mut operations: Vec<u8> = (0..size).flat_map(|_| maker.fitting(random, &mut held)).collect();
     if !random.percent(taste.fitting) {
+        maker.space(random, &mut operations, wall.played.library.lent());
+    }
+    if !random.percent(taste.fitting) {
         unsettle(random, maker, &mut operations);
     }
     (session, operations)

@@ -1,18 +1,30 @@
 //! The boundaries that a run must have met, with how their calls ended.
 
-use crate::keys::{COMMIT, DONE, Edit, Key, PREVIEW, READ, WAITED};
+use crate::keys::{APPLIED, COLLECT_SPACES, COMMIT, DONE, Edit, Key, PREVIEW, READ, READ_SPACES, Reading, SENT_OVER, WAITED};
 
 /// −1 as it is kept in a key.
 const LESS: u32 = u32::MAX;
 const HUGE: u32 = u32::MAX;
 
 pub fn all() -> Vec<Key> {
-    [edit(&COMMIT), edit(&PREVIEW), OTHERS.to_vec()].concat()
+    let spaces = [reading(&READ_SPACES), reading(&COLLECT_SPACES)].concat();
+    [edit(&COMMIT), edit(&PREVIEW), spaces, OTHERS.to_vec()].concat()
+}
+
+/// Those of a read or of a collect that have to do with spaced titles.
+fn reading(of: &Reading) -> Vec<Key> {
+    numbered(&[(of.asked, &[1, 64], READ), (of.asked, &[1, 64], WAITED), (of.found, &[0, 1, 2], READ), (of.shown, &[0, 1, 32], READ)])
+}
+
+/// A key for each number.
+fn numbered(by_end: &[(&'static str, &[u32], u32)]) -> Vec<Key> {
+    let keys = by_end.iter().flat_map(|(subject, numbers, end)| numbers.iter().map(move |number| (*subject, *number, *end)));
+    keys.collect()
 }
 
 /// Those of a commit or of a preview.
 fn edit(of: &Edit) -> Vec<Key> {
-    let by_end: [(&'static str, &[u32], u32); 15] = [
+    numbered(&[
         (of.session, &[1, 16], DONE),
         (of.session, &[0, 17, HUGE], 3),
         (of.size, &[80, 160, 240, 320, 400, 480, 560, 640], DONE),
@@ -28,9 +40,17 @@ fn edit(of: &Edit) -> Vec<Key> {
         (of.cart, &[0, 129], 6),
         (of.title_length, &[1, 32, 33, 64], DONE),
         (of.title_length, &[0, 65], 6),
-    ];
-    let keys = by_end.into_iter().flat_map(|(subject, numbers, end)| numbers.iter().map(move |number| (subject, *number, end)));
-    keys.collect()
+        (of.kind, &[1, 2], 16),
+        (of.space_first, &[2, 64], 16),
+        (of.space_last, &[2, 64], 16),
+        (of.space_both, &[1, 2, 3, 64], 16),
+        (of.space_inside, &[3, 64], DONE),
+        (of.spaced_place, &[1, 2, 3, 4, 5, 6, 7, 8], 16),
+        (of.spaced_cart, &[1], 8),
+        (of.spaced_cart, &[2], 16),
+        (of.spaced_cart, &[2, 3, 4], DONE),
+        (of.same_title, &[64], 16),
+    ])
 }
 
 /// Those of every other call.
@@ -61,6 +81,8 @@ const OTHERS: &[Key] = &[
     ("send, sent − applied", 32, 10),
     ("send, sent − applied", 32, 9),
     ("send, sent − applied", 33, 2),
+    (SENT_OVER, 1, DONE),
+    (SENT_OVER, 4, DONE),
     ("refresh, studio", 0, 3),
     ("refresh, studio", 1, DONE),
     ("refresh, studio", 4, DONE),
@@ -72,6 +94,8 @@ const OTHERS: &[Key] = &[
     ("refresh, number", 512, DONE),
     ("refresh, studio − S", 0, DONE),
     ("refresh, studio − S", 1, 3),
+    (APPLIED, 1, DONE),
+    (APPLIED, 2, DONE),
     ("read, session", 0, 3),
     ("read, session", 1, READ),
     ("read, session", 16, READ),

@@ -30,7 +30,7 @@ impl Call {
     pub fn rows(&self) -> &'static [u32] {
         match self {
             Call::Setup { .. } => &[1, 15],
-            Call::Commit { .. } | Call::Preview { .. } => &[1, 2, 3, 4, 5, 6, 7, 8],
+            Call::Commit { .. } | Call::Preview { .. } => &[1, 2, 3, 4, 5, 6, 16, 7, 8],
             Call::Send { .. } => &[1, 2, 3, 9, 10],
             Call::Refresh { .. } => &[1, 2, 3, 11],
             Call::Read { .. } => &[1, 2, 3, 4, 12, 13],

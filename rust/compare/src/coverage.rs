@@ -10,7 +10,9 @@ use std::collections::BTreeMap;
 /// Facts of a call's entry that are gone once it has been played.
 pub struct Before {
     lengths: [usize; 3],
-    session: Vec<u8>,
+    pub session: Vec<u8>,
+    /// For a commit or a preview.
+    pub head_end: Vec<u8>,
 }
 
 #[derive(Default)]
@@ -25,7 +27,11 @@ pub struct Coverage {
 impl Coverage {
     pub fn before(call: &Call, lent: &Lent) -> Before {
         let lengths = [lent.library.len(), lent.log.len(), lent.sessions.len()];
-        Before { lengths, session: rows::stored(call, lent) }
+        let head_end = match call {
+            Call::Commit { .. } | Call::Preview { .. } => rows::head_end(lent),
+            _ => Vec::new(),
+        };
+        Before { lengths, session: rows::stored(call, lent), head_end }
     }
 
     pub fn count(&mut self, key: Key) {
@@ -37,7 +43,7 @@ impl Coverage {
         self.entries += entries as u64;
     }
 
-    pub fn note(&mut self, call: &Call, control: &Control, holding: &[u32], before: &Before, answer: &Answer) {
+    pub fn note(&mut self, call: &Call, control: &Control, holding: &[u32], before: &Before, after: &Lent, answer: &Answer) {
         let end = outcome(answer);
         self.count_end(call.name(), answer);
         for (i, row) in holding.iter().enumerate() {
@@ -49,6 +55,7 @@ impl Coverage {
         self.note_lengths(call, before, end);
         if end != 1 {
             self.note_arguments(call, control, before, answer);
+            self.note_spaces(call, before, after, answer);
         }
     }
 
@@ -128,16 +135,21 @@ impl Coverage {
             self.count((of.used, control.used, end));
             self.count((of.used_after, after, end));
         }
-        if matches!(end, 6 | DONE) {
+        if matches!(end, 6 | 16 | DONE) {
             for unit in operations.chunks_exact(80) {
                 self.note_operation(of, unit, end);
             }
         }
     }
 
-    /// For a refusal 6 only the operations that are out of form count.
+    /// For a refusal 6 only the operations that are out of form count, for 16 only those with a spaced title.
     fn note_operation(&mut self, of: &Edit, unit: &[u8], end: u32) {
-        if (end == DONE) != simulator::operation_in_form(unit) {
+        let counts = match end {
+            6 => !simulator::operation_in_form(unit),
+            16 => rows::title_spaced(unit),
+            _ => true,
+        };
+        if !counts {
             return;
         }
         let cart = u32::from(unit[2]) | u32::from(unit[3]) << 8;
@@ -225,7 +237,7 @@ impl Coverage {
     }
 }
 
-fn outcome(answer: &Answer) -> u32 {
+pub fn outcome(answer: &Answer) -> u32 {
     match answer.kind {
         REFUSED => answer.value,
         ANSWERED => READ,

@@ -34,7 +34,7 @@ fn fill_log(random: &mut Random, maker: &Maker, wall: &mut Wall, control: &mut C
         let size = random.within(1, largest).min(most - used);
         for r in used..used + size {
             let unit = &mut log[UNIT * r..UNIT * (r + 1)];
-            unit.copy_from_slice(&maker.any(random));
+            unit.copy_from_slice(&maker.logged(random));
             let next = if r + 1 < used + size { r + 2 } else { 0 };
             unit[12..14].copy_from_slice(&(next as u16).to_le_bytes());
         }

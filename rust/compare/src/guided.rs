@@ -3,7 +3,9 @@
 use crate::arguments::{self, CALLS, PREVIEW, Taste};
 use crate::asides;
 use crate::call::Call;
+use crate::keys::DONE;
 use crate::make::Maker;
+use crate::older;
 use crate::one_copy::History;
 use crate::player::{Mismatch, Player};
 use crate::random::Random;
@@ -24,6 +26,8 @@ pub enum Aim {
     Window,
     Waits,
     Titles,
+    /// Titles that only an engine before S-2 took.
+    Older,
 }
 
 /// One list being played.
@@ -38,7 +42,7 @@ pub struct Guide<'p, 'e> {
 pub fn play(player: &mut Player<'_>, seed: u64, aim: Aim) -> Result<(), Mismatch> {
     let mut random = Random::new(seed);
     let carts = match aim {
-        Aim::Titles | Aim::Waits => 3,
+        Aim::Titles | Aim::Waits | Aim::Older => 3,
         Aim::Mixed => 40,
         _ => 10,
     };
@@ -65,7 +69,7 @@ impl Guide<'_, '_> {
         }
         let mut call = arguments::setup(&mut self.random, 100);
         if let Call::Setup { studios, session_studios } = &mut call {
-            if matches!(aim, Aim::Window | Aim::Waits) {
+            if matches!(aim, Aim::Window | Aim::Waits | Aim::Older) {
                 *studios = self.random.within(1, 2) as u32;
                 session_studios.iter_mut().for_each(|studio| *studio = (*studio).min(*studios as u8));
             }
@@ -86,6 +90,7 @@ impl Guide<'_, '_> {
             Aim::Ones => self.fill((1, 1), 512),
             Aim::Varied => self.fill((1, 8), 500),
             Aim::Window => self.window(),
+            Aim::Older => self.older(),
         }
     }
 
@@ -144,6 +149,18 @@ impl Guide<'_, '_> {
             self.steps(60, &taste([8, 36, 40, 10, 6, 4], (1, 2), 90))?;
         }
         Ok(())
+    }
+
+    /// Studios that have nearly caught up, then aged titles.
+    fn older(&mut self) -> Result<(), Mismatch> {
+        let mixed = taste([30, 22, 22, 20, 8, 6], (1, 3), 93);
+        self.steps(60, &mixed)?;
+        self.steps(80, &taste([2, 45, 45, 5, 3, 0], (1, 1), 95))?;
+        self.steps(5, &taste([80, 5, 5, 5, 5, 0], (1, 1), 97))?;
+        if older::age(&mut self.random, &self.maker, &mut self.wall, &mut self.history) {
+            self.player.coverage.count((older::NAME, 0, DONE));
+        }
+        self.steps(300, &mixed)
     }
 }
 

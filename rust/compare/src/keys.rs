@@ -22,6 +22,17 @@ pub struct Edit {
     pub kind: &'static str,
     pub cart: &'static str,
     pub title_length: &'static str,
+    /// Titles by their lengths: with a space first, last, at both ends, or inside only.
+    pub space_first: &'static str,
+    pub space_last: &'static str,
+    pub space_both: &'static str,
+    pub space_inside: &'static str,
+    /// Among eight operations, the place of the only one with a spaced title.
+    pub spaced_place: &'static str,
+    /// The kind of an operation that meets a cart with a spaced title.
+    pub spaced_cart: &'static str,
+    /// The length of the spaced title that a retitle gives to a cart that has it.
+    pub same_title: &'static str,
 }
 
 macro_rules! edit {
@@ -35,12 +46,47 @@ macro_rules! edit {
             kind: concat!("operation of a ", $call, ", kind"),
             cart: concat!("operation of a ", $call, ", cart"),
             title_length: concat!("operation of a ", $call, ", title length"),
+            space_first: concat!("operation of a ", $call, ", space first in a title of"),
+            space_last: concat!("operation of a ", $call, ", space last in a title of"),
+            space_both: concat!("operation of a ", $call, ", space first and last in a title of"),
+            space_inside: concat!("operation of a ", $call, ", space only inside a title of"),
+            spaced_place: concat!($call, ", the one spaced title of eight at"),
+            spaced_cart: concat!("operation of a ", $call, " on a cart with a spaced title, kind"),
+            same_title: concat!("operation of a ", $call, ", the spaced title that the cart has, length"),
         }
     };
 }
 
 pub const COMMIT: Edit = edit!("commit");
 pub const PREVIEW: Edit = edit!("preview");
+
+/// The subjects of a read or of a collect that have to do with spaced titles.
+pub struct Reading {
+    /// The length of a spaced title asked for.
+    pub asked: &'static str,
+    /// How many carts have it.
+    pub found: &'static str,
+    /// How many places of a read by numbers show a cart with a spaced title.
+    pub shown: &'static str,
+}
+
+macro_rules! reading {
+    ($call:literal) => {
+        Reading {
+            asked: concat!($call, ", spaced title of"),
+            found: concat!($call, ", found by a spaced title"),
+            shown: concat!($call, ", places with a spaced title"),
+        }
+    };
+}
+
+pub const READ_SPACES: Reading = reading!("read");
+pub const COLLECT_SPACES: Reading = reading!("collect");
+
+/// A studio's number, of a send over carts and records with spaced titles.
+pub const SENT_OVER: &str = "send over spaced titles, studio";
+/// The kind of a record with a spaced title that a refresh has applied.
+pub const APPLIED: &str = "refresh, record with a spaced title, kind";
 
 /// The subjects for the length of each memory, call by call: setup, commit, send, refresh, read, collect, preview.
 pub const LENGTHS: [[&str; 3]; 7] = [

@@ -10,7 +10,7 @@ use crate::player::{Mismatch, Player};
 use crate::random::Random;
 use crate::sweep;
 
-const KINDS: [&str; 17] = [
+const KINDS: [&str; 18] = [
     "mixed",
     "direct",
     "waits",
@@ -28,6 +28,7 @@ const KINDS: [&str; 17] = [
     "ones",
     "lengths",
     "chaos",
+    "older",
 ];
 
 pub fn kind(seed: u64) -> &'static str {
@@ -45,6 +46,7 @@ pub fn play(player: &mut Player<'_>, seed: u64) -> Result<(), Mismatch> {
         "eights" => guided::play(player, seed, Aim::Eights),
         "varied" => guided::play(player, seed, Aim::Varied),
         "ones" => guided::play(player, seed, Aim::Ones),
+        "older" => guided::play(player, seed, Aim::Older),
         "direct" => unreached(player, seed),
         "damage" => damage(player, seed),
         "memory sweep" => sweep::memory(player, seed, turn),
@@ -58,8 +60,8 @@ pub fn play(player: &mut Player<'_>, seed: u64) -> Result<(), Mismatch> {
 /// Only lists from fresh systems, for the one-copy order alone.
 pub fn play_fresh(player: &mut Player<'_>, seed: u64) -> Result<(), Mismatch> {
     player.begin_list(seed);
-    let aims = [Aim::Waits, Aim::Titles, Aim::Mixed, Aim::Window];
-    guided::play(player, seed, aims[(seed % 4) as usize])
+    let aims = [Aim::Waits, Aim::Titles, Aim::Mixed, Aim::Window, Aim::Older];
+    guided::play(player, seed, aims[seed as usize % aims.len()])
 }
 
 /// Lists from memory of the layout that no list reaches.

@@ -1,6 +1,8 @@
 //! Makers of operations, requests and carts, right and spoilt.
 
 use crate::random::Random;
+use crate::rows;
+use crate::single;
 use simulator::UNIT;
 
 pub type Unit = [u8; UNIT];
@@ -8,22 +10,35 @@ pub type Unit = [u8; UNIT];
 /// The carts and titles that a list keeps coming back to.
 pub struct Maker {
     pub carts: Vec<u16>,
+    /// Titles that row 16 lets through.
     pub titles: Vec<Vec<u8>>,
+    /// Titles that begin or end with a space.
+    pub spaced: Vec<Vec<u8>>,
 }
+
+/// Percent of stored titles, and of titles asked for, that begin or end with a space.
+const SPACED: usize = 30;
 
 impl Maker {
     pub fn new(random: &mut Random, carts: usize) -> Maker {
         let mut pool = vec![1, 128];
         pool.extend((0..carts).map(|_| random.within(1, 128) as u16));
-        Maker { carts: pool, titles: titles(random) }
+        let stem = stem(random);
+        Maker { carts: pool, titles: titles(random, &stem), spaced: spaced(&stem) }
     }
 
     pub fn cart(&self, random: &mut Random) -> u16 {
         *random.pick(&self.carts)
     }
 
-    pub fn title(&self, random: &mut Random) -> Vec<u8> {
-        random.pick(&self.titles).clone()
+    fn title(&self, random: &mut Random) -> &[u8] {
+        random.pick(&self.titles).as_slice()
+    }
+
+    /// A title that a cart or a record may have, or a read ask for: of both sorts.
+    fn any_title(&self, random: &mut Random) -> &[u8] {
+        let spaced = random.percent(SPACED);
+        random.pick(if spaced { &self.spaced } else { &self.titles }).as_slice()
     }
 
     /// An operation that meets its cart, `held` being the carts' states;
@@ -52,14 +67,40 @@ impl Maker {
             unit[8..12].copy_from_slice(&amount(random).to_le_bytes());
         }
         if matches!(kind, 1 | 2) {
-            put_title(&mut unit, &self.title(random));
+            put_title(&mut unit, self.title(random));
         }
         unit
     }
 
-    /// A held cart at its place.
+    /// Gives one of the operations that have a title one that begins or ends with a space; often the one that its cart has, if it has such.
+    pub fn space(&self, random: &mut Random, operations: &mut [u8], head_end: &[u8]) {
+        let mut titled: Vec<&mut [u8]> = operations.chunks_exact_mut(UNIT).filter(|unit| matches!(unit[0], 1 | 2)).collect();
+        if titled.is_empty() {
+            return;
+        }
+        let place = random.below(titled.len());
+        let unit = &mut *titled[place];
+        let own = single::cart_at(unit).map(|at| &head_end[at..at + UNIT]).filter(|cart| rows::title_spaced(cart));
+        match own {
+            Some(cart) if random.percent(50) => put_title(unit, rows::title(cart)),
+            _ => put_title(unit, random.pick(&self.spaced).as_slice()),
+        }
+    }
+
+    /// An operation as a record has it, links apart: of any kind, its title of both sorts.
+    pub fn logged(&self, random: &mut Random) -> Unit {
+        let mut unit = self.any(random);
+        if matches!(unit[0], 1 | 2) {
+            put_title(&mut unit, self.any_title(random));
+        }
+        unit
+    }
+
+    /// A held cart at its place, its title of both sorts.
     pub fn held_cart(&self, random: &mut Random, cart: u16) -> Unit {
-        self.operation(random, 1, cart)
+        let mut unit = self.operation(random, 1, cart);
+        put_title(&mut unit, self.any_title(random));
+        unit
     }
 
     pub fn request(&self, random: &mut Random) -> Unit {
@@ -69,7 +110,7 @@ impl Maker {
     pub fn by_title(&self, random: &mut Random) -> Unit {
         let mut unit = [0; UNIT];
         unit[0] = 2;
-        put_title(&mut unit, &self.title(random));
+        put_title(&mut unit, self.any_title(random));
         unit
     }
 
@@ -93,8 +134,10 @@ impl Maker {
     }
 }
 
+/// Gives a unit this title in the place of the one that it may have.
 pub fn put_title(unit: &mut [u8], title: &[u8]) {
     unit[1] = title.len() as u8;
+    unit[16..].fill(0);
     unit[16..16 + title.len()].copy_from_slice(title);
 }
 
@@ -103,30 +146,54 @@ fn amount(random: &mut Random) -> u32 {
     *random.pick(&[1, 256, 65_536, 1 << 24, u32::MAX, random.clone().word().max(1)])
 }
 
-fn text(random: &mut Random, length: usize) -> Vec<u8> {
-    (0..length).map(|_| random.within(32, 126) as u8).collect()
+/// Letters and spaces. The first is no space, nor the last of a beginning of these lengths; the longest is the whole.
+fn text(random: &mut Random, beginnings: &[usize]) -> Vec<u8> {
+    let length = beginnings.iter().copied().max().unwrap_or(1);
+    let mut text: Vec<u8> = (0..length).map(|_| random.within(32, 126) as u8).collect();
+    for end in beginnings.iter().chain(&[1]) {
+        text[end - 1] = random.within(33, 126) as u8;
+    }
+    text
+}
+
+/// What most titles of a list begin with.
+fn stem(random: &mut Random) -> Vec<u8> {
+    text(random, &[32, 33, 63])
 }
 
 /// Titles that are near each other: equal up to the last byte, one the
-/// beginning of another, spaces at the end, and the lengths 1, 32, 33 and 64.
-fn titles(random: &mut Random) -> Vec<Vec<u8>> {
-    let stem = text(random, 63);
+/// beginning of another, and the lengths 1, 32, 33 and 64.
+fn titles(random: &mut Random, stem: &[u8]) -> Vec<Vec<u8>> {
     let mut titles = vec![
-        [&stem[..], b"1"].concat(),
-        [&stem[..], b"2"].concat(),
+        [stem, b"1"].concat(),
+        [stem, b"2"].concat(),
         stem[..32].to_vec(),
         stem[..33].to_vec(),
         stem[..1].to_vec(),
-        [&stem[..1], b" "].concat(),
-        b" ".to_vec(),
+        [&stem[..1], b" ~"].concat(),
         b"~".to_vec(),
-        stem,
+        stem.to_vec(),
     ];
     for _ in 0..3 {
         let length = random.within(1, 64);
-        titles.push(text(random, length));
+        titles.push(text(random, &[length]));
     }
     titles
+}
+
+/// Titles with a space at an end: the first, the last, both; of the lengths 1, 2, 3 and 64; near those of `titles`.
+fn spaced(stem: &[u8]) -> Vec<Vec<u8>> {
+    let letter = &stem[..1];
+    vec![
+        b" ".to_vec(),
+        b"  ".to_vec(),
+        [letter, b" "].concat(),
+        [b" ", letter].concat(),
+        [b" ", letter, b" "].concat(),
+        [stem, b" "].concat(),
+        [b" ", stem].concat(),
+        [b" ", &stem[..62], b" "].concat(),
+    ]
 }
 
 const BYTES: [u8; 14] = [0, 1, 2, 3, 4, 5, 31, 32, 33, 64, 65, 126, 127, 255];

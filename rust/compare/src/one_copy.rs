@@ -66,6 +66,20 @@ impl History {
         self.entries.push(Entry { call, session, what });
     }
 
+    /// Changes the list so far: each operation and each cart shown by `unit`, each request by `request`.
+    pub fn change(&mut self, unit: impl Fn(&mut [u8]), request: impl Fn(&mut [u8])) {
+        for entry in &mut self.entries {
+            match &mut entry.what {
+                What::Commit { operations, .. } => operations.chunks_exact_mut(80).for_each(&unit),
+                What::Read { request: asked, written, .. } => {
+                    request(asked);
+                    written.chunks_exact_mut(80).for_each(&unit);
+                }
+            }
+        }
+        self.waited.iter_mut().filter(|asked| !asked.is_empty()).for_each(|asked| request(asked));
+    }
+
     pub fn len(&self) -> usize {
         self.entries.len()
     }

@@ -72,7 +72,7 @@ impl<'e> Player<'e> {
         self.settle_row_2(&mut holding, call, &answer, wall, &control);
         self.check_rows(&holding, call, &answer)?;
         self.check_preview(wall, call, &answer)?;
-        self.coverage.note(call, &control, &holding, &before, &answer);
+        self.coverage.note(call, &control, &holding, &before, &wall.simulated, &answer);
         Ok(answer)
     }
 

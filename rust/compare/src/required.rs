@@ -3,6 +3,7 @@
 use crate::boundaries;
 use crate::damage;
 use crate::keys::{DONE, Key, LENGTHS, PREVIEWED, PREVIEWED_IN_LIST, READ, WAITED};
+use crate::older;
 use crate::places;
 use crate::sweep;
 use std::fmt;
@@ -50,8 +51,8 @@ pub const EXCLUDED: [(&str, u32, u32, &str); 4] = [
     ("send", 3, 10, "a studio above S has both counts at 0, so 32 apart is row 2"),
 ];
 
-/// The rows of commit and of preview.
-const EDIT_ROWS: &[u32] = &[1, 2, 3, 4, 5, 6, 7, 8];
+/// The rows of commit and of preview, by their numbers.
+const EDIT_ROWS: &[u32] = &[1, 2, 3, 4, 5, 6, 7, 8, 16];
 
 const CALLS: [(&str, &[u32], &[u32]); 7] = [
     ("setup", &[1, 15], &[DONE]),
@@ -76,7 +77,7 @@ pub fn lines() -> Vec<Line> {
     }
     lines.extend(boundaries::all().into_iter().map(Line::Met));
     lines.extend(EDIT_ROWS.iter().chain(&[DONE]).map(|end| Line::Ended((PREVIEWED, 0, *end))));
-    lines.extend([3, 4, 5, 6, 7, 8, DONE].map(|end| Line::Ended((PREVIEWED_IN_LIST, 0, end))));
+    lines.extend([3, 4, 5, 6, 16, 7, 8, DONE].map(|end| Line::Ended((PREVIEWED_IN_LIST, 0, end))));
     for subjects in LENGTHS {
         for (subject, right) in subjects.into_iter().zip([51_200, 40_960, 1_280]) {
             lines.extend([0, right - 1, right + 1].map(|length| Line::Met((subject, length, 1))));
@@ -86,6 +87,7 @@ pub fn lines() -> Vec<Line> {
     let sweeps = places::ALL.iter().map(|(_, name)| *name).chain(sweep::INPUTS);
     lines.extend(sweeps.map(|name| Line::Ended((name, 0, DONE))));
     lines.extend(damage::names().map(|name| Line::Ended((name, 0, 2))));
+    lines.push(Line::Ended((older::NAME, 0, DONE)));
     lines
 }
 

@@ -1,4 +1,4 @@
-//! 01's rows, each looked at for itself, whatever the rows above it say.
+//! 01's rows and 02's, each looked at for itself, whatever the rows above it say.
 //!
 //! Where a row's words need something that an earlier row has found wanting,
 //! the bytes that are there are taken: memory is cut or filled with zeros to
@@ -6,7 +6,7 @@
 //! short for an unknown request if it is shorter than 80.
 
 use crate::call::Call;
-use crate::lent::Lent;
+use crate::lent::{Lent, Part};
 use crate::single;
 use simulator::{COPY, Control, LIBRARY, LOG, SESSION_MEMORY, UNIT};
 
@@ -18,15 +18,17 @@ pub fn holding(call: &Call, control: &Control, lent: &Lent) -> Vec<u32> {
 
 /// Row 2 for memory of any length.
 pub fn out_of_layout(control: &Control, lent: &Lent) -> bool {
-    let sized = |bytes: &[u8], length: usize| {
-        let mut bytes = bytes.to_vec();
-        bytes.resize(length, 0);
-        bytes
-    };
-    let library = sized(lent.library.lent(), LIBRARY);
-    let log = sized(lent.log.lent(), LOG);
-    let sessions = sized(lent.sessions.lent(), SESSION_MEMORY);
+    let library = sized(&lent.library, LIBRARY);
+    let log = sized(&lent.log, LOG);
+    let sessions = sized(&lent.sessions, SESSION_MEMORY);
     !simulator::of_layout(&library, &log, &sessions, control)
+}
+
+/// The first bytes of a memory, zeros past its end.
+fn sized(part: &Part, length: usize) -> Vec<u8> {
+    let mut bytes = part.lent().to_vec();
+    bytes.resize(length, 0);
+    bytes
 }
 
 fn row_holds(row: u32, call: &Call, control: &Control, lent: &Lent) -> bool {
@@ -36,7 +38,7 @@ fn row_holds(row: u32, call: &Call, control: &Control, lent: &Lent) -> bool {
         (3, _) => session_studio(call, control) == 0,
         (4, _) => waiting(call, lent),
         (14, _) => !waiting(call, lent),
-        (5..=8, Call::Commit { operations, .. } | Call::Preview { operations, .. }) => edit_row_holds(row, operations, control, lent),
+        (5..=8 | 16, Call::Commit { operations, .. } | Call::Preview { operations, .. }) => edit_row_holds(row, operations, control, lent),
         (9..=11, Call::Send { studio } | Call::Refresh { studio }) => studio_row_holds(row, *studio, control),
         (12, Call::Read { request, .. }) => !simulator::request_in_form(request),
         (13, Call::Read { request, output, .. }) => *output < output_asked(request),
@@ -94,15 +96,42 @@ fn edit_row_holds(row: u32, operations: &[u8], control: &Control, lent: &Lent) -
     match row {
         5 => !length.is_multiple_of(UNIT) || !(80..=640).contains(&length),
         6 => operations.chunks_exact(UNIT).any(|unit| !simulator::operation_in_form(unit)),
+        16 => spaced_title_met(operations),
         7 => u64::from(control.used) + (length / UNIT) as u64 > 512,
         _ => wrong_state_met(operations, lent),
     }
 }
 
+fn in_form(operations: &[u8]) -> impl Iterator<Item = &[u8]> {
+    operations.chunks_exact(UNIT).filter(|unit| simulator::operation_in_form(unit))
+}
+
+/// Row 16: a new or retitle has a spaced title; operations out of form are passed over.
+pub fn spaced_title_met(operations: &[u8]) -> bool {
+    in_form(operations).any(|unit| matches!(unit[0], 1 | 2) && title_spaced(unit))
+}
+
+/// Whether the title of 80 bytes begins or ends with byte 32, by 02's words (S-2) and not by the simulator: of an operation, a record, a
+/// held cart or a title request.
+pub fn title_spaced(unit: &[u8]) -> bool {
+    let title = title(unit);
+    title.first() == Some(&32) || title.last() == Some(&32)
+}
+
+/// The title of 80 bytes that have one.
+pub fn title(unit: &[u8]) -> &[u8] {
+    unit[16..].get(..usize::from(unit[1])).unwrap_or(&[])
+}
+
+/// The head end's copy, for memory of any length.
+pub fn head_end(lent: &Lent) -> Vec<u8> {
+    sized(&lent.library, COPY)
+}
+
 /// Row 8; operations out of form are passed over.
 pub fn wrong_state_met(operations: &[u8], lent: &Lent) -> bool {
-    let mut head_end: Vec<u8> = (0..COPY).map(|at| lent.library.byte(at)).collect();
-    for unit in operations.chunks_exact(UNIT).filter(|unit| simulator::operation_in_form(unit)) {
+    let mut head_end = head_end(lent);
+    for unit in in_form(operations) {
         if !single::meets(&head_end, unit) {
             return true;
         }

@@ -8,7 +8,7 @@ fn number(unit: &[u8]) -> usize {
 }
 
 /// Where the operation's cart begins in a copy, if it has one.
-fn cart_at(operation: &[u8]) -> Option<usize> {
+pub fn cart_at(operation: &[u8]) -> Option<usize> {
     let number = number(operation);
     (1..=128).contains(&number).then(|| UNIT * (number - 1))
 }
