@@ -8,6 +8,7 @@ mod mistake;
 mod previews;
 mod reads;
 mod setups;
+mod spaces;
 mod studios;
 
 use crate::call::Call;
@@ -18,8 +19,16 @@ use mistake::{Notes, Play};
 use simulator::{Answer, Control};
 
 pub fn all() -> Vec<Mistake> {
-    let groups =
-        [commits::MISTAKES, previews::MISTAKES, studios::MISTAKES, reads::MISTAKES, layouts::MISTAKES, setups::MISTAKES, bounds::MISTAKES];
+    let groups = [
+        commits::MISTAKES,
+        previews::MISTAKES,
+        spaces::MISTAKES,
+        studios::MISTAKES,
+        reads::MISTAKES,
+        layouts::MISTAKES,
+        setups::MISTAKES,
+        bounds::MISTAKES,
+    ];
     groups.concat()
 }
 

@@ -11,6 +11,7 @@ pub const MISTAKES: &[Mistake] = &[
     order_mistake("a waiting read answered from the head end", from_head_end),
     order_mistake("a title matched on its first 32 bytes", title_32),
     order_mistake("a title matched as a beginning", title_beginning),
+    order_mistake("a title matched without the spaces at its ends", title_without_spaces),
     order_mistake("found counts the places asked", found_places),
     order_mistake("found counts each number once", found_once),
     order_mistake("empty carts for every read", empty_carts),
@@ -104,6 +105,10 @@ fn title_beginning(_: &mut Notes, call: &Call, control: Control, lent: &mut Lent
         let end = 16 + usize::from(wanted[1]);
         cart[16..end] == wanted[16..end]
     })
+}
+
+fn title_without_spaces(_: &mut Notes, call: &Call, control: Control, lent: &mut Lent) -> Answer {
+    titles_by(call, control, lent, |cart, wanted| rows::title(cart).trim_ascii() == rows::title(wanted).trim_ascii())
 }
 
 fn title_without_last(_: &mut Notes, call: &Call, control: Control, lent: &mut Lent) -> Answer {
