@@ -20,7 +20,7 @@ use Rattle.journal.specs.Progress.{requestIn}
 use Rattle.lines.specs.declared.parse.Call.{Call}
 use Rattle.calls.specs.Make.{Told, setUp, committed, previewed, moved, looked, shown, unread, nothing, told, Made, made, leaves, outputIn, leavesIn, askLeaves, readLeaves, collectLeaves, lineLeaves}
 
--- the code's case for an answer of 01 that it can give
+-- the code's case for an answer that it can give
 setupBy : Answer → SetupAnswer
 setupBy (refused n) = Setup.Refused n
 setupBy (done n) = Setup.Ready

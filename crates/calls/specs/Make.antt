@@ -17,7 +17,7 @@ use Rattle.journal.specs.Progress.{requestIn}
 use Rattle.report.specs.declared.turn.Came.{Came}
 use Rattle.report.specs.declared.turn.Came.the-variants as Came
 
--- what is told of a line: 01's answer and what its call named (studios; session and how many operations; studio and whether
+-- what is told of a line: the answer and what its call named (studios; session and how many operations; studio and whether
 -- it is a send; session), or that it made no call
 pub data Told : Type 0 where
   setUp : Answer → ℕ → Told
@@ -29,7 +29,7 @@ pub data Told : Type 0 where
   unread : Mistake → ℕ → Told
   nothing : Told
 
--- the code's cases, their answers as 01's; nothing is lost by it (proofs/MakeLaws.antt, `told-once`)
+-- the code's cases, their answers as `Answer`; nothing is lost by it (proofs/MakeLaws.antt, `told-once`)
 abbrev pub told : Came → Told
 told (Came.Setup a studios) = setUp (setupAnswer a) studios
 told (Came.Commit a session operations) = committed (countAnswer a) session operations

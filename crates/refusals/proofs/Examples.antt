@@ -9,8 +9,9 @@ use Rattle.refusals.specs.Refusals.{leadOf, refusalText, noSessionText, 
 
 pub record Refusals : Type 0 where
   refused : refusalText false 9 ≡ bytesOf "  refused (9): every edit has been sent to this studio\n"
-  unnamed : refusalText false 16 ≡ bytesOf "  refused (16): unknown\n"
+  unnamed : refusalText false 17 ≡ bytesOf "  refused (17): unknown\n"
   previewed : refusalText true 4 ≡ bytesOf "  would be refused (4): a read of this session is waiting; collect it first\n"
+  spaced : refusalText true 16 ≡ bytesOf "  would be refused (16): the title begins or ends with a space\n"
   no-session : noSessionText true 17 ≡ bytesOf "  would be refused (3): there is no session 17, or it is unused\n"
   unreadable : unreadableText 3 5 NumberMissing ≡ bytesOf "  line 3, column 5 cannot be read: a number is missing\n"
   operation : atOperationText 2 8 ≡ bytesOf "    it is operation 2 of the commit, on cart 8\n"
@@ -21,6 +22,7 @@ refusals = record {
   refused = refl;
   unnamed = refl;
   previewed = refl;
+  spaced = refl;
   no-session = refl;
   unreadable = refl;
   operation = refl;

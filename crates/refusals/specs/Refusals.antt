@@ -11,7 +11,7 @@ use Rattle.refusals.specs.Sentences.{refusalSentence, mistakeSentence}
 unfoldable pub leadOf : Bool → List ℕ
 leadOf previews = cond previews (bytesOf "  would be ") (bytesOf "  ")
 
--- a refusal, by document 01's number
+-- a refusal, by its number
 unfoldable pub refusalText : Bool → ℕ → List ℕ
 refusalText previews n = leadOf previews ++ numbered "refused (" n ++ bytesOf "): " ++ refusalSentence n ++ bytesOf "\n"
 

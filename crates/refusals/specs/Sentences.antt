@@ -7,7 +7,7 @@ use Rattle.lines.specs.declared.cursor.Mistake.{Mistake}
 use Rattle.lines.specs.declared.cursor.Mistake.the-variants.{None, UnknownWord, UnknownOperation, NumberMissing, NumberTooLarge, ColonMissing, AudioMissing, LengthMissing, TitleMissing, TitleOpen, TitleEmpty, TitleTooLong, TitleUnprintable, TooManyOperations, TooManyNumbers, TooMuch}
 use Rattle.lines.specs.Words.{bytesOf}
 
--- what a refusal means, by document 01's number
+-- what a refusal means, by its number in documents 01 and 02
 unfoldable pub refusalSentence : ℕ → List ℕ
 refusalSentence n =
     cond (eqb n 1) (bytesOf "a memory has another length")
@@ -25,7 +25,8 @@ refusalSentence n =
     (cond (eqb n 13) (bytesOf "the output has no room for the carts asked for")
     (cond (eqb n 14) (bytesOf "no read of this session is waiting")
     (cond (eqb n 15) (bytesOf "a system has 1 to 4 studios, and each session one of them or 0")
-    (bytesOf "unknown")))))))))))))))
+    (cond (eqb n 16) (bytesOf "the title begins or ends with a space")
+    (bytesOf "unknown"))))))))))))))))
 
 -- what is wrong with a line
 abbrev pub mistakeSentence : Mistake → List ℕ

@@ -7,7 +7,7 @@ use lines::cursor::Mistake;
 use lines::text;
 use words::line;
 
-// A refusal by document 01's number, and what it means.
+// A refusal by its number, and what it means.
 fn by_number(previews: bool, row: u32) {
     let mut page = io::buffer();
     let n = refusal::refusal(&mut page, previews, row);

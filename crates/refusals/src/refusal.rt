@@ -71,6 +71,22 @@ fn put_to_15(out: &mut [u8], at: usize, n: u32) -> usize
     )
 }
 
+// What refusal 16 means; 17 to 19 are given to no refusal yet.
+fn put_to_19(out: &mut [u8], at: usize, n: u32) -> usize
+    requires { ⌜ (at + 128 ≤ length (now out)) × (16 ≤ n) × (n < 20) ⌝ }
+    ensures { λ r. ⌜ Put (refusalSentence n) (now (out .entry)) at (now (out .exit)) r × (r ≤ at + 128) ⌝ }
+{
+    page::put_one_of(
+        out,
+        at,
+        n - 16,
+        b"the title begins or ends with a space",
+        b"unknown",
+        b"unknown",
+        b"unknown",
+    )
+}
+
 // What a refusal means.
 fn put_sentence(out: &mut [u8], at: usize, n: u32) -> usize
     requires { ⌜ at + 128 ≤ length (now out) ⌝ }
@@ -88,6 +104,9 @@ fn put_sentence(out: &mut [u8], at: usize, n: u32) -> usize
     if n < 16 {
         return put_to_15(out, at, n);
     }
+    if n < 20 {
+        return put_to_19(out, at, n);
+    }
     page::put(out, at, b"unknown")
 }
 
@@ -102,7 +121,7 @@ fn put_lead(out: &mut [u8], previews: bool) -> usize
     page::put(out, 0, b"  ")
 }
 
-// A refusal by document 01's number, and what it means; it is that of a preview, or of any other call.
+// A refusal by its number, and what it means; it is that of a preview, or of any other call.
 pub fn refusal(out: &mut [u8], previews: bool, n: u32) -> usize
     requires { ⌜ length (now out) ≡ pageSize ⌝ }
     ensures { λ r. ⌜ Told (refusalText previews n) (now (out .entry)) (now (out .exit)) r ⌝ }

@@ -40,17 +40,26 @@ same-length-4 c = search needs
 returns-4 : tie.Need-returns-4
 returns-4 c = search needs
 
+put-to-19-requires : tie.Need-put-to-19-requires
+put-to-19-requires c κs = search needs
+
+same-length-5 : tie.Need-same-length-5
+same-length-5 c = search needs
+
+returns-5 : tie.Need-returns-5
+returns-5 c = search needs
+
 slice-aggregate-put : tie.Need-slice-aggregate-put
 slice-aggregate-put c = search needs
 
 put-requires : tie.Need-put-requires
 put-requires c κs = search needs
 
-same-length-5 : tie.Need-same-length-5
-same-length-5 c = search needs
+same-length-6 : tie.Need-same-length-6
+same-length-6 c = search needs
 
-returns-5 : tie.Need-returns-5
-returns-5 c = let p = c .before .before .put .ensures in let f = p .end in (rw (no-refusal _ (c .before .before .before .before .before .if4 .left)) p, omega arith)
+returns-6 : tie.Need-returns-6
+returns-6 c = let p = c .before .before .put .ensures in let f = p .end in (rw (no-refusal _ (c .before .before .before .before .before .if5 .left)) p, omega arith)
 
 pub put-sentence-spec : {M : Type 1} → statement M
 put-sentence-spec =
@@ -68,7 +77,10 @@ put-sentence-spec =
     put-to-15-requires
     same-length-4
     returns-4
+    put-to-19-requires
+    same-length-5
+    returns-5
     slice-aggregate-put
     put-requires
-    same-length-5
-    returns-5)
+    same-length-6
+    returns-6)
