@@ -1,4 +1,5 @@
--- Laws for the proofs of this crate.
+-- Laws for the proofs of this crate, and worked examples.
+pub mod Examples
 pub mod OrderLaws
 pub mod PlaceLaws
 pub mod ReplayLaws

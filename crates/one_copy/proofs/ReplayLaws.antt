@@ -35,7 +35,7 @@ module _ (copy request shown : List ℕ) (n i : ℕ) where
       rw (a, b, ← e, le-leb n 32 h)
 
 -- one operation more
-pub fault-more : (copy : List ℕ) (byForm : Bool) (ops : List ℕ) (i : ℕ) → firstFault copy byForm ops (i + 1)
-    ≡ cond (eqb (firstFault copy byForm ops i) 0) (cond (allowed copy byForm (partIn ops 0 (80 * (i + 1)))) 0 (i + 1)) (firstFault copy byForm ops i)
+pub fault-more : (copy : List ℕ) (row : ℕ) (ops : List ℕ) (i : ℕ) → firstFault copy row ops (i + 1)
+    ≡ cond (eqb (firstFault copy row ops i) 0) (cond (allowed copy row (partIn ops 0 (80 * (i + 1)))) 0 (i + 1)) (firstFault copy row ops i)
 unfolding firstFault
-fault-more copy byForm ops i = rw add-one
+fault-more copy row ops i = rw add-one

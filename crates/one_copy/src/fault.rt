@@ -9,18 +9,22 @@ ghost use lib.Dec.{eqb};
 ghost use Rattle.carts.specs.Cart.{copySize};
 ghost use Rattle.one_copy.specs.Fault.{allowed, firstFault};
 
-// The operations are of their form; or, where that is not what is asked, each also meets its cart on the copy.
-fn is_allowed(copy: &[u8], ops: &[u8], by_form: bool) -> bool
+// The operations are of their form; for refusal 16 also none has a title that begins or ends with a space, for refusal 8 also
+// each meets its cart on the copy.
+fn is_allowed(copy: &[u8], ops: &[u8], row: u32) -> bool
     requires { ⌜ length (now copy) ≡ copySize ⌝ }
-    ensures { λ r. ⌜ r ≡ allowed (now (copy .entry)) «by_form» (now (ops .entry)) ⌝ }
+    ensures { λ r. ⌜ r ≡ allowed (now (copy .entry)) row (now (ops .entry)) ⌝ }
 {
     if !operation::all_operations(ops) {
         return false;
     }
-    if by_form {
-        return true;
+    if row == 16 {
+        return !operation::any_spaced(ops);
     }
-    operation::meets_all(copy, ops)
+    if row == 8 {
+        return operation::meets_all(copy, ops);
+    }
+    true
 }
 
 // The first fault after one operation more: the one there was, or this one where it is not allowed.
@@ -36,18 +40,18 @@ fn next_fault(first: u32, i: u32, allowed: bool) -> u32
     i
 }
 
-// The first of at most eight operations that is at fault, counted from 1: out of form, or on its cart in the wrong state;
-// 0 where none is.
-pub fn first_fault(copy: &[u8], ops: &[u8], by_form: bool) -> u32
+// The first of at most eight operations that is at fault, by the refusal's number, counted from 1: out of form, with a space at
+// an end of its title, or on its cart in the wrong state; 0 where none is.
+pub fn first_fault(copy: &[u8], ops: &[u8], row: u32) -> u32
     requires { ⌜ length (now copy) ≡ copySize ⌝ }
-    ensures { λ r. ⌜ r ≡ firstFault (now (copy .entry)) «by_form» (now (ops .entry)) 8 ⌝ }
+    ensures { λ r. ⌜ r ≡ firstFault (now (copy .entry)) row (now (ops .entry)) 8 ⌝ }
 {
     let mut first: u32 = 0;
     let mut i: u32 = 0;
     while i < 8 {
         i += 1;
         let prefix = text::part_of(ops, 0, Cart::SIZE * (i as usize));
-        first = next_fault(first, i, is_allowed(copy, prefix, by_form));
+        first = next_fault(first, i, is_allowed(copy, prefix, row));
     }
     first
 }

@@ -70,20 +70,20 @@ pub fn made(
     }
 }
 
-// The first operation that is at fault at the head end.
-fn show_fault(library: &[u8], ops: &[u8], by_form: bool) {
+// The first operation that is at fault at the head end, by the refusal's number.
+fn show_fault(library: &[u8], ops: &[u8], row: u32) {
     let copy = text::part_of(library, 0, Cart::COPY_SIZE);
     if copy.len() != Cart::COPY_SIZE {
         return;
     }
-    refusals::print::at_operation(ops, fault::first_fault(copy, ops, by_form));
+    refusals::print::at_operation(ops, fault::first_fault(copy, ops, row));
 }
 
-// A refused commit or preview: refusals 6 and 8 name the operation.
+// A refused commit or preview: refusals 6, 16 and 8 name the operation.
 fn refused_edit(previews: bool, row: u32, library: &[u8], session: u32, ops: &[u8]) {
     refusals::print::refusal_of_session(previews, row, session);
-    if (row == 6) | (row == 8) {
-        show_fault(library, ops, row == 6);
+    if (row == 6) | (row == 16) | (row == 8) {
+        show_fault(library, ops, row);
     }
 }
 

@@ -7,10 +7,10 @@ use Rattle.one_copy.proofs.fault.first_fault.Statement.{statement}
 use Rattle.one_copy.proofs.fault.first_fault.Tie as tie
 
 abbrev Inv-loop : tie.InvT-loop
-Inv-loop copy ops by-form first₀ i₀ first i = (i ≤ 8) × (first ≡ firstFault copy by-form ops i)
+Inv-loop copy ops row first₀ i₀ first i = (i ≤ 8) × (first ≡ firstFault copy row ops i)
 
 abbrev μ-loop : tie.MeasureT-loop
-μ-loop copy ops by-form first₀ i₀ first i = 8 - i
+μ-loop copy ops row first₀ i₀ first i = 8 - i
 
 loop-holds : tie.Need-loop-holds Inv-loop μ-loop
 unfolding firstFault
