@@ -1,6 +1,6 @@
 /*
- * Tests include/sulyobak_util.h on the engine, as C99 and as C++: what it makes is accepted, what it does not make is left alone, and what
- * it takes apart is what was put in. Ends with 0 if and only if everything held.
+ * Tests include/sulyobak_util.h on the engine, as C99 and as C++: what it makes is accepted (a title with a space at an end apart, which a
+ * commit refuses), what it does not make is left alone, and what it takes apart is what was put in. Ends with 0 if and only if everything held.
  */
 #include "sulyobak_util.h"
 

@@ -81,7 +81,7 @@ pub fn decide_commit(
     stopped_by_operations(control.used, &library[0..Cart::COPY_SIZE], operations)
 }
 
-// Document 01's commit.
+// Document 01's commit, with document 02's row 16 (S-2).
 pub fn commit(
     control: Control,
     library: &mut [u8],

@@ -151,13 +151,13 @@ impl Guide<'_, '_> {
         Ok(())
     }
 
-    /// Studios that have nearly caught up, then aged titles.
+    /// Studios that have nearly caught up, then titles exchanged.
     fn older(&mut self) -> Result<(), Mismatch> {
         let mixed = taste([30, 22, 22, 20, 8, 6], (1, 3), 93);
         self.steps(60, &mixed)?;
         self.steps(80, &taste([2, 45, 45, 5, 3, 0], (1, 1), 95))?;
         self.steps(5, &taste([80, 5, 5, 5, 5, 0], (1, 1), 97))?;
-        if older::age(&mut self.random, &self.maker, &mut self.wall, &mut self.history) {
+        if older::exchange_titles(&mut self.random, &self.maker, &mut self.wall, &mut self.history) {
             self.player.coverage.count((older::NAME, 0, DONE));
         }
         self.steps(300, &mixed)

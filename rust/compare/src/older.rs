@@ -1,5 +1,5 @@
 //! Memory from before 02's S-2. In a list from a fresh system some titles change places with spaced ones, in every copy,
-//! record and request alike, and in the history: an engine without row 16 would have been left so.
+//! record and request alike, and in the history: an engine without row 16 would have left them so.
 
 use crate::lent::Lent;
 use crate::make::{Maker, put_title};
@@ -38,8 +38,8 @@ impl Exchange {
     }
 }
 
-/// Ages a list; says whether the head end and a studio then have the same cart with a spaced title.
-pub fn age(random: &mut Random, maker: &Maker, wall: &mut Wall, history: &mut History) -> bool {
+/// Exchanges titles of a list; says whether the head end and a studio then have the same cart with a spaced title.
+pub fn exchange_titles(random: &mut Random, maker: &Maker, wall: &mut Wall, history: &mut History) -> bool {
     let exchange = Exchange::new(random, maker);
     let Lent { library, log, sessions, .. } = &mut wall.played;
     for part in [library, log] {
