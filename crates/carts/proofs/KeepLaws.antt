@@ -8,15 +8,15 @@ use lib.Dec.{eqb}
 use lib.ListN.{length, getD, take, set, length-set}
 use lib.Seq.{getD-set-same, getD-set-other, drop-set-lt}
 use borrow.Author.Tests.{eq-eqb, eqb-true, eqb-false}
-use Rattle.carts.specs.Bytes.{zeros, byte, u16, part, over, all, every, allZero}
+use Rattle.carts.specs.Bytes.{zeros, byte, u16, part, over, all, allZero}
 use Rattle.carts.specs.Cart.{cartAt, hasTitle, hasAudio, held, heldForm, cartForm, copyForm}
 use Rattle.carts.specs.Operation.{isNew, isRetitle, isRecut, isWithdraw, operationFields, writesTitle, made, retitled, recut, meetsCart, effect, actedOn, act, actAll}
 use Rattle.carts.proofs.CartLaws.{length-cart, cart-held}
-use Rattle.carts.proofs.OperationLaws.{operationTests, length-acted, length-act, length-actAll, fields-cart, Operations}
+use Rattle.carts.proofs.OperationLaws.{operationTests, length-acted, length-actAll, acts-keep, fields-cart, Operations}
 use Rattle.carts.proofs.PartLaws.{length-part, length-over, part-over, over-before, over-after, part-in, byte-in, u16-in, u32-in}
 use Rattle.carts.proofs.EachLaws.{from-one, to-one}
 pub use Rattle.carts.proofs.EachLaws.{record-other}
-use Rattle.carts.proofs.ScanLaws.{and-left, and-right, zero-part, zero-zeros}
+use Rattle.carts.proofs.ScanLaws.{zero-part, zero-zeros}
 use Rattle.carts.proofs.TestLaws.{all-at}
 
 -- the carts of a copy after an operation
@@ -186,14 +186,6 @@ copy-kept copy op l o f e =
     let named = cart-kept op (cartAt copy (u16 op 2)) o (length-cart copy (u16 op 2) l (r .1)) f (copy-cart copy (u16 op 2) e (r .0) (r .1)) in
     copy-of (act copy op) (act-each (λ c (s : List ℕ). cartForm c s ≡ true) copy op l o f named (λ c h k. copy-cart copy c e h k))
 
-pub copy-kept-all : (ops : List (List ℕ)) (copy : List ℕ) → length copy ≡ 10240 → every (λ op. eqb (length op) 80) ops ≡ true → every operationFields ops ≡ true → copyForm copy ≡ true → copyForm (actAll copy ops) ≡ true
-unfolding actAll every
-copy-kept-all [] copy l s f e = e
-copy-kept-all (op ∷ ops) copy l s f e =
-    let o = eqb-true (length op) 80 (and-left (eqb (length op) 80) (every (λ r. eqb (length r) 80) ops) s) in
-    let g = and-left (operationFields op) (every operationFields ops) f in
-    copy-kept-all ops (act copy op) (length-act copy op l o (fields-cart op g .1)) (and-right (eqb (length op) 80) (every (λ r. eqb (length r) 80) ops) s) (and-right (operationFields op) (every operationFields ops) f) (copy-kept copy op l o g e)
-
 -- a copy: its length and its form; operations of their form leave one
 pub record Copy (copy : List ℕ) : Type 0 where
   pub size : length copy ≡ 10240
@@ -201,6 +193,6 @@ pub record Copy (copy : List ℕ) : Type 0 where
 
 pub actAll-copy : (copy : List ℕ) (ops : List (List ℕ)) → Copy copy → Operations ops → Copy (actAll copy ops)
 actAll-copy copy ops h o = record {
-  size = length-actAll ops copy (h .size) (o .sizes) (o .fields);
-  form = copy-kept-all ops copy (h .size) (o .sizes) (o .fields) (h .form);
+  size = length-actAll ops copy (h .size) o;
+  form = acts-keep (λ (s : List ℕ). copyForm s ≡ true) (λ copy op l w e. copy-kept copy op l (w .size) (w .fields) e) ops copy (h .size) o (h .form);
 }

@@ -138,33 +138,11 @@ length-act copy op p q h =
     let c = u16 op 2 in
     length-over copy (80 * (c - 1)) 80 (actedOn op (cartAt copy c)) (omega arith) (length-acted op (cartAt copy c) q (length-cart copy c p h)) ∙ p
 
--- the operations of a transaction: each of 80 bytes and of its fields
-pub length-actAll : (ops : List (List ℕ)) (copy : List ℕ) → length copy ≡ 10240 → every (λ op. eqb (length op) 80) ops ≡ true → every operationFields ops ≡ true → length (actAll copy ops) ≡ 10240
-unfolding actAll every
-length-actAll [] copy p s f = p
-length-actAll (op ∷ ops) copy p s f =
-    let l = eqb-true (length op) 80 (and-left (eqb (length op) 80) (every (λ o. eqb (length o) 80) ops) s) in
-    let c = fields-cart op (and-left (operationFields op) (every operationFields ops) f) in
-    length-actAll ops (act copy op) (length-act copy op p l (c .1)) (and-right (eqb (length op) 80) (every (λ o. eqb (length o) 80) ops) s) (and-right (operationFields op) (every operationFields ops) f)
-
-sized-operations : (bytes : List ℕ) → every (λ op. eqb (length op) 80) (operationsOf bytes) ≡ true
-unfolding operationsOf
-sized-operations bytes = sized-parts 80 (length bytes / 80) bytes (mul-div-le (length bytes) 80)
-
--- operations that are of their form are of their fields
-pub forms-fields : (ops : List (List ℕ)) → every operationForm ops ≡ true → every operationFields ops ≡ true
-unfolding operationForm
-forms-fields ops e = every-implied operationForm operationFields ops (λ op h. all-at 0 (operationFields op ∷ allZero (part op 12 4) ∷ []) h) e
-
--- operations of 80 bytes each, of their fields; those of a commit that are of their form
+-- operations of 80 bytes each, of their fields; the first of them, and the others
 pub record Operations (ops : List (List ℕ)) : Type 0 where
   pub sizes : every (λ op. eqb (length op) 80) ops ≡ true
   pub fields : every operationFields ops ≡ true
 
-pub operations-of : (bytes : List ℕ) → every operationForm (operationsOf bytes) ≡ true → Operations (operationsOf bytes)
-operations-of bytes e = record { sizes = sized-operations bytes; fields = forms-fields (operationsOf bytes) e }
-
--- the first of them, and the others
 pub record Whole (op : List ℕ) : Type 0 where
   pub size : length op ≡ 80
   pub fields : operationFields op ≡ true
@@ -180,3 +158,28 @@ operations-first op ops h =
       record { size = eqb-true _ _ (and-left (sized op) (every sized ops) (h .sizes)); fields = f; low = c .0; high = c .1 },
       record { sizes = and-right (sized op) (every sized ops) (h .sizes); fields = and-right (operationFields op) (every operationFields ops) (h .fields) },
     )
+
+-- what an operation keeps of a copy, a transaction keeps; so its length
+pub acts-keep : (P : List ℕ → Type 0) → ((copy op : List ℕ) → length copy ≡ 10240 → Whole op → P copy → P (act copy op))
+    → (ops : List (List ℕ)) (copy : List ℕ) → length copy ≡ 10240 → Operations ops → P copy → P (actAll copy ops)
+unfolding actAll
+acts-keep P kept [] copy l h p = p
+acts-keep P kept (op ∷ ops) copy l h p =
+    let (o, rest) = operations-first op ops h in
+    acts-keep P kept ops (act copy op) (length-act copy op l (o .size) (o .high)) rest (kept copy op l o p)
+
+pub length-actAll : (ops : List (List ℕ)) (copy : List ℕ) → length copy ≡ 10240 → Operations ops → length (actAll copy ops) ≡ 10240
+length-actAll ops copy l h = acts-keep (λ (s : List ℕ). length s ≡ 10240) (λ copy op l o _. length-act copy op l (o .size) (o .high)) ops copy l h l
+
+sized-operations : (bytes : List ℕ) → every (λ op. eqb (length op) 80) (operationsOf bytes) ≡ true
+unfolding operationsOf
+sized-operations bytes = sized-parts 80 (length bytes / 80) bytes (mul-div-le (length bytes) 80)
+
+-- operations that are of their form are of their fields
+pub forms-fields : (ops : List (List ℕ)) → every operationForm ops ≡ true → every operationFields ops ≡ true
+unfolding operationForm
+forms-fields ops e = every-implied operationForm operationFields ops (λ op h. all-at 0 (operationFields op ∷ allZero (part op 12 4) ∷ []) h) e
+
+-- those of a commit that are of their form
+pub operations-of : (bytes : List ℕ) → every operationForm (operationsOf bytes) ≡ true → Operations (operationsOf bytes)
+operations-of bytes e = record { sizes = sized-operations bytes; fields = forms-fields (operationsOf bytes) e }

@@ -98,5 +98,5 @@ module _ (copy ops : List ℕ) (l : length copy ≡ 10240) (f : every operationF
   unfolding operationsOf
   held-more c low =
       let o = operation-here in
-      let size = length-actAll (parts 80 i ops) copy l (sized-parts 80 i ops (omega arith)) (fields-first i (length ops / 80) ops (omega arith) f) in
+      let size = length-actAll (parts 80 i ops) copy l (record { sizes = sized-parts 80 i ops (omega arith); fields = fields-first i (length ops / 80) ops (omega arith) f }) in
       ap (λ s. held (cartAt s c)) (act-last i copy ops) ∙ act-held (actAll copy (parts 80 i ops)) (take 80 (drop (80 * i) ops)) size (o .0) (o .1 .0) (o .1 .1) c low

@@ -18,7 +18,7 @@ length-replay : (copy : List ℕ) (log : List Transaction) (n : ℕ) → All Ope
 unfolding replay
 length-replay copy log zero f e = e
 length-replay copy [] (suc n) f e = e
-length-replay copy (t ∷ log) (suc n) f e = length-replay (actAll copy t) log n (f .1) (length-actAll t copy e (f .0 .sizes) (f .0 .fields))
+length-replay copy (t ∷ log) (suc n) f e = length-replay (actAll copy t) log n (f .1) (length-actAll t copy e (f .0))
 
 -- a copy that stands for L(n) is a copy's bytes
 pub length-L : (log : List Transaction) (n : ℕ) → All Operations log → length (L log n) ≡ copySize

@@ -108,7 +108,7 @@ unfolding replay
 replay-unspaced copy log zero l f h u = u
 replay-unspaced copy [] (suc n) l f h u = u
 replay-unspaced copy (t ∷ log) (suc n) l f h u =
-    replay-unspaced (actAll copy t) log n (length-actAll t copy l (f .0 .sizes) (f .0 .fields)) (f .1) (h .1) (acts-unspaced t copy l (f .0) (h .0) u)
+    replay-unspaced (actAll copy t) log n (length-actAll t copy l (f .0)) (f .1) (h .1) (acts-unspaced t copy l (f .0) (h .0) u)
 
 pub L-unspaced : (log : List Transaction) (n : ℕ) → All Operations log → All UnspacedOperations log → UnspacedCopy (L log n)
 unfolding L

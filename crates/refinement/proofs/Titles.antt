@@ -23,7 +23,7 @@ use Rattle.replication.specs.Calls as Bytes
 use Rattle.replication.specs.Calls.{After}
 use Rattle.replication.specs.declared.control.Control.{Control}
 use Rattle.replication.proofs.CopyLaws.{length-copyAt, copy-same}
-use Rattle.replication.proofs.RowLaws.{numbered, row-stops, decides, unless-case, none-stops, memory-numbered, right-memory, lengths-are}
+use Rattle.replication.proofs.RowLaws.{numbered, stopped-by, unless-case, none-stops, memory-numbered, right-memory, lengths-are}
 use Rattle.replication.proofs.Accepted.{commit-passed}
 use Rattle.machine.specs.Machine as Plain
 use Rattle.machine.specs.Machine.{Step}
@@ -51,13 +51,9 @@ primary-title c m s bytes op n w accepted =
     let a = commit-passed _ _ _ _ _ _ (rows .1) in
     let ops = operations-of bytes (a .form) in
     let copy = length-copyAt (m .library) size 0 (omega arith) in
-    let same = copy-same (m .library) size 0 (omega arith) _ (length-actAll (operationsOf bytes) _ copy (ops .sizes) (ops .fields)) in
+    let same = copy-same (m .library) size 0 (omega arith) _ (length-actAll (operationsOf bytes) _ copy ops) in
     ap (λ (z : List ℕ). titleIn (cartAt z (u16 op 2))) same ∙ title-written bytes op w _ copy ops (a .meets) .0)
     accepted
-
--- the first row that stops a call, after rows that let it pass
-stopped-by : (before later : List Row) (n : ℕ) (b : Bool) → numbered before ≡ true → stopped before ≡ 0 → b ≡ true → stopped (before ++ (row n b ∷ later)) ≡ n
-stopped-by before later n b k passes e = sym (decides before (row n b ∷ later) 0 n k (sym passes) refl (row-stops n b later e))
 
 -- a commit with a title of another form that rows 1 to 5 let pass, and one with a title that begins or ends with a space that rows 1 to 6 let pass
 module _ (c : Control) (m : Memory) (s : ℕ) (bytes : List ℕ) where

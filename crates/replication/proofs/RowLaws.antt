@@ -62,9 +62,12 @@ none-stops (x ∷ xs) ys k e = go (x .stops) e (none-stops xs ys (and-right (leb
     go true f ih = let l : 1 ≤ x .number = leb-true 1 (x .number) (and-left (leb 1 (x .number)) (numbered xs) k) in absurd (omega arith)
     go false f ih = ih f
 
--- the others decide, where the first pass
+-- the others decide, where the first pass; so the next row, where it stops the call
 pub decides : (xs ys : List Row) (v w : ℕ) → numbered xs ≡ true → v ≡ stopped xs → v ≡ 0 → w ≡ stopped ys → w ≡ stopped (xs ++ ys)
 decides xs ys v w k e z f = f ∙ sym (passes-on xs ys v k e z)
+
+pub stopped-by : (xs later : List Row) (n : ℕ) (b : Bool) → numbered xs ≡ true → stopped xs ≡ 0 → b ≡ true → stopped (xs ++ (row n b ∷ later)) ≡ n
+stopped-by xs later n b k passes e = sym (decides xs (row n b ∷ later) 0 n k (sym passes) refl (row-stops n b later e))
 
 -- a call that a row stops, and one that is accepted
 pub unless-stopped : {A : Type 0} (n : ℕ) (f : ℕ → A) (a : A) → (n ≡ 0 → ⊥) → f n ≡ unless n f a
