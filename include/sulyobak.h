@@ -3,8 +3,9 @@
  *
  * One head end commits edits to its copy of the library and to a log. Up to four studios are sent the committed transactions and apply
  * them, in order, to copies of their own. A session belongs to one studio and reads that studio's copy; a session's read is answered
- * once the copy has reached the session's own last commit, and waits until then. So nobody is handed an old cut that they have just
- * replaced.
+ * once the copy has reached the session's number, and waits until then. The number is that of the session's last commit, or the count of
+ * commits at which the head end refused it one because of a cart's state (8), whichever came later. So nobody is handed an old cut that
+ * they have just replaced, or told that a cart is taken and then shown a copy from before it was.
  *
  * ONE CHAIR IS ONE SESSION. The wait goes by the session's own number, so whoever edits must read in the session that committed. With two
  * sessions in one chair, an edit committed in the first does not raise the second's number: a read in the second is answered at once from
@@ -16,8 +17,9 @@
  * sulyobak_util.h has functions that make operations and requests and take carts and sessions apart.
  *
  * WHAT THE ENGINE LOOKS AFTER. Every byte and every number passed in is tested: any control, any bytes and any argument have their
- * answer. A refused call returns its number and changes no byte of your memory. Every call ends. Each function here is proved to
- * answer, and to leave in memory, exactly what the specification gives (crates/sulyobak/src/lib.rt has the contracts).
+ * answer. A refused call returns its number and changes no byte of your memory, with one exception: a commit refused by 8 raises its
+ * session's number (sulyobak_commit says why). Every call ends. Each function here is proved to answer, and to leave in memory,
+ * exactly what the specification gives (crates/sulyobak/src/lib.rt has the contracts).
  *
  * WHAT REMAINS THE CALLER'S. No library can test these:
  *   - every pointer is valid for as many bytes as its length says, and not null where the length is 0; what is not const is writable;
@@ -43,7 +45,7 @@ extern "C" {
 /* The version of this interface: functions, structs, numbers and layout of memory. sulyobak_control and sulyobak_answer may change
  * with it, so a header and a library go together (compare the macro with sulyobak_version() at the program's start), and control is stored
  * together with the version that wrote it. docs/FORMAT.md says which versions have the same control and layout. */
-#define SULYOBAK_VERSION 3
+#define SULYOBAK_VERSION 4
 
 /* Stack that every call keeps within, in bytes. Measured on a full system, not proved: examples/run runs examples/c/stack.c, which fails
  * where a call takes more. */
@@ -117,7 +119,7 @@ typedef struct {
 } sulyobak_answer;
 
 /* Kinds of answer. */
-#define SULYOBAK_REFUSED 0  /* nothing was done, no byte was changed; value says why */
+#define SULYOBAK_REFUSED 0  /* value says why; nothing was done, no byte was changed (but a session's number, by a commit refused by 8) */
 #define SULYOBAK_DONE 1     /* done; value: the commit's number (of a preview the one it would have), sent, or applied; 0 for setup and layout */
 #define SULYOBAK_ANSWERED 2 /* the read is answered; value: how many transactions the copy had taken; found; carts are in output */
 #define SULYOBAK_WAITS 3    /* the read is kept in the session; value: the number that the studio's copy has to reach first */
@@ -162,13 +164,16 @@ sulyobak_answer sulyobak_setup(uint8_t *library, size_t library_len, uint8_t *lo
  *   control                       as the last call handed it back
  *   session                       whose commit this is, 1 to 16; the session's later reads wait until its studio has taken this commit
  *   operations, operations_len    1 to 8 operations of 80 bytes, one after the other
- * Answers done (value: the commit's number, from 1), or refused 1, 2, 3, 4, 5, 6, 16, 7, 8 (in this order). */
+ * Answers done (value: the commit's number, from 1), or refused 1, 2, 3, 4, 5, 6, 16, 7, 8 (in this order).
+ * Refused by 8, the session has been told of the library at the head end: its number becomes control.commits (bytes 2 and 3 of its 80
+ * bytes, no other byte, and control comes back as it was passed), so its later reads wait until its studio has taken everything that
+ * was committed by then, and show what the refusal spoke of. Every other refusal changes no byte. */
 sulyobak_answer sulyobak_commit(uint8_t *library, size_t library_len, uint8_t *log, size_t log_len, uint8_t *sessions, size_t sessions_len,
                                 sulyobak_control control, uint32_t session, const uint8_t *operations, size_t operations_len);
 
 /* Previews a commit: answers what sulyobak_commit would answer for the same input, and makes no edit. Changes no memory, hands control
- * back as it was passed, and raises no session's number. As long as control and memory stay as they are, the commit gives this
- * answer.
+ * back as it was passed, and raises no session's number, also where it answers 8. As long as control and memory stay as they are, the
+ * commit gives this answer.
  *   control                       as the last call handed it back
  *   session                       whose commit it would be, 1 to 16
  *   operations, operations_len    1 to 8 operations of 80 bytes, one after the other
@@ -191,7 +196,7 @@ sulyobak_answer sulyobak_send(const uint8_t *library, size_t library_len, const 
 sulyobak_answer sulyobak_refresh(uint8_t *library, size_t library_len, const uint8_t *log, size_t log_len,
                                  const uint8_t *sessions, size_t sessions_len, sulyobak_control control, uint32_t studio);
 
-/* Reads carts from the copy of the session's studio, or waits if that copy is behind the session's own last commit.
+/* Reads carts from the copy of the session's studio, or waits if that copy is behind the session's number.
  *   control               as the last call handed it back
  *   session               1 to 16
  *   request, request_len  80 bytes of the form above

@@ -19,7 +19,7 @@ pub struct Words {
 }
 
 impl Words {
-    pub const VERSION: u32 = 3;
+    pub const VERSION: u32 = 4;
 
     pub const REFUSED: u32 = 0;
 
