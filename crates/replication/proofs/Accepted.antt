@@ -1,19 +1,20 @@
--- What is true of an accepted call: one law for each call's rows, over what the rows look at, so that a row more is one field and one place here.
+-- What is true of an accepted call, and of a commit that row 8 stops: one law for each call's rows, over what the rows look at, so that a row more is one
+-- field and one place here.
 use Prim.Native.Nat.{ℕ, _+_, _-_, _≤_}
 use mathlib.Core.Path.{_≡_, refl}
 use mathlib.Core.Bool.{Bool, true, false, not}
 use mathlib.Core.List.{List, [], _∷_}
 use lib.Dec.{eqb, leb, ltb}
 use lib.ListN.{length}
-use borrow.Author.Tests.{eqb-true, eqb-false, ltb-false, not-false}
+use borrow.Author.Tests.{eqb-true, eqb-false, ltb-false, not-true, not-false}
 use Rattle.carts.specs.Bytes.{within, all, every, any}
 use Rattle.carts.specs.Operation.{operationForm, spaced, operationsOf, meetsAll}
 use Rattle.carts.proofs.TestLaws.{all-at}
 use Rattle.replication.specs.Memory.{Memory, lengthsForm}
 use Rattle.replication.specs.Log.{noRoom}
 use Rattle.replication.specs.Request.{Request, nothing, byNumbers, byTitle, requestOf, requestForm, isWaiting, needed}
-use Rattle.replication.specs.Rows.{Row, stopped, lengthsRow, setupRows, setupStop, sessionRow, studioRow, sizeForm, commitRows, sendRows, refreshRows, readRows, collectRows}
-use Rattle.replication.proofs.RowLaws.{passed, none-stops, session-numbered, studio-numbered}
+use Rattle.replication.specs.Rows.{Row, row, stopped, lengthsRow, setupRows, setupStop, sessionRow, studioRow, sizeForm, formRows, commitRows, sendRows, refreshRows, readRows, collectRows}
+use Rattle.replication.proofs.RowLaws.{lacks, passed, later-stops, row-holds, session-numbered, studio-numbered}
 use Rattle.replication.proofs.DecideLaws.{KnownSession, KnownStudio, known-session, known-studio}
 
 -- rows 1 and 15
@@ -34,12 +35,12 @@ setup-passed m studios bytes e =
 -- row 3
 session-passed : (s studio : ℕ) (rs : List Row) → stopped (sessionRow s studio ∷ rs) ≡ 0 → KnownSession s studio × (stopped rs ≡ 0)
 session-passed s studio rs e =
-    let p = none-stops (sessionRow s studio ∷ []) rs (session-numbered s studio) e in
+    let p = later-stops (sessionRow s studio ∷ []) rs 0 (session-numbered s studio) e in
     (known-session s studio (p .0), p .1)
 
 studio-passed : (studios i : ℕ) (rs : List Row) → stopped (studioRow studios i ∷ rs) ≡ 0 → KnownStudio studios i × (stopped rs ≡ 0)
 studio-passed studios i rs e =
-    let p = none-stops (studioRow studios i ∷ []) rs (studio-numbered studios i) e in
+    let p = later-stops (studioRow studios i ∷ []) rs 0 (studio-numbered studios i) e in
     (known-studio studios i (p .0), p .1)
 
 -- row 4
@@ -78,6 +79,20 @@ commit-passed s studio waiting used primary bytes e =
       room = ltb-false _ _ (p7 .0);
       meets = not-false _ (p8 .0);
     }
+
+-- a commit that row 8 stops: an operation meets its cart in the wrong state
+pub record CommitTold (s studio : ℕ) (primary bytes : List ℕ) : Type 0 where
+  pub who : KnownSession s studio
+  pub misses : meetsAll primary (operationsOf bytes) ≡ false
+
+pub commit-told : (s studio : ℕ) (waiting : Request) (used : ℕ) (primary bytes : List ℕ)
+    → stopped (commitRows s studio waiting used primary bytes) ≡ 8 → CommitTold s studio primary bytes
+unfolding commitRows lacks every sessionRow
+commit-told s studio waiting used primary bytes e =
+    let first : List Row = sessionRow s studio ∷ row 4 (isWaiting waiting) ∷ formRows used bytes in
+    let p = later-stops first (row 8 (not (meetsAll primary (operationsOf bytes))) ∷ []) 8 refl e in
+    let q = session-passed s studio (row 4 (isWaiting waiting) ∷ formRows used bytes) (p .0) in
+    record { who = q .0; misses = not-true _ (row-holds 7 _ (p .1)) }
 
 pub record SendAccepted (studios i sent applied commits : ℕ) : Type 0 where
   pub who : KnownStudio studios i

@@ -1,6 +1,6 @@
--- Laws of commit: its rows from 4 on, what is known where no row stops it, and an accepted commit.
+-- Laws of commit: its rows from 4 on, what is known where no row stops it and where row 8 does, and a commit refused and accepted.
 use Prim.Native.Nat.{ℕ, _+_, _/_, _%_, _<_, _≤_}
-use mathlib.Core.Path.{_≡_, sym, ap, _∙_}
+use mathlib.Core.Path.{_≡_, refl, sym, ap, _∙_}
 use mathlib.Core.Bool.{Bool, true, false}
 use mathlib.Core.List.{List, [], _∷_, _++_}
 use native.Mathlib.Omega.{arith}
@@ -12,17 +12,18 @@ use Rattle.carts.specs.Operation.{operationFields, operationForm, spaced, opera
 use Rattle.carts.proofs.TestLaws.{all-at, within-low, within-high}
 use Rattle.carts.proofs.OperationLaws.{forms-fields}
 use Rattle.replication.specs.Answer.{refused, done}
-use Rattle.replication.specs.Memory.{Memory, memory, copyAt, withCopy, sessionAt, withSession, withSequence, studioOf}
+use Rattle.replication.specs.Memory.{Memory, memory, copyAt, withCopy, sessionAt, withNumber, studioOf}
 use Rattle.replication.specs.Log.{noRoom, firstRecord, appended}
 use Rattle.replication.specs.Request.{requestOf, isWaiting}
-use Rattle.replication.specs.Rows.{row, stopped, sizeForm, memoryRows, sessionRow, operationRows, commitRows, commitStop}
+use Rattle.replication.specs.Rows.{row, stopped, sizeForm, lengthsRow, memoryRows, sessionRow, operationRows, commitRows, commitStop}
 use Rattle.replication.specs.Values.{walkable}
-use Rattle.replication.specs.Calls.{after, commit, refusedCommit, committed}
+use Rattle.replication.specs.Calls.{after, commit, toldSessions, refusedCommit, committed}
 use Rattle.replication.specs.declared.control.Control.{Control}
-use Rattle.replication.proofs.RowLaws.{row-stops, row-passes, session-numbered, unless-stopped, unless-accepted}
-use Rattle.replication.proofs.DecideLaws.{by-rest, accepted}
-use Rattle.replication.proofs.Accepted.{commit-passed}
+use Rattle.replication.proofs.RowLaws.{lacks, row-stops, row-passes, session-numbered, unless-stopped, unless-accepted}
+use Rattle.replication.proofs.DecideLaws.{by-rest, by-own-rows, accepted}
+use Rattle.replication.proofs.Accepted.{commit-passed, CommitTold, commit-told}
 use Rattle.replication.proofs.AppendLaws.{length-operations}
+use Rattle.replication.proofs.SessionLaws.{session-placed}
 use Rattle.replication.proofs.Placement.{few-commits, log-walkable}
 use Rattle.replication.proofs.Formed.{Formed}
 
@@ -91,6 +92,11 @@ pub record Known (c : Control) (m : Memory) (s : ℕ) (bytes : List ℕ) : Type 
   pub few : c .commits ≤ 512
   pub walks : walkable (c .commits) (m .log) (firstRecord c) ≡ true
 
+-- what is known where row 8 stops it
+pub stopped-by-8 : (c : Control) (m : Memory) (s : ℕ) (bytes : List ℕ) → commitStop c m s bytes ≡ 8 → Formed c m × CommitTold s (studioOf c s) (copyAt (m .library) 0) bytes
+unfolding commitStop lacks every memoryRows lengthsRow
+stopped-by-8 c m s bytes e = let a = by-own-rows c m _ 8 refl e in (a .0, commit-told _ _ _ _ _ _ (a .1))
+
 -- the new count has two bytes
 pub next-small : (c : Control) (n : ℕ) (next : Control) → next ≡ committed c n → c .commits ≤ 512 → next .commits < 65536
 unfolding committed
@@ -98,9 +104,17 @@ next-small c n next e h = rw e (omega arith)
 
 -- the whole call; v is the number that the rows give
 module _ (c : Control) (m : Memory) (s : ℕ) (bytes : List ℕ) (v : ℕ) (e : v ≡ commitStop c m s bytes) where
-  pub commit-refused : (v ≡ 0 → ⊥) → after (refused v) c m [] ≡ commit c m s bytes
+  -- refused: by row 8 its session has a place and commits have two bytes
+  pub told-known : v ≡ 8 → ((length (m .sessions) ≡ 1280) × ((1 ≤ s) × (s ≤ 16))) × (c .commits < 65536)
+  told-known z =
+      let (f, p) = stopped-by-8 c m s bytes (sym e ∙ z) in
+      let few = few-commits c m f in
+      (session-placed c m s (studioOf c s) f (p .who), omega arith)
+
+  pub commit-refused : (v ≡ 0 → ⊥) → (sessions : List ℕ) → sessions ≡ toldSessions (m .sessions) s (c .commits) v
+      → after (refused v) c (memory (m .library) (m .log) sessions) [] ≡ commit c m s bytes
   unfolding commit refusedCommit
-  commit-refused n = rw e (unless-stopped _ _ _ (λ z. n (e ∙ z)))
+  commit-refused n sessions t = rw (t, e) (unless-stopped _ _ _ (λ z. n (e ∙ z)))
 
   pub commit-known : v ≡ 0 → Known c m s bytes
   unfolding commitStop
@@ -122,7 +136,7 @@ module _ (c : Control) (m : Memory) (s : ℕ) (bytes : List ℕ) (v : ℕ) (e : 
   -- the head end's copy, the log and the sessions as the code leaves them
   pub commit-accepted : v ≡ 0 → (next : Control) → next ≡ committed c (length bytes / 80) → (copy log sessions : List ℕ)
       → copy ≡ actAll (part (m .library) 0 10240) (operationsOf bytes) → log ≡ appended c (m .log) (operationsOf bytes)
-      → sessions ≡ withSession (m .sessions) s (withSequence (next .commits) (sessionAt (m .sessions) s))
+      → sessions ≡ withNumber (m .sessions) s (next .commits)
       → after (done (next .commits)) next (memory (over (m .library) 0 10240 copy) log sessions) [] ≡ commit c m s bytes
   unfolding commit committed copyAt withCopy
   commit-accepted z next q copy log sessions l g t =

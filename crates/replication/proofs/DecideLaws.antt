@@ -11,7 +11,7 @@ use Rattle.carts.proofs.TestLaws.{within-low, within-high}
 use Rattle.replication.specs.Memory.{Memory}
 use Rattle.replication.specs.Rows.{Row, stopped, memoryRows, sessionRow, studioRow}
 use Rattle.replication.specs.declared.control.Control.{Control}
-use Rattle.replication.proofs.RowLaws.{numbered, passed, stops-first, decides, none-stops, right-memory, memory-numbered}
+use Rattle.replication.proofs.RowLaws.{lacks, numbered, passed, stops-first, decides, later-stops, right-memory, memory-numbered}
 use Rattle.replication.proofs.Formed.{Formed, formed}
 
 pub memory-formed : (c : Control) (m : Memory) (v : ℕ) → v ≡ stopped (memoryRows c m) → v ≡ 0 → Formed c m
@@ -32,7 +32,7 @@ module _ (c : Control) (m : Memory) (who : Row) where
   -- where none of the three stops the call
   module _ (v : ℕ) (e : v ≡ stopped FirstRows) (z : v ≡ 0) where
     first-pass : (stopped (memoryRows c m) ≡ 0) × (stopped (who ∷ []) ≡ 0)
-    first-pass = none-stops (memoryRows c m) (who ∷ []) (memory-numbered c m) (sym e ∙ z)
+    first-pass = later-stops (memoryRows c m) (who ∷ []) 0 (memory-numbered c m) (sym e ∙ z)
 
     pub first-formed : Formed c m
     first-formed = memory-formed c m 0 (sym (first-pass .0)) refl
@@ -50,9 +50,12 @@ module _ (c : Control) (m : Memory) (who : Row) (rest : List Row) (k : numbered 
       let p = first-pass c m who v e z in
       decides (memoryRows c m) (who ∷ rest) 0 n (memory-numbered c m) (sym (p .0)) refl (decides (who ∷ []) rest 0 n k (sym (p .1)) refl g)
 
--- a call that no row stops
+-- a call that rows 1 and 2 do not stop: no row stops it, or one of another number
+pub by-own-rows : (c : Control) (m : Memory) (rs : List Row) (v : ℕ) → lacks v (memoryRows c m) ≡ true → stopped (memoryRows c m ++ rs) ≡ v → Formed c m × (stopped rs ≡ v)
+by-own-rows c m rs v k e = let p = later-stops (memoryRows c m) rs v k e in (memory-formed c m 0 (sym (p .0)) refl, p .1)
+
 pub accepted : (c : Control) (m : Memory) (rs : List Row) → stopped (memoryRows c m ++ rs) ≡ 0 → Formed c m × (stopped rs ≡ 0)
-accepted c m rs e = let p = none-stops (memoryRows c m) rs (memory-numbered c m) e in (memory-formed c m 0 (sym (p .0)) refl, p .1)
+accepted c m rs e = by-own-rows c m rs 0 (memory-numbered c m) e
 
 -- who calls, where row 3 does not stop the call
 pub record KnownStudio (studios i : ℕ) : Type 0 where

@@ -8,12 +8,12 @@ use Rattle.carts.specs.Bytes.{zeros, u16, u32, u16Bytes, u16s, within, all, eve
 use Rattle.carts.specs.Cart.{cartAt, printable, titleForm, hasTitle, noTitle, hasAudio, noAudio, held}
 use Rattle.carts.specs.Operation.{operationFields, operationForm, spaced, operationsOf, made, meetsCart, effect, actedOn, meets, act, meetsAll}
 use Rattle.carts.proofs.Samples.{u32Bytes, operation, newCart, withdrawCart, topHourA, news, longTitle}
-use Rattle.replication.specs.Memory.{recordAt, withRecord, sequenceOf, studioOf}
+use Rattle.replication.specs.Memory.{recordAt, withRecord, sessionAt, withSession, sequenceOf, withSequence, studioOf}
 use Rattle.replication.specs.Log.{nextOperation, nextTransaction, chain, recordsOf, walk, logRecords, ownForm, transactionsForm, firstRecord, upFrom, filledUpward, freeRecords, noRoom, front, writeAll, linked, appended}
 use Rattle.replication.specs.Request.{nothing, byNumbers, byTitle, numbersIn, requestOf, numbersForm, requestFields, requestForm, isWaiting, needed}
 use Rattle.replication.specs.Layout.{waitingForm, sessionForm, sessionFormOf, countsForm}
 use Rattle.replication.specs.Rows.{stopped, setupRows, sessionRow, studioRow, sizeForm, commitRows, sendRows, refreshRows, readRows, collectRows}
-use Rattle.replication.specs.Calls.{controlOf, committed, withSent, withApplied}
+use Rattle.replication.specs.Calls.{controlOf, toldSessions, committed, withSent, withApplied}
 use Rattle.replication.specs.declared.control.Control.{Control}
 use Rattle.replication.proofs.Samples.{filled, pairs, askNumbers, askTitle}
 
@@ -185,6 +185,16 @@ requests = record {
   window-32 = refl;
   window-33 = refl;
 }
+
+-- the sessions after a commit of session 2 at 300 commits, 44 + 256, by the row that stopped it: three sessions, every byte 255
+pub record Told : Type 0 where
+  by-8 : toldSessions (replicate 240 255) 2 300 8 ≡ replicate 82 255 ++ (44 ∷ 1 ∷ replicate 156 255)
+  by-7 : toldSessions (replicate 240 255) 2 300 7 ≡ replicate 240 255
+  by-16 : toldSessions (replicate 240 255) 2 300 16 ≡ replicate 240 255
+
+pub told : Told
+unfolding toldSessions sessionAt withSession withSequence u16Bytes
+told = record { by-8 = refl; by-7 = refl; by-16 = refl }
 
 -- a short log of five records: a transaction of two operations, then one of one
 unfoldable start : Control

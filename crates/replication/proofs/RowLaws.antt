@@ -4,9 +4,9 @@ use mathlib.Core.Path.{_≡_, refl, sym, _∙_}
 use mathlib.Core.Bool.{Bool, true, false, cond, not, and-false}
 use mathlib.Core.List.{List, [], _∷_, _++_}
 use native.Mathlib.Omega.{arith}
-use lib.Dec.{leb, eqb}
+use lib.Dec.{eqb}
 use lib.ListN.{length}
-use borrow.Author.Tests.{le-leb, lt-leb, leb-true, eq-eqb, ne-eqb, eqb-true}
+use borrow.Author.Tests.{le-leb, lt-leb, eq-eqb, ne-eqb, eqb-true, eqb-false, not-true}
 use Rattle.carts.specs.Bytes.{within, every}
 use Rattle.replication.specs.Memory.{Memory, lengthsForm}
 use Rattle.replication.specs.Layout.{ofLayout}
@@ -29,9 +29,20 @@ unfolding stopped
 passed n true rs e = absurd (omega arith)
 passed n false rs e = (refl, e)
 
--- every row has a number of its own, not 0
-unfoldable pub numbered : List Row → Bool
-numbered rs = every (λ r. leb 1 (r .number)) rs
+-- no row has the number v; every row has a number of its own, not 0
+unfoldable pub lacks : ℕ → List Row → Bool
+lacks v rs = every (λ r. not (eqb (r .number) v)) rs
+
+abbrev pub numbered : List Row → Bool
+numbered rs = lacks 0 rs
+
+lacks-first : (v : ℕ) (x : Row) (xs : List Row) → lacks v (x ∷ xs) ≡ true → x .number ≡ v → ⊥
+unfolding lacks every
+lacks-first v x xs k = eqb-false (x .number) v (not-true _ (and-left (not (eqb (x .number) v)) (lacks v xs) k))
+
+lacks-rest : (v : ℕ) (x : Row) (xs : List Row) → lacks v (x ∷ xs) ≡ true → lacks v xs ≡ true
+unfolding lacks every
+lacks-rest v x xs k = and-right (not (eqb (x .number) v)) (lacks v xs) k
 
 -- rows before others: they stop the call, or the others decide
 pub stops-first : (xs ys : List Row) (v : ℕ) → v ≡ stopped xs → (v ≡ 0 → ⊥) → v ≡ stopped (xs ++ ys)
@@ -44,23 +55,29 @@ stops-first (x ∷ xs) ys v e n = go (x .stops) e (stops-first xs ys v)
     go false f ih = ih f n
 
 pub passes-on : (xs ys : List Row) (v : ℕ) → numbered xs ≡ true → v ≡ stopped xs → v ≡ 0 → stopped (xs ++ ys) ≡ stopped ys
-unfolding stopped numbered every
+unfolding stopped
 passes-on [] ys v k e z = refl
-passes-on (x ∷ xs) ys v k e z = go (x .stops) e (passes-on xs ys v (and-right (leb 1 (x .number)) (numbered xs) k))
+passes-on (x ∷ xs) ys v k e z = go (x .stops) e (passes-on xs ys v (lacks-rest 0 x xs k))
   where
     go : (b : Bool) → v ≡ cond b (x .number) (stopped xs) → (v ≡ stopped xs → v ≡ 0 → stopped (xs ++ ys) ≡ stopped ys) → cond b (x .number) (stopped (xs ++ ys)) ≡ stopped ys
-    go true f ih = let l : 1 ≤ x .number = leb-true 1 (x .number) (and-left (leb 1 (x .number)) (numbered xs) k) in absurd (omega arith)
+    go true f ih = absurd (lacks-first 0 x xs k (sym f ∙ z))
     go false f ih = ih f z
 
--- none of them stops the call
-pub none-stops : (xs ys : List Row) → numbered xs ≡ true → stopped (xs ++ ys) ≡ 0 → (stopped xs ≡ 0) × (stopped ys ≡ 0)
-unfolding stopped numbered every
-none-stops [] ys k e = (refl, e)
-none-stops (x ∷ xs) ys k e = go (x .stops) e (none-stops xs ys (and-right (leb 1 (x .number)) (numbered xs) k))
+-- the number that stops the call, or 0, is not among the first rows: none of them stops it, and the others give that number
+pub later-stops : (xs ys : List Row) (v : ℕ) → lacks v xs ≡ true → stopped (xs ++ ys) ≡ v → (stopped xs ≡ 0) × (stopped ys ≡ v)
+unfolding stopped
+later-stops [] ys v k e = (refl, e)
+later-stops (x ∷ xs) ys v k e = go (x .stops) e (later-stops xs ys v (lacks-rest v x xs k))
   where
-    go : (b : Bool) → cond b (x .number) (stopped (xs ++ ys)) ≡ 0 → (stopped (xs ++ ys) ≡ 0 → (stopped xs ≡ 0) × (stopped ys ≡ 0)) → (cond b (x .number) (stopped xs) ≡ 0) × (stopped ys ≡ 0)
-    go true f ih = let l : 1 ≤ x .number = leb-true 1 (x .number) (and-left (leb 1 (x .number)) (numbered xs) k) in absurd (omega arith)
+    go : (b : Bool) → cond b (x .number) (stopped (xs ++ ys)) ≡ v → (stopped (xs ++ ys) ≡ v → (stopped xs ≡ 0) × (stopped ys ≡ v)) → (cond b (x .number) (stopped xs) ≡ 0) × (stopped ys ≡ v)
+    go true f ih = absurd (lacks-first v x xs k f)
     go false f ih = ih f
+
+-- a row that stops the call holds
+pub row-holds : (n : ℕ) (b : Bool) → stopped (row (suc n) b ∷ []) ≡ suc n → b ≡ true
+unfolding stopped
+row-holds n true e = refl
+row-holds n false e = absurd (omega arith)
 
 -- the others decide, where the first pass; so the next row, where it stops the call
 pub decides : (xs ys : List Row) (v w : ℕ) → numbered xs ≡ true → v ≡ stopped xs → v ≡ 0 → w ≡ stopped ys → w ≡ stopped (xs ++ ys)
@@ -86,15 +103,15 @@ unless-case P zero f a stops goes = goes refl
 unless-case P (suc n) f a stops goes = stops n refl
 
 pub unless-both : {A B : Type 0} (P : A → B → Type 0) (n : ℕ) (f : ℕ → A) (a : A) (g : ℕ → B) (b : B)
-    → ((k : ℕ) → P (f (suc k)) (g (suc k))) → (n ≡ 0 → P a b) → P (unless n f a) (unless n g b)
+    → ((k : ℕ) → n ≡ suc k → P (f (suc k)) (g (suc k))) → (n ≡ 0 → P a b) → P (unless n f a) (unless n g b)
 unfolding unless
 unless-both P zero f a g b stops goes = goes refl
-unless-both P (suc n) f a g b stops goes = stops n
+unless-both P (suc n) f a g b stops goes = stops n refl
 
 -- rows 1 and 2
 module _ (c : Control) (m : Memory) where
   pub memory-numbered : numbered (memoryRows c m) ≡ true
-  unfolding numbered every memoryRows lengthsRow
+  unfolding lacks every memoryRows lengthsRow
   memory-numbered = refl
 
   pub lengths-wrong : lengthsForm m ≡ false → 1 ≡ stopped (memoryRows c m)
@@ -148,7 +165,7 @@ module _ (s studio : ℕ) where
   session-used h k e = rw (le-leb 1 s h, le-leb s 16 k, ne-eqb studio 0 e)
 
   pub session-numbered : numbered (sessionRow s studio ∷ []) ≡ true
-  unfolding numbered every sessionRow
+  unfolding lacks every sessionRow
   session-numbered = refl
 
 -- row 3 of a studio
@@ -166,5 +183,5 @@ module _ (studios i : ℕ) where
   studio-right h k = rw (le-leb 1 i h, le-leb i studios k)
 
   pub studio-numbered : numbered (studioRow studios i ∷ []) ≡ true
-  unfolding numbered every studioRow
+  unfolding lacks every studioRow
   studio-numbered = refl

@@ -5,11 +5,11 @@ use mathlib.Core.Bool.{cond}
 use mathlib.Core.List.{List, []}
 use Prim.Native.Nat.{ℕ, _+_, _-_}
 use lib.ListN.{length, set}
-use lib.Dec.{leb}
+use lib.Dec.{leb, eqb}
 use Rattle.carts.specs.Bytes.{zeros, over}
 use Rattle.carts.specs.Operation.{operationsOf, actAll}
 use Rattle.replication.specs.Answer.{Answer, refused, done, waits, answered}
-use Rattle.replication.specs.Memory.{Memory, memory, librarySize, sessionsSize, sessionSize, sessionCount, studioCount, copyAt, withCopy, sessionAt, withSession, sequenceOf, withSequence, nth, studioOf}
+use Rattle.replication.specs.Memory.{Memory, memory, librarySize, sessionsSize, sessionSize, sessionCount, studioCount, copyAt, withCopy, sessionAt, withSession, sequenceOf, withSequence, withNumber, nth, studioOf}
 use Rattle.replication.specs.Log.{transactionAt, walk, firstRecord, freshLog, appended}
 use Rattle.replication.specs.Request.{Request, requestOf, needed, foundIn, shownFrom}
 use Rattle.replication.specs.Rows.{unless, setupStop, commitStop, sendStop, refreshStop, readStop, collectStop}
@@ -26,7 +26,7 @@ pub record After : Type 0 where
 abbrev pub after : Answer → Control → Memory → List ℕ → After
 after a c m out = record { answer = a; control = c; memory = m; output = out }
 
--- "The result is the number; control comes back unchanged"; a refused call changes no lent byte
+-- "The result is the number; control comes back unchanged"; a refused call changes no lent byte, commit's 8 apart (`refusedCommit`)
 abbrev pub refusal : Control → Memory → List ℕ → ℕ → After
 refusal c m out n = after (refused n) c m out
 
@@ -57,9 +57,14 @@ setup m studios bytes =
 unfoldable pub committed : Control → ℕ → Control
 committed c n = control (c .studios) (c .«session_studios») (c .used + n) (c .commits + 1) (c .sent) (c .applied)
 
--- what a commit that a row stops leaves, by the row's number
+-- 02, S-3, "told that the cart is taken": "A commit refused with 8 now raises the session's number to commits": the sessions, by the number of
+-- the row that stops the commit
+unfoldable pub toldSessions : List ℕ → ℕ → ℕ → ℕ → List ℕ
+toldSessions sessions s commits n = cond (eqb n 8) (withNumber sessions s commits) sessions
+
+-- what a commit that a row stops leaves: S-3, ".. and changes nothing else. .. Only here does a refusal change a lent byte."
 unfoldable pub refusedCommit : Control → Memory → ℕ → ℕ → After
-refusedCommit c m s n = refusal c m [] n
+refusedCommit c m s n = refusal c (withSessions m (toldSessions (m .sessions) s (c .commits) n)) [] n
 
 -- "Commit (session, 1 to 8 operations): .. all are applied and appended, or none. The commit's number is the new count; the session's
 -- number becomes it. Returns it."
@@ -68,7 +73,7 @@ commit c m s bytes =
     let ops = operationsOf bytes in
     let n = c .commits + 1 in
     let library = withCopy (m .library) 0 (actAll (copyAt (m .library) 0) ops) in
-    let sessions = withSession (m .sessions) s (withSequence n (sessionAt (m .sessions) s)) in
+    let sessions = withNumber (m .sessions) s n in
     unless (commitStop c m s bytes) (refusedCommit c m s) (after (done n) (committed c (length ops)) (memory library (appended c (m .log) ops) sessions) [])
 
 -- 02, S-1, "a preview of commit": "For every input it returns the number or refusal that commit would. It changes nothing that was lent or

@@ -91,6 +91,10 @@ sequenceOf x = u16 x numberAt
 unfoldable pub withSequence : ℕ → List ℕ → List ℕ
 withSequence n x = over x numberAt 2 (u16Bytes n)
 
+-- "the session's number becomes .."
+abbrev pub withNumber : List ℕ → ℕ → ℕ → List ℕ
+withNumber sessions s n = withSession sessions s (withSequence n (sessionAt sessions s))
+
 -- control's entry for session or studio i, counted from 1
 abbrev pub nth : List ℕ → ℕ → ℕ
 nth l i = getD l (i - 1) 0

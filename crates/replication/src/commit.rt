@@ -11,14 +11,14 @@ use carts::cart::Cart;
 use carts::operation;
 ghost use mathlib.Core.Path.{_≡_};
 ghost use mathlib.Core.List.{[]};
-ghost use Prim.Native.Nat.{_≤_};
+ghost use Prim.Native.Nat.{_<_, _≤_};
 ghost use lib.ListN.{length};
 ghost use Rattle.replication.specs.Answer.{countAnswer};
 ghost use Rattle.replication.specs.Memory.{memory, recordCount, sessionsSize, sessionCount, sessionAt};
 ghost use Rattle.carts.specs.Cart.{copySize};
 ghost use Rattle.replication.specs.Request.{requestOf, isWaiting};
 ghost use Rattle.replication.specs.Rows.{stopped, sizeForm, operationRows, commitStop};
-ghost use Rattle.replication.specs.Calls.{after, commit};
+ghost use Rattle.replication.specs.Calls.{after, toldSessions, commit};
 
 // The bytes are those of 1 to 8 operations.
 fn is_size(operations: &[u8]) -> bool
@@ -81,7 +81,18 @@ pub fn decide_commit(
     stopped_by_operations(control.used, &library[0..Cart::COPY_SIZE], operations)
 }
 
-// Document 01's commit, with document 02's row 16 (S-2).
+// What a commit that a row stops leaves of the sessions: by row 8, its session's number is commits.
+fn tell_session(sessions: &mut [u8], session: u32, commits: u32, stopped: u32)
+    requires { ⌜ (stopped ≡ 8 → ((length (now sessions) ≡ sessionsSize) × ((1 ≤ session) × (session ≤ sessionCount))) × (commits < 65536)) ⌝ }
+    ensures { λ _. ⌜ now (sessions .exit) ≡ toldSessions (now (sessions .entry)) session commits stopped ⌝ }
+{
+    if stopped != 8 {
+        return;
+    }
+    session::put_number(sessions, session, commits);
+}
+
+// Document 01's commit, with document 02's row 16 (S-2) and what its refusal 8 leaves (S-3).
 pub fn commit(
     control: Control,
     library: &mut [u8],
@@ -95,6 +106,7 @@ pub fn commit(
 {
     let stopped = decide_commit(control, library, log, sessions, session, operations);
     if stopped != 0 {
+        tell_session(sessions, session, control.commits, stopped);
         return CountResult {
             answer: CountAnswer::Refused(stopped),
             control,

@@ -6,7 +6,7 @@ use carts::cart::Cart;
 ghost use mathlib.Core.Path.{_≡_};
 ghost use Prim.Native.Nat.{_<_, _≤_};
 ghost use lib.ListN.{length};
-ghost use Rattle.replication.specs.Memory.{sessionSize, sessionsSize, sessionCount, sessionAt, withSession, withSequence};
+ghost use Rattle.replication.specs.Memory.{sessionSize, sessionsSize, sessionCount, sessionAt, withSession, withSequence, withNumber};
 ghost use Rattle.replication.specs.Request.{numbersForm, requestFields, requestForm};
 ghost use Rattle.replication.specs.Layout.{waitingForm, sessionFormOf};
 ghost use Rattle.replication.specs.Values.{sessionValue, waitsBy, neededBy};
@@ -188,7 +188,7 @@ pub fn store(sessions: &mut [u8], session: u32, x: &[u8], number: u32)
 pub fn put_number(sessions: &mut [u8], session: u32, number: u32)
     requires { ⌜ (length (now sessions) ≡ sessionsSize) × ((1 ≤ session) × (session ≤ sessionCount)) ⌝ }
     requires { ⌜ number < 65536 ⌝ }
-    ensures { λ _. ⌜ now (sessions .exit) ≡ withSession (now (sessions .entry)) session (withSequence number (sessionAt (now (sessions .entry)) session)) ⌝ }
+    ensures { λ _. ⌜ now (sessions .exit) ≡ withNumber (now (sessions .entry)) session number ⌝ }
 {
     cell::put(sessions, session, Session::NUMBER_AT, number);
 }

@@ -1,13 +1,16 @@
 use native.Mathlib.Omega.{arith}
 use Rattle.carts.proofs.PartLaws.{length-part}
 use Rattle.replication.specs.Memory.{memory}
-use Rattle.replication.proofs.CommitLaws.{Known, commit-refused, commit-known, next-small, commit-accepted}
+use Rattle.replication.proofs.CommitLaws.{Known, told-known, commit-refused, commit-known, next-small, commit-accepted}
 use borrow.Author.Needs.{needs}
 use Rattle.replication.proofs.commit.commit.Statement.{statement}
 use Rattle.replication.proofs.commit.commit.Tie as tie
 
 decide-commit-requires : tie.Need-decide-commit-requires
 decide-commit-requires c κs = search needs
+
+tell-session-requires : tie.Need-tell-session-requires
+tell-session-requires c κs = told-known _ _ _ _ _ (c .before .before .decide-commit .ensures)
 
 same-length : tie.Need-same-length
 same-length c = search needs
@@ -19,7 +22,9 @@ same-length-3 : tie.Need-same-length-3
 same-length-3 c = search needs
 
 returns : tie.Need-returns
-returns c = commit-refused _ _ _ _ _ (c .before .decide-commit .ensures) (c .if1 .taken)
+returns c = let t = c .before .before in
+    let stops = t .before .before in
+    commit-refused _ _ _ _ _ (stops .before .decide-commit .ensures) (stops .if1 .taken) _ (t .tell-session .ensures)
 
 abbrev start : tie.After-decide-commit → tie.Start
 start c = c .before .before .before .before .before .before .before .before
@@ -83,6 +88,7 @@ commit-spec =
     tie.close
     (tie.spec
     decide-commit-requires
+    tell-session-requires
     same-length
     same-length-2
     same-length-3
