@@ -1,10 +1,11 @@
 -- THEOREM B. The entries of every list of calls are a history, from every sound machine that goes on from one: one lemma for each call.
 use Prim.Native.Nat.{ℕ, _+_, _-_, _≤_}
 use native.Mathlib.Omega.{arith}
-use mathlib.Core.Path.{_≡_, refl, subst}
-use mathlib.Core.Bool.{true, false≢true}
+use mathlib.Core.Path.{_≡_, refl, subst, _∙_}
+use mathlib.Core.Bool.{true, false, false≢true}
 use mathlib.Core.List.{List, [], _∷_, _++_, map}
 use lib.ListN.{length, take}
+use borrow.Author.Tests.{ne-eqb}
 use Rattle.carts.specs.Bytes.{over}
 use Rattle.carts.specs.Operation.{operationsOf, meetsAll, actAll}
 use Rattle.carts.specs.Transaction.{Transaction, L, recordsUsed}
@@ -15,33 +16,45 @@ use Rattle.replication.specs.Call as Call
 use Rattle.replication.proofs.RowLaws.{unless-case}
 use Rattle.replication.proofs.ShownLaws.{Askable, length-shown, request-askable}
 use Rattle.replication.proofs.DecideLaws.{KnownSession}
-use Rattle.replication.proofs.Accepted.{commit-passed, read-passed, collect-passed}
-use Rattle.machine.specs.Machine.{Machine, session, Step, step, commits, sessionOf, refusedCommit, commit, preview, send, refresh, answerFrom, block, wait, read, collect, call, run}
-use Rattle.machine.specs.Library.{Reply, request, at, shown, library, serve}
-use Rattle.machine.specs.OneCopy.{Event, event, entry, repliesOf, readEntry, Kind, writes, reads, collects, neither, kindOf, entryOf, waitedAfter, entries}
+use Rattle.replication.proofs.Accepted.{commit-passed, CommitTold, commit-told, read-passed, collect-passed}
+use Rattle.machine.specs.Machine.{Machine, session, Step, step, refusal, commits, sessionOf, withNumber, commit, preview, send, refresh, answerFrom, block, wait, read, collect, call, run}
+use Rattle.machine.specs.Library.{operations, Reply, request, at, refused8, shown, library, serve}
+use Rattle.machine.specs.OneCopy.{Event, event, Counted, counted, entry, commitReplies, readReplies, readEntry, Kind, writes, reads, collects, neither, kindOf, entryOf, waitedAfter, entries}
 use Rattle.machine.proofs.Sort.{length-snoc}
 use Rattle.machine.proofs.History.{History, ended, made, seen}
 use Rattle.machine.proofs.Updates.{put}
-use Rattle.machine.proofs.Cases.{block-case, stateFor}
+use Rattle.machine.proofs.Cases.{refused-case, block-case, stateFor}
 use Rattle.machine.proofs.Libraries.{length-L}
 use Rattle.machine.proofs.Sound.{Sound, applied-commits}
 use Rattle.machine.proofs.Kept.{keeps}
 use Rattle.machine.proofs.Follows.{level, WaitsFor, Follows, appended, refreshed, shown-to, stored-for, left-so}
 
--- the events of a list on the plain machine
+-- the events of a list on the plain machine, and with the commits that each call left
+abbrev pub plainEvent : Call.Turn Step → Event
+plainEvent t = event (t .call) (t .left .answer) (t .left .output)
+
 unfoldable pub plainHistory : Step → List Call.Call → List Event
-plainHistory r H = map (λ t. event (t .call) (t .left .answer) (t .left .output)) (run r H)
+plainHistory r H = map plainEvent (run r H)
+
+unfoldable pub plainCounted : Step → List Call.Call → List Counted
+plainCounted r H = map (λ t. counted (plainEvent t) (commits (t .left .next))) (run r H)
 
 -- the entries of what is left of the list may follow, from every such machine after n commits
 abbrev pub Goes : List Call.Call → Type 0
 Goes H = (r : Step) (n : ℕ) (copies : ℕ → List ℕ) (floor : ℕ → ℕ) (waited : ℕ → Request) (i : ℕ)
-    → commits (r .next) ≡ n → Sound (r .next) → Follows (r .next) copies floor waited → History n copies floor (entries i waited (plainHistory r H))
+    → commits (r .next) ≡ n → Sound (r .next) → Follows (r .next) copies floor waited → History n copies floor (entries i waited (plainCounted r H))
 
 -- what the library of k commits shows
 shows : (copies : ℕ → List ℕ) (k : ℕ) (q : Request)
     → serve (library k (copies k)) (request q) ≡ (at k (shown (foundIn (copies k) q) (shownFrom (copies k) q)), library k (copies k))
 unfolding serve
 shows copies k q = refl
+
+-- and that it refuses operations that meet a cart in the wrong state
+refuses : (copies : ℕ → List ℕ) (k : ℕ) (ops : Transaction) → meetsAll (copies k) ops ≡ false
+    → serve (library k (copies k)) (operations ops) ≡ (at k refused8, library k (copies k))
+unfolding serve
+refuses copies k ops e = rw e
 
 module _ (H : List Call.Call) (go-on : Goes H) (m : Machine) (copies : ℕ → List ℕ) (floor : ℕ → ℕ) (waited : ℕ → Request) (i : ℕ)
     (sound : Sound m) (f : Follows m copies floor waited) where
@@ -51,15 +64,32 @@ module _ (H : List Call.Call) (go-on : Goes H) (m : Machine) (copies : ℕ → L
   -- the entry of a call, before what may follow what it left
   abbrev Fits : Kind → Step → Type 0
   Fits x r = Sound (r .next)
-      → History n copies floor (entryOf i waited x (r .answer) (r .output) ++ entries (i + 1) (waitedAfter waited x (r .answer)) (plainHistory r H))
+      → History n copies floor (entryOf i waited x (commits (r .next)) (r .answer) (r .output) ++ entries (i + 1) (waitedAfter waited x (r .answer)) (plainCounted r H))
 
   -- a call that leaves the machine as it was, and has no entry
-  nothing-new : (a : Answer) (out : List ℕ) → History n copies floor (entries (i + 1) waited (plainHistory (step a m out) H))
+  nothing-new : (a : Answer) (out : List ℕ) → History n copies floor (entries (i + 1) waited (plainCounted (step a m out) H))
   nothing-new a out = go-on (step a m out) n copies floor waited (i + 1) refl sound f
 
+  -- a commit refused with 8 is answered by the library of n commits, and its session has seen it
+  when-told : (s : ℕ) (bytes : List ℕ) (k : ℕ) → k ≡ 8 → CommitTold s (sessionOf m s .studio) (L (m .log) n) bytes → Fits (writes s bytes) (refusal (withNumber m s n) [] k)
+  unfolding entryOf commitReplies waitedAfter
+  when-told s bytes k e a = rw e (λ kept.
+      let ops : Transaction = operationsOf bytes in
+      let misses : meetsAll (copies n) ops ≡ false = rw (f .libraries n (omega arith)) (a .misses) in
+      let low : floor s ≤ n = omega (arith, f .floors s (a .who .low), sound .number-le (s - 1), applied-commits m sound (sessionOf m s .studio - 1)) in
+      let high : n ≤ n = omega arith in
+      seen i s (operations ops) n refused8 (refuses copies n ops misses) low high
+      (go-on _ n copies (put floor s n) waited (i + 1) refl kept
+      (shown-to m copies floor waited f s _ (a .who) (sound .sixteen) n (omega arith) (f .waits-for s (a .who .low)))))
+
+  when-stopped : (s : ℕ) (bytes : List ℕ) (k : ℕ) → (k ≡ 8 → ⊥) → Fits (writes s bytes) (refusal m [] k)
+  unfolding entryOf commitReplies waitedAfter
+  when-stopped s bytes k u kept = rw (ne-eqb k 8 u) (nothing-new _ _)
+
   when-commit : (s : ℕ) (bytes : List ℕ) → Fits (writes s bytes) (commit m s bytes)
-  unfolding commit refusedCommit entryOf repliesOf waitedAfter
-  when-commit s bytes = unless-case (Fits (writes s bytes)) _ _ _ (λ k e kept. nothing-new _ _) (λ e kept.
+  unfolding commit entryOf commitReplies waitedAfter
+  when-commit s bytes = unless-case (Fits (writes s bytes)) _ _ _ (λ k e. refused-case (Fits (writes s bytes)) m s _
+      (λ u. when-told s bytes _ u (commit-told _ _ _ _ _ _ (e ∙ u))) (when-stopped s bytes _)) (λ e kept.
       let a = commit-passed s (sessionOf m s .studio) (sessionOf m s .waiting) (recordsUsed (m .log)) (L (m .log) n) bytes e in
       let ops : Transaction = operationsOf bytes in
       let copies′ : ℕ → List ℕ = put copies (n + 1) (actAll (copies n) ops) in
@@ -86,13 +116,13 @@ module _ (H : List Call.Call) (go-on : Goes H) (m : Machine) (copies : ℕ → L
     -- session s is shown the library of k commits, and its number becomes v: by read, or by collect
     module _ (k v : ℕ) (low : floor s ≤ k) (high : k ≤ n) (top : k ≤ level (m .applied) (session (sessionOf m s .studio) v nothing)) where
       when-shown : (q : Request) (out : List ℕ) → Askable q → let r = answerFrom k v q m s out in
-          Sound (r .next) → History n copies floor (readEntry i s q (r .answer) (r .output) ++ entries (i + 1) waited (plainHistory r H))
-      unfolding answerFrom readEntry repliesOf isWaiting
+          Sound (r .next) → History n copies floor (readEntry i s q (r .answer) (r .output) ++ entries (i + 1) waited (plainCounted r H))
+      unfolding answerFrom readEntry readReplies isWaiting
       when-shown q out askable kept =
           let r : Step = answerFrom k v q m s out in
           let carts : List ℕ = L (m .log) k in
           let written : take (needed q) (over out 0 (needed q) (shownFrom carts q)) ≡ shownFrom carts q = part-over out 0 (needed q) (shownFrom carts q) (omega arith) (length-shown carts q (length-L (m .log) k (sound .formed)) askable) in
-          subst (λ (y : Reply). History n copies floor (entry i s (request q) y ∷ entries (i + 1) waited (plainHistory r H))) (cc (written, f .libraries k high))
+          subst (λ (y : Reply). History n copies floor (entry i s (request q) y ∷ entries (i + 1) waited (plainCounted r H))) (cc (written, f .libraries k high))
           (seen i s (request q) k (shown (foundIn (copies k) q) (shownFrom (copies k) q)) (shows copies k q) low high
           (go-on r n copies (put floor s k) waited (i + 1) refl kept (shown-to m copies floor waited f s _ who (sound .sixteen) k top (λ w. absurd (false≢true w)))))
 
@@ -106,17 +136,17 @@ module _ (H : List Call.Call) (go-on : Goes H) (m : Machine) (copies : ℕ → L
 
     -- session s waits: read stores its request, collect leaves what is stored
     read-waits : (bytes out : List ℕ) → Fits (reads s bytes) (wait m s (requestOf bytes) out)
-    unfolding wait entryOf readEntry repliesOf waitedAfter
+    unfolding wait entryOf readEntry readReplies waitedAfter
     read-waits bytes out kept = go-on _ n copies floor (put waited s (requestOf bytes)) (i + 1) refl kept
         (stored-for m copies floor waited f s _ who (sound .sixteen) (requestOf bytes) (f .floors s (who .low)) (λ w. refl))
 
     collect-waits : (out : List ℕ) → Fits (collects s) (wait m s (waited s) out)
-    unfolding wait entryOf readEntry repliesOf waitedAfter
+    unfolding wait entryOf readEntry readReplies waitedAfter
     collect-waits out kept = go-on _ n copies floor waited (i + 1) refl kept
         (left-so m copies floor waited f s _ who (sound .sixteen) (f .floors s (who .low)) (λ w. refl))
 
   when-read : (s : ℕ) (bytes out : List ℕ) → Fits (reads s bytes) (read m s bytes out)
-  unfolding read entryOf readEntry repliesOf waitedAfter
+  unfolding read entryOf readEntry readReplies waitedAfter
   when-read s bytes out = unless-case (Fits (reads s bytes)) _ _ _ (λ k e kept. nothing-new _ _) (λ e.
       let a = read-passed s (sessionOf m s .studio) (sessionOf m s .waiting) bytes (length out) e in
       block-case m s _ _ out (Fits (reads s bytes))
@@ -124,7 +154,7 @@ module _ (H : List Call.Call) (go-on : Goes H) (m : Machine) (copies : ℕ → L
       (λ u. read-waits s (a .who) bytes out))
 
   when-collect : (s : ℕ) (out : List ℕ) → Fits (collects s) (collect m s out)
-  unfolding collect entryOf readEntry repliesOf waitedAfter
+  unfolding collect entryOf readEntry readReplies waitedAfter
   when-collect s out = unless-case (Fits (collects s)) _ _ _ (λ k e kept. nothing-new _ _) (λ e.
       let a = collect-passed s (sessionOf m s .studio) (sessionOf m s .waiting) (length out) e in
       let asked : waited s ≡ sessionOf m s .waiting = f .waits-for s (a .who .low) (a .waits) in
@@ -143,15 +173,15 @@ module _ (H : List Call.Call) (go-on : Goes H) (m : Machine) (copies : ℕ → L
   goes (Call.collect s out) = when-collect s out
 
 pub all-goes : (H : List Call.Call) → Goes H
-unfolding entries plainHistory Call.run
+unfolding entries plainCounted Call.run
 all-goes [] r n copies floor waited i l sound f = ended
 all-goes (x ∷ H) r n copies floor waited i l sound f =
-    subst (λ (k : ℕ). History k copies floor (entries i waited (plainHistory r (x ∷ H)))) l
+    subst (λ (k : ℕ). History k copies floor (entries i waited (plainCounted r (x ∷ H)))) l
     (goes H (all-goes H) (r .next) copies floor waited i sound f x (keeps (r .next) sound x))
 
 -- a list may begin at any sound machine, with any log, in which each session waits for `waited`
 pub history-from : (r : Step) (waited : ℕ → Request) (i : ℕ) (H : List Call.Call) → Sound (r .next) → ((s : ℕ) → 1 ≤ s → WaitsFor (waited s) (sessionOf (r .next) s))
-    → History (commits (r .next)) (L (r .next .log)) (λ s. 0) (entries i waited (plainHistory r H))
+    → History (commits (r .next)) (L (r .next .log)) (λ s. 0) (entries i waited (plainCounted r H))
 history-from r waited i H sound w = all-goes H r (commits (r .next)) (L (r .next .log)) (λ s. 0) waited i refl sound (record {
   libraries = λ k u. refl;
   floors = λ s u. omega arith;

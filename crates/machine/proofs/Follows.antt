@@ -16,7 +16,7 @@ use Rattle.machine.proofs.Updates.{put, put-case, both-case, set-either
 use Rattle.replication.proofs.DecideLaws.{KnownSession}
 use Rattle.machine.proofs.Libraries.{L-before, L-after}
 
--- what a session can have been shown: its own commits, and what its studio has applied
+-- what a session can have been shown: its number (its own commits, and what a refusal 8 told it of), and what its studio has applied
 abbrev pub level : List ℕ → Session → ℕ
 level applied x = max (x .number) (nth applied (x .studio))
 

@@ -13,9 +13,9 @@ use Rattle.replication.specs.Calls.{numberAfter}
 use Rattle.replication.proofs.RowLaws.{unless-case}
 use Rattle.replication.proofs.ShownLaws.{Askable, request-askable}
 use Rattle.replication.proofs.Accepted.{commit-passed, send-passed, refresh-passed, read-passed}
-use Rattle.machine.specs.Machine.{Machine, Step, commits, sessionOf, refusedCommit, commit, preview, send, refresh, answerFrom, block, wait, read, collect, call, afterCalls}
+use Rattle.machine.specs.Machine.{Machine, Step, commits, sessionOf, commit, preview, send, refresh, answerFrom, block, wait, read, collect, call, afterCalls}
 use Rattle.machine.proofs.Sort.{length-snoc}
-use Rattle.machine.proofs.Cases.{stateFor, block-case}
+use Rattle.machine.proofs.Cases.{refused-case, stateFor, block-case}
 use Rattle.machine.proofs.Sound.{Sound, applied-commits, with-session, with-transaction, with-sent, with-applied}
 
 -- an answered read leaves no number above both the old one and the state that it showed
@@ -28,8 +28,8 @@ module _ (m : Machine) (f : Sound m) where
   Keeps r = Sound (r .next)
 
   keeps-commit : (s : ℕ) (bytes : List ℕ) → Keeps (commit m s bytes)
-  unfolding commit refusedCommit
-  keeps-commit s bytes = unless-case Keeps _ _ _ (λ k e. f) (λ e.
+  unfolding commit
+  keeps-commit s bytes = unless-case Keeps _ _ _ (λ k e. refused-case Keeps m s _ (λ u. with-session m f s _ (omega arith) (f .askable (s - 1))) (λ u. f)) (λ e.
       let a = commit-passed s (sessionOf m s .studio) (sessionOf m s .waiting) (recordsUsed (m .log)) (L (m .log) (commits m)) bytes e in
       with-session _ (with-transaction m f (operationsOf bytes) (operations-of bytes (a .form))) s _
       (rw (length-snoc (m .log) (operationsOf bytes)) (omega (arith, f .number-le (s - 1))))

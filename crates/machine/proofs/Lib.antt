@@ -12,9 +12,11 @@ pub mod Entries
 pub mod OneCopyOrder
 pub mod Grows
 pub mod Shown
+pub mod Told
 pub mod Titles
 pub mod TitleReads
 pub mod Places
 pub mod Table
 pub mod NotEmpty
+pub mod Taken
 pub mod Spaces

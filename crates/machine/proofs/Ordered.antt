@@ -1,5 +1,5 @@
--- THEOREM A. Every history has a one-copy order: its entries by state, each commit before the reads of its state, in the history's own
--- order where that leaves a choice.
+-- THEOREM A. Every history has a one-copy order: its entries by state, each commit before the reads and the refusals of its state, in the
+-- history's own order where that leaves a choice.
 use Prim.Native.Nat.{ℕ, _+_, _≤_}
 use native.Mathlib.Omega.{arith}
 use mathlib.Core.Path.{_≡_, refl, sym, ap, _∙_, subst}

@@ -3,10 +3,12 @@ use Prim.Native.Nat.{ℕ, _+_, _≤_}
 use native.Mathlib.Omega.{arith}
 use native.Mathlib.Nat.{le-trans}
 use mathlib.Core.List.{List, [], _∷_, _++_, map}
+use lib.Dec.{eqb}
+use Rattle.carts.proofs.TestLaws.{by-cond}
 use Rattle.replication.specs.Answer.{Answer, refused, done, waits, answered}
 use Rattle.replication.specs.Request.{Request}
-use Rattle.machine.specs.Library.{Input}
-use Rattle.machine.specs.OneCopy.{Event, Entry, entry, repliesOf, readEntry, Kind, writes, reads, collects, neither, kindOf, entryOf, waitedAfter, entries}
+use Rattle.machine.specs.Library.{Input, Reply}
+use Rattle.machine.specs.OneCopy.{Event, Counted, Entry, entry, commitReplies, readReplies, readEntry, Kind, writes, reads, collects, neither, kindOf, entryOf, waitedAfter, entries}
 
 -- each entry's place is at least i, and higher than the place of the one before it
 abbrev pub RiseFrom : ℕ → List Entry → Type 0
@@ -22,24 +24,32 @@ module _ (i : ℕ) (E : List Entry) (after : RiseFrom (i + 1) E) where
   no-entry : RiseFrom i E
   no-entry = rise-later i (i + 1) E (omega arith) after
 
-  reply-rises : (s : ℕ) (x : Input) (a : Answer) (out : List ℕ) → RiseFrom i (map (entry i s x) (repliesOf a out) ++ E)
-  unfolding repliesOf
-  reply-rises s x (done n) out = (omega arith, after)
-  reply-rises s x (answered state found) out = (omega arith, after)
-  reply-rises s x (refused n) out = no-entry
-  reply-rises s x (waits n) out = no-entry
+  commit-rises : (s : ℕ) (x : Input) (n : ℕ) (a : Answer) → RiseFrom i (map (entry i s x) (commitReplies n a) ++ E)
+  unfolding commitReplies
+  commit-rises s x n (done k) = (omega arith, after)
+  commit-rises s x n (refused k) = by-cond (λ (r : List Reply). RiseFrom i (map (entry i s x) r ++ E)) (eqb k 8) _ _ (λ _. (omega arith, after)) (λ _. no-entry)
+  commit-rises s x n (answered state found) = no-entry
+  commit-rises s x n (waits k) = no-entry
 
-  entry-rises : (waited : ℕ → Request) (x : Kind) (a : Answer) (out : List ℕ) → RiseFrom i (entryOf i waited x a out ++ E)
+  read-rises : (s : ℕ) (x : Input) (out : List ℕ) (a : Answer) → RiseFrom i (map (entry i s x) (readReplies out a) ++ E)
+  unfolding readReplies
+  read-rises s x out (answered state found) = (omega arith, after)
+  read-rises s x out (done n) = no-entry
+  read-rises s x out (refused n) = no-entry
+  read-rises s x out (waits n) = no-entry
+
+  entry-rises : (waited : ℕ → Request) (x : Kind) (n : ℕ) (a : Answer) (out : List ℕ) → RiseFrom i (entryOf i waited x n a out ++ E)
   unfolding entryOf readEntry
-  entry-rises waited (writes s bytes) a out = reply-rises s _ a out
-  entry-rises waited (reads s bytes) a out = reply-rises s _ a _
-  entry-rises waited (collects s) a out = reply-rises s _ a _
-  entry-rises waited neither a out = no-entry
+  entry-rises waited (writes s bytes) n a out = commit-rises s _ n a
+  entry-rises waited (reads s bytes) n a out = read-rises s _ _ a
+  entry-rises waited (collects s) n a out = read-rises s _ _ a
+  entry-rises waited neither n a out = no-entry
 
-pub places-rise : (i : ℕ) (waited : ℕ → Request) (es : List Event) → RiseFrom i (entries i waited es)
+pub places-rise : (i : ℕ) (waited : ℕ → Request) (es : List Counted) → RiseFrom i (entries i waited es)
 unfolding entries
 places-rise i waited [] = tt
 places-rise i waited (e ∷ es) =
-    let kind : Kind = kindOf (e .call) in
-    let next : ℕ → Request = waitedAfter waited kind (e .answer) in
-    entry-rises i (entries (i + 1) next es) (places-rise (i + 1) next es) waited kind (e .answer) (e .output)
+    let x : Event = e .event in
+    let kind : Kind = kindOf (x .call) in
+    let next : ℕ → Request = waitedAfter waited kind (x .answer) in
+    entry-rises i (entries (i + 1) next es) (places-rise (i + 1) next es) waited kind (e .commits) (x .answer) (x .output)

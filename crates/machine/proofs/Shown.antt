@@ -1,4 +1,4 @@
--- An answered read shows the carts of the library of its state.
+-- An answered read shows the carts of the library of its state, which is at least its session's number.
 use Prim.Native.Nat.{ℕ, zero, suc, _+_, _*_, _-_, _≤_, _<_}
 use native.Mathlib.Omega.{arith}
 use mathlib.Core.Path.{_≡_}
@@ -20,12 +20,13 @@ use Rattle.replication.proofs.ShownLaws.{Askable, request-askable}
 use Rattle.replication.proofs.Accepted.{read-passed}
 use Rattle.machine.specs.Machine.{Machine, Step, commits, sessionOf, refusedCommit, commit, preview, send, refresh, answerFrom, block, wait, read, collect, call}
 use Rattle.machine.specs.OneCopy.{kindOf}
-use Rattle.machine.specs.Titles.{askedBy, asked}
+use Rattle.machine.specs.Asked.{askedBy, asked, askerBy, asker}
 use Rattle.machine.proofs.Cases.{stateFor, block-case}
 use Rattle.machine.proofs.Sound.{Sound, applied-commits}
 
 pub record Shown (m : Machine) (x : Call.Call) (k found : ℕ) (out : List ℕ) : Type 0 where
   pub known : k ≤ commits m
+  pub reached : sessionOf m (asker x) .number ≤ k
   pub askable : Askable (asked m x)
   pub count : found ≡ foundIn (L (m .log) k) (asked m x)
   pub rest : List ℕ
@@ -45,21 +46,21 @@ module _ (m : Machine) (f : Sound m) (k found : ℕ) where
   holds-back : {n : ℕ} {A : Type 0} → waits n ≡ answered k found → A
   holds-back e = let z : _≡_ {A = ℕ} 0 1 = cc in absurd (omega arith)
 
-  block-shows : (x : Call.Call) (s : ℕ) (out : List ℕ) → Askable (asked m x) → Shows x (block m s (asked m x) (wait m s (asked m x) out) out)
+  block-shows : (x : Call.Call) (out : List ℕ) → Askable (asked m x) → let s = asker x in Shows x (block m s (asked m x) (wait m s (asked m x) out) out)
   unfolding answerFrom wait
-  block-shows x s out a = block-case m s _ _ out (Shows x) (λ u e.
-      let same : stateFor m s ≡ k = cc in
-      record { known = rw (← same) (applied-commits m f _); askable = a; count = rw (← same) cc; rest = drop (needed (asked m x)) out; output = rw same }) (λ u. holds-back)
+  block-shows x out a = block-case m (asker x) _ _ out (Shows x) (λ u e.
+      let same : stateFor m (asker x) ≡ k = cc in
+      record { known = rw (← same) (applied-commits m f _); reached = rw (← same) u; askable = a; count = rw (← same) cc; rest = drop (needed (asked m x)) out; output = rw same }) (λ u. holds-back)
 
   pub call-shows : (x : Call.Call) → Shows x (call m x)
-  unfolding call commit refusedCommit preview send refresh read collect askedBy kindOf
+  unfolding call commit refusedCommit preview send refresh read collect askedBy askerBy kindOf
   call-shows (Call.commit s bytes) = unless-case (Shows (Call.commit s bytes)) _ _ _ (λ n e. refuses) (λ e. counts)
   call-shows (Call.preview s bytes) = unless-case (λ (r : Step). r .answer ≡ answered k found → Shown m (Call.preview s bytes) k found []) _ _ _ (λ n e. refuses) (λ e. counts)
   call-shows (Call.send i) = unless-case (Shows (Call.send i)) _ _ _ (λ n e. refuses) (λ e. counts)
   call-shows (Call.refresh i) = unless-case (Shows (Call.refresh i)) _ _ _ (λ n e. refuses) (λ e. counts)
   call-shows (Call.read s request out) = unless-case (Shows (Call.read s request out)) _ _ _ (λ n e. refuses) (λ e.
-      block-shows (Call.read s request out) s out (request-askable request (read-passed s (sessionOf m s .studio) (sessionOf m s .waiting) request (length out) e .form)))
-  call-shows (Call.collect s out) = unless-case (Shows (Call.collect s out)) _ _ _ (λ n e. refuses) (λ e. block-shows (Call.collect s out) s out (f .askable (s - 1)))
+      block-shows (Call.read s request out) out (request-askable request (read-passed s (sessionOf m s .studio) (sessionOf m s .waiting) request (length out) e .form)))
+  call-shows (Call.collect s out) = unless-case (Shows (Call.collect s out)) _ _ _ (λ n e. refuses) (λ e. block-shows (Call.collect s out) out (f .askable (s - 1)))
 
 -- place i of a read by numbers
 pub numbers-shown : (copy : List ℕ) (cs rest : List ℕ) (i : ℕ) → length copy ≡ copySize → every (within 1 128) cs ≡ true → i < length cs

@@ -19,7 +19,8 @@ use Rattle.replication.specs.Answer.{answered}
 use Rattle.replication.specs.Request.{byTitle, foundIn, shownFrom}
 use Rattle.replication.specs.Call as Call
 use Rattle.machine.specs.Machine.{Machine, call}
-use Rattle.machine.specs.Titles.{asked, ShowsTheOne}
+use Rattle.machine.specs.Asked.{asked}
+use Rattle.machine.specs.Titles.{ShowsTheOne}
 use Rattle.machine.proofs.Libraries.{length-L}
 use Rattle.machine.proofs.Sound.{Sound}
 use Rattle.machine.proofs.Shown.{call-shows}

@@ -25,7 +25,8 @@ use Rattle.replication.proofs.RowLaws.{unless-case}
 use Rattle.replication.proofs.ShownLaws.{Askable}
 use Rattle.replication.proofs.Accepted.{commit-passed}
 use Rattle.machine.specs.Machine.{Machine, Step, commits, sessionOf, refusedCommit, commit, call}
-use Rattle.machine.specs.Titles.{titleIn, spares, Writes, asked}
+use Rattle.machine.specs.Asked.{asked}
+use Rattle.machine.specs.Titles.{titleIn, spares, Writes}
 use Rattle.machine.proofs.Sort.{All, all-getD, length-snoc}
 use Rattle.machine.proofs.Libraries.{length-L, L-next, L-after}
 use Rattle.machine.proofs.Sound.{Sound}

@@ -1,6 +1,9 @@
--- Document 01, "The plain machine", the single library of "The one-copy order", and the words of demand 2 about titles; the table of twelve.
+-- Document 01, "The plain machine", the single library of "The one-copy order", and the words of demand 2 about titles; the table of twelve, and the
+-- story of document 02's S-3.
 pub mod Machine
 pub mod Library
 pub mod OneCopy
+pub mod Asked
 pub mod Titles
 pub mod Table
+pub mod Taken

@@ -18,7 +18,8 @@ pub data Said : Type 0 where
   refused8 : Said
   shown : ℕ → List ℕ → Said
 
--- "for a commit the number; for a read the state, found and ..": the count that the commit made, or the count of the library that said so
+-- "for a commit the number; for a read the state, found and ..": the count that the commit made, or the count of the library that said so (02,
+-- S-3: "answered by a library of that many commits")
 pub data Reply : Type 0 where
   number : ℕ → Reply
   at : ℕ → Said → Reply

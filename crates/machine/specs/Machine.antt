@@ -3,7 +3,7 @@ use mathlib.Core.Bool.{cond}
 use mathlib.Core.List.{List, [], _∷_, _++_, map}
 use Prim.Native.Nat.{ℕ, _+_, _-_}
 use lib.ListN.{length, getD, set}
-use lib.Dec.{leb}
+use lib.Dec.{leb, eqb}
 use Rattle.carts.specs.Bytes.{zeros, over}
 use Rattle.carts.specs.Operation.{operationsOf}
 use Rattle.carts.specs.Transaction.{Transaction, L, recordsUsed}
@@ -54,6 +54,10 @@ withApplied m i n = machine (m .studios) (m .log) (m .sent) (set (m .applied) (i
 abbrev pub withSession : Machine → ℕ → Session → Machine
 withSession m s x = machine (m .studios) (m .log) (m .sent) (m .applied) (set (m .sessions) (s - 1) x)
 
+-- "the session's number becomes .."
+abbrev pub withNumber : Machine → ℕ → ℕ → Machine
+withNumber m s n = let x = sessionOf m s in withSession m s (session (x .studio) n (x .waiting))
+
 -- what a call answers and leaves, and output after it ([] where none is lent)
 pub record Step : Type 0 where
   pub answer : Answer
@@ -76,9 +80,10 @@ unfoldable pub setup : ℕ → List ℕ → Step
 setup studios bytes =
     unless (stopped (setupRows studios bytes)) (refusal (fresh 0 (zeros sessionCount)) []) (step (done 0) (fresh studios bytes) [])
 
--- what a commit that a row stops leaves, by the row's number
+-- what a commit that a row stops leaves, by the row's number. 02, S-3: "A commit refused with 8 now raises the session's number to commits, and
+-- changes nothing else."
 unfoldable pub refusedCommit : Machine → ℕ → ℕ → Step
-refusedCommit m s n = refusal m [] n
+refusedCommit m s n = refusal (cond (eqb n 8) (withNumber m s (commits m)) m) [] n
 
 -- "Commit (session, 1 to 8 operations): .. all are applied and appended, or none. The commit's number is the new count; the session's
 -- number becomes it. Returns it."
@@ -86,7 +91,7 @@ unfoldable pub commit : Machine → ℕ → List ℕ → Step
 commit m s bytes =
     let x = sessionOf m s in
     let n = commits m + 1 in
-    let left = withSession (withLog m (m .log ++ (operationsOf bytes ∷ []))) s (session (x .studio) n (x .waiting)) in
+    let left = withNumber (withLog m (m .log ++ (operationsOf bytes ∷ []))) s n in
     unless (stopped (commitRows s (x .studio) (x .waiting) (recordsUsed (m .log)) (L (m .log) (commits m)) bytes)) (refusedCommit m s) (step (done n) left [])
 
 -- 02, S-1, "a preview of commit": "For every input it returns the number or refusal that commit would. It changes nothing"

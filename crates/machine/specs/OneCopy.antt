@@ -1,4 +1,4 @@
--- STATEMENT. Document 01, "The one-copy order", sentence by sentence: what demand 3 claims of the calls on bytes.
+-- STATEMENT. Document 01, "The one-copy order", sentence by sentence, with document 02's S-3: what demand 3 claims of the calls on bytes.
 use mathlib.Core.Path.{_≡_}
 use mathlib.Core.Bool.{cond}
 use mathlib.Core.List.{List, [], _∷_, _++_, map, List·Permᴰ}
@@ -9,9 +9,9 @@ use Rattle.carts.specs.Operation.{operationsOf}
 use Rattle.replication.specs.Answer.{Answer, refused, done, waits, answered}
 use Rattle.replication.specs.Memory.{Memory}
 use Rattle.replication.specs.Request.{Request, requestOf, needed}
-use Rattle.replication.specs.Call.{Call, commit, preview, send, refresh, read, collect}
+use Rattle.replication.specs.Call.{Call, Turn, commit, preview, send, refresh, read, collect}
 use Rattle.replication.specs.Calls as Bytes
-use Rattle.machine.specs.Library.{Input, operations, request, Reply, number, at, shown, Library, emptyLibrary, play}
+use Rattle.machine.specs.Library.{Input, operations, request, Reply, number, at, refused8, shown, Library, emptyLibrary, play}
 
 -- a call of H, the answer that it gave, and its output "as they stood when its call ended"
 pub record Event : Type 0 where
@@ -22,9 +22,23 @@ pub record Event : Type 0 where
 abbrev pub event : Call → Answer → List ℕ → Event
 event x a out = record { call = x; answer = a; output = out }
 
--- the events of a list H whose first call is given what r left
+-- the event of a call and what it left; the events of a list H whose first call is given what r left
+abbrev pub eventOf : Turn Bytes.After → Event
+eventOf t = event (t .call) (t .left .answer) (t .left .output)
+
 unfoldable pub history : Bytes.After → List Call → List Event
-history r H = map (λ t. event (t .call) (t .left .answer) (t .left .output)) (Bytes.run r H)
+history r H = map eventOf (Bytes.run r H)
+
+-- an event with the commits of the control that its call handed back: S-3, "that many commits"
+pub record Counted : Type 0 where
+  pub event : Event
+  pub commits : ℕ
+
+abbrev pub counted : Event → ℕ → Counted
+counted e n = record { event = e; commits = n }
+
+unfoldable pub countedHistory : Bytes.After → List Call → List Counted
+countedHistory r H = map (λ t. counted (eventOf t) (t .left .control .commits)) (Bytes.run r H)
 
 -- an entry: its place in H, its session, what the single library is fed, and what H answered
 pub record Entry : Type 0 where
@@ -36,17 +50,25 @@ pub record Entry : Type 0 where
 abbrev pub entry : ℕ → ℕ → Input → Reply → Entry
 entry i s x r = record { place = i; session = s; input = x; reply = r }
 
--- "Its entries are accepted commits (those that return a commit's number) and answered reads (those that return a state and found)", a read
--- with what it showed. "Waits and refusals have no entry."
-unfoldable pub repliesOf : Answer → List ℕ → List Reply
-repliesOf (done n) out = number n ∷ []
-repliesOf (answered state found) out = at state (shown found out) ∷ []
-repliesOf (refused n) out = []
-repliesOf (waits n) out = []
+-- "Its entries are accepted commits (those that return a commit's number)". S-3: "A commit refused with 8 .. becomes an entry of the one-copy order,
+-- answered by a library of that many commits": the library must refuse it with 8 as well, and must have so many. "Waits and [other] refusals have
+-- no entry."
+unfoldable pub commitReplies : ℕ → Answer → List Reply
+commitReplies commits (done n) = number n ∷ []
+commitReplies commits (refused n) = cond (eqb n 8) (at commits refused8 ∷ []) []
+commitReplies commits (answered state found) = []
+commitReplies commits (waits n) = []
+
+-- ".. and answered reads (those that return a state and found)", a read with what it showed. "Waits and refusals have no entry."
+unfoldable pub readReplies : List ℕ → Answer → List Reply
+readReplies out (answered state found) = at state (shown found out) ∷ []
+readReplies out (done n) = []
+readReplies out (refused n) = []
+readReplies out (waits n) = []
 
 -- "for a read the state, found and the first 80 × numbers asked bytes of output (80 for a title)"
 unfoldable pub readEntry : ℕ → ℕ → Request → Answer → List ℕ → List Entry
-readEntry i s q a out = map (entry i s (request q)) (repliesOf a (take (needed q) out))
+readEntry i s q a out = map (entry i s (request q)) (readReplies (take (needed q) out) a)
 
 -- what a call is to the order: a commit or a read, with its session and its bytes; a collect, with its session; or a call that has no entry
 pub data Kind : Type 0 where
@@ -66,11 +88,11 @@ kindOf (collect s lent) = collects s
 
 -- "An entry's session is the one its call names. A read answered by collect belongs to the collect: it stands where the collect stood in H,
 -- and its request is that of the session's latest read call before it that waited": `waited`
-unfoldable pub entryOf : ℕ → (ℕ → Request) → Kind → Answer → List ℕ → List Entry
-entryOf i waited (writes s bytes) a out = map (entry i s (operations (operationsOf bytes))) (repliesOf a out)
-entryOf i waited (reads s bytes) a out = readEntry i s (requestOf bytes) a out
-entryOf i waited (collects s) a out = readEntry i s (waited s) a out
-entryOf i waited neither a out = []
+unfoldable pub entryOf : ℕ → (ℕ → Request) → Kind → ℕ → Answer → List ℕ → List Entry
+entryOf i waited (writes s bytes) commits a out = map (entry i s (operations (operationsOf bytes))) (commitReplies commits a)
+entryOf i waited (reads s bytes) commits a out = readEntry i s (requestOf bytes) a out
+entryOf i waited (collects s) commits a out = readEntry i s (waited s) a out
+entryOf i waited neither commits a out = []
 
 -- for each session the request of its latest read call that waited
 unfoldable pub waitedAfter : (ℕ → Request) → Kind → Answer → ℕ → Request
@@ -83,19 +105,21 @@ waitedAfter waited (collects s) a j = waited j
 waitedAfter waited neither a j = waited j
 
 -- the entries of H from place i on
-unfoldable pub entries : ℕ → (ℕ → Request) → List Event → List Entry
+unfoldable pub entries : ℕ → (ℕ → Request) → List Counted → List Entry
 entries i waited [] = []
 entries i waited (e ∷ es) =
-    let kind = kindOf (e .call) in
-    entryOf i waited kind (e .answer) (e .output) ++ entries (i + 1) (waitedAfter waited kind (e .answer)) es
+    let x = e .event in
+    let kind = kindOf (x .call) in
+    entryOf i waited kind (e .commits) (x .answer) (x .output) ++ entries (i + 1) (waitedAfter waited kind (x .answer)) es
 
 -- the entries of session s, in their order
 unfoldable pub ofSession : ℕ → List Entry → List Entry
 ofSession s [] = []
 ofSession s (e ∷ es) = let rest = ofSession s es in cond (eqb s (e .session)) (e ∷ rest) rest
 
--- "one order that holds each of them exactly once. In it any two of one session stand as they stood in H. A single library .. plays them in
--- that order .. and gives every one exactly the answer it gave in H"
+-- "one order that holds each of them exactly once. In it any two of one session stand as they stood in H": so S-3's "a session's later reads
+-- must stand after it" is `sessions`, since a refused commit is an entry. "A single library .. plays them in that order .. and gives every one
+-- exactly the answer it gave in H", to a refused commit 8 and its count
 pub record OneCopy (start : Library) (E order : List Entry) : Type 0 where
   pub once : List·Permᴰ E order
   pub sessions : (s : ℕ) → ofSession s order ≡ ofSession s E
@@ -107,4 +131,4 @@ abbrev pub Demand3 : Type 0
 Demand3 =
     (before : Memory) (studios : ℕ) (bytes : List ℕ) → Bytes.setup before studios bytes .answer ≡ done 0 →
     (H : List Call) (none : Request) →
-    (order : List Entry) × OneCopy emptyLibrary (entries 0 (λ s. none) (history (Bytes.setup before studios bytes) H)) order
+    (order : List Entry) × OneCopy emptyLibrary (entries 0 (λ s. none) (countedHistory (Bytes.setup before studios bytes) H)) order

@@ -36,9 +36,12 @@ A = new 7 topHourA
 unfoldable pub withdraw7 : List ℕ
 withdraw7 = 4 ∷ 0 ∷ 7 ∷ zeros 77
 
--- the requests: "reads [7]", and "a title read"
+-- the requests: a read of one cart, "reads [7]", and "a title read"
+unfoldable pub cartRead : ℕ → List ℕ
+cartRead c = 1 ∷ 1 ∷ zeros 14 ++ payload (c ∷ [])
+
 unfoldable pub seven : List ℕ
-seven = 1 ∷ 1 ∷ zeros 14 ++ payload (7 ∷ [])
+seven = cartRead 7
 
 unfoldable pub titleRead : List ℕ → List ℕ
 titleRead t = 2 ∷ length t ∷ zeros 14 ++ payload t

@@ -11,10 +11,6 @@ use Rattle.carts.specs.Cart.{cartSize, cartCount, titleSize, titleAt, cartNumbe
 use Rattle.carts.specs.Operation.{writesTitle, operationsOf}
 use Rattle.carts.specs.Transaction.{Transaction}
 use Rattle.carts.specs.Title.{titledIn}
-use Rattle.replication.specs.Request.{Request, nothing, requestOf}
-use Rattle.replication.specs.Call.{Call}
-use Rattle.machine.specs.Machine.{Machine, sessionOf}
-use Rattle.machine.specs.OneCopy.{Kind, writes, reads, collects, neither, kindOf}
 
 -- the title in a cart or an operation: "byte 1 title length"; "16–79 the title"
 abbrev pub titleIn : List ℕ → List ℕ
@@ -31,16 +27,6 @@ pub record Writes (bytes op : List ℕ) : Type 0 where
   pub operations : operationsOf bytes ≡ before ++ (op ∷ later)
   pub last : spares (cartNumber op) later ≡ true
   pub title : writesTitle op ≡ true
-
--- what a call asks for: "Read (session, request)"; "Collect (session): .. the stored request"
-unfoldable pub askedBy : Machine → Kind → Request
-askedBy m (writes s bytes) = nothing
-askedBy m (reads s bytes) = requestOf bytes
-askedBy m (collects s) = sessionOf m s .waiting
-askedBy m neither = nothing
-
-abbrev pub asked : Machine → Call → Request
-asked m x = askedBy m (kindOf x)
 
 -- "By title: .. the one cart if found is 1": of the copy's carts this one alone has the title, letter by letter, and output begins with it
 pub record ShowsTheOne (title copy output : List ℕ) : Type 0 where

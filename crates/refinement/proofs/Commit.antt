@@ -1,7 +1,7 @@
 -- Commit: it keeps the layout, and does what the plain machine's commit does.
 use mathlib.Core.Path.{_≡_, refl, sym, ap, _∙_, subst}
 use mathlib.Core.Logic.{_≢_}
-use mathlib.Core.Bool.{true}
+use mathlib.Core.Bool.{true, cond}
 use mathlib.Core.List.{List, [], _∷_, _++_}
 use Prim.Native.Nat.{ℕ, _+_, _-_, _≤_}
 use native.Mathlib.Omega.{arith}
@@ -11,13 +11,13 @@ use Rattle.carts.specs.Operation.{operationsOf, actAll}
 use Rattle.carts.specs.Transaction.{Transaction, L, recordsUsed}
 use Rattle.carts.proofs.OperationLaws.{Operations, operations-of}
 use Rattle.carts.proofs.KeepLaws.{Copy, actAll-copy}
-use Rattle.replication.specs.Memory.{Memory, copyAt, withCopy, sessionAt, withSession, withSequence, nth, studioOf}
+use Rattle.replication.specs.Memory.{Memory, copyAt, withCopy, sessionAt, withNumber, nth, studioOf}
 use Rattle.replication.specs.Log.{firstRecord, appended}
 use Rattle.replication.specs.Request.{requestOf}
 use Rattle.replication.specs.Layout.{replicaForm}
 use Rattle.replication.specs.Rows.{Row, stopped, commitRows, commitStop}
 use Rattle.replication.specs.Calls as Bytes
-use Rattle.replication.specs.Calls.{After, committed}
+use Rattle.replication.specs.Calls.{After, withSessions, toldSessions, committed}
 use Rattle.replication.specs.declared.control.Control.{Control}
 use Rattle.replication.proofs.CopyLaws.{length-copyAt, length-withCopy, copy-same, copy-other}
 use Rattle.replication.proofs.CommitLaws.{operations-few}
@@ -26,14 +26,15 @@ use Rattle.replication.proofs.Placement.{log-used, committed-log, committed-tra
 use Rattle.replication.proofs.Formed.{Formed, applied-known, counts-more, studio-copy, copy-in-use}
 use Rattle.replication.proofs.RowLaws.{memory-passes, unless-case, unless-both}
 use Rattle.replication.proofs.DecideLaws.{KnownSession}
-use Rattle.replication.proofs.Accepted.{commit-passed}
+use Rattle.replication.proofs.Accepted.{commit-passed, commit-told}
 use Rattle.machine.specs.Machine as Plain
-use Rattle.machine.specs.Machine.{Session, session}
+use Rattle.machine.specs.Machine.{Session, session, Machine}
+use Rattle.machine.proofs.Updates.{eqb-case}
 use Rattle.machine.proofs.Libraries.{L-before, L-after}
 use Rattle.refinement.specs.Represents.{OfLayout, Represents, Simulates}
 use Rattle.refinement.proofs.Transactions.{records-used}
 use Rattle.refinement.proofs.Represented.{machineOf, log-length}
-use Rattle.refinement.proofs.Sessions.{SessionBytes, session-more, own-bytes, length-sessions, sessions-form, sessions-shown, session-of}
+use Rattle.refinement.proofs.Sessions.{SessionBytes, session-more, own-bytes, length-sessions, sessions-form, sessions-shown, session-of, session-formed, session-represents}
 use Rattle.refinement.proofs.Arrays.{Arrays, arrays, formed, of-layout}
 
 -- memory after a commit
@@ -41,7 +42,7 @@ abbrev left : Control → Memory → ℕ → List (List ℕ) → Memory
 left c m s ops = record {
   library = withCopy (m .library) 0 (actAll (copyAt (m .library) 0) ops);
   log = appended c (m .log) ops;
-  sessions = withSession (m .sessions) s (withSequence (c .commits + 1) (sessionAt (m .sessions) s));
+  sessions = withNumber (m .sessions) s (c .commits + 1);
 }
 
 -- a commit that no row stops
@@ -118,11 +119,38 @@ module _ (c : Control) (m : Memory) (s : ℕ) (bytes : List ℕ) where
   rows : List Row
   rows = commitRows s (studioOf c s) (requestOf (sessionAt (m .sessions) s)) (c .used) (copyAt (m .library) 0) bytes
 
+  -- a commit that row 8 stops, or another: its session has the number commits, or is as it was
+  told-keeps : OfLayout c m → (n : ℕ) → stopped rows ≡ n → OfLayout c (withSessions m (toldSessions (m .sessions) s (c .commits) n))
+  unfolding toldSessions rows
+  told-keeps h n e =
+      let f = formed c m h in
+      eqb-case (λ b. OfLayout c (withSessions m (cond b (withNumber (m .sessions) s (c .commits)) (m .sessions)))) n 8
+      (λ u. let w = commit-told _ _ _ _ _ _ (e ∙ u) .who in
+      of-layout _ _ (arrays c m h) (session-formed c m s w (arrays c m h) f (c .commits) _ (own-bytes c (m .sessions) (f .sessions) s w) (omega arith)))
+      (λ u. h)
+
+  told-simulates : (log : List Transaction) (sessions : List Session) → let M = machineOf c log sessions in Represents c m M → (n : ℕ) → stopped rows ≡ n
+      → Simulates (Bytes.refusedCommit c m s n) (Plain.refusedCommit M s n)
+  unfolding Bytes.refusedCommit toldSessions Plain.refusedCommit rows
+  told-simulates log sessions h n e =
+      let M : Machine = machineOf c log sessions in
+      let f = formed c m (h .form) in
+      record {
+        answer = refl;
+        output = refl;
+        next =
+            eqb-case (λ b. Represents c (withSessions m (cond b (withNumber (m .sessions) s (c .commits)) (m .sessions))) (cond b (Plain.withNumber M s (Plain.commits M)) M)) n 8
+            (λ u. let w = commit-told _ _ _ _ _ _ (e ∙ u) .who in
+            rw (session-of c m _ h s, log-length c m _ h)
+            (session-represents c m s w (arrays c m (h .form)) f (c .commits) _ (own-bytes c (m .sessions) (f .sessions) s w) (omega arith) log sessions h))
+            (λ u. h);
+      }
+
   pub commit-keeps : OfLayout c m → OfLayout (Bytes.commit c m s bytes .control) (Bytes.commit c m s bytes .memory)
   unfolding Bytes.commit commitStop Bytes.refusedCommit rows
   commit-keeps h =
       rw (memory-passes c m rows (h .lengths) (h .layout))
-      (unless-case (λ (r : After). OfLayout (r .control) (r .memory)) (stopped rows) _ _ (λ _ _. h)
+      (unless-case (λ (r : After). OfLayout (r .control) (r .memory)) (stopped rows) _ _ (λ _ e. told-keeps h _ e)
       (λ e. let p = commit-passed _ _ _ _ _ _ e in
       let k = operations-few bytes (p .size) in
       let a = arrays c m h in
@@ -133,11 +161,11 @@ module _ (c : Control) (m : Memory) (s : ℕ) (bytes : List ℕ) where
 
   pub commit-simulates : (log : List Transaction) (sessions : List Session) → Represents c m (machineOf c log sessions)
       → Simulates (Bytes.commit c m s bytes) (Plain.commit (machineOf c log sessions) s bytes)
-  unfolding Bytes.commit commitStop Bytes.refusedCommit Plain.commit Plain.refusedCommit rows
+  unfolding Bytes.commit commitStop Plain.commit rows
   commit-simulates log sessions h =
       rw (memory-passes c m rows (h .form .lengths) (h .form .layout), session-of c m _ h s, log-length c m _ h, ← h .primary, used)
       (unless-both Simulates (stopped rows) _ _ _ _
-      (λ _. record { answer = refl; output = refl; next = h })
+      (λ _ e. told-simulates log sessions h _ e)
       (λ e. let p = commit-passed _ _ _ _ _ _ e in
       let k = operations-few bytes (p .size) in
       record {

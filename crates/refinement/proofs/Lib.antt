@@ -14,5 +14,6 @@ pub mod Setup
 pub mod Refused
 -- all calls, and lists of them
 pub mod Simulation
+pub mod Told
 pub mod Titles
 pub mod Theorems

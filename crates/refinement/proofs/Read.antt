@@ -1,64 +1,33 @@
 -- Read and collect: they keep the layout, and do what the plain machine's do.
 use mathlib.Core.Path.{_≡_, refl, sym, ap, _∙_}
 use mathlib.Core.List.{List}
-use Prim.Native.Nat.{ℕ, _-_, _≤_}
+use Prim.Native.Nat.{ℕ, _-_}
 use native.Mathlib.Omega.{arith}
 use lib.Dec.{leb}
-use lib.ListN.{length, set, length-set}
+use lib.ListN.{length, set}
 use lib.Seq.{set-getD}
 use Rattle.carts.specs.Bytes.{zeros, over}
 use Rattle.carts.specs.Transaction.{Transaction, L}
 use Rattle.carts.proofs.TestLaws.{by-cond, cond-both}
 use Rattle.replication.specs.Answer.{answered}
-use Rattle.replication.specs.Memory.{Memory, copyAt, sessionAt, withSession, sequenceOf, withSequence, nth, studioOf}
+use Rattle.replication.specs.Memory.{Memory, copyAt, sessionAt, sequenceOf, nth, studioOf}
 use Rattle.replication.specs.Request.{Request, nothing, requestOf, needed, foundIn, shownFrom}
 use Rattle.replication.specs.Rows.{Row, stopped, readRows, readStop, collectRows, collectStop}
 use Rattle.replication.specs.Calls as Bytes
-use Rattle.replication.specs.Calls.{After, withSessions, numberAfter}
+use Rattle.replication.specs.Calls.{After, numberAfter}
 use Rattle.replication.specs.declared.control.Control.{Control}
 use Rattle.replication.proofs.Formed.{Formed, few, studio-known}
 use Rattle.replication.proofs.RowLaws.{memory-passes, unless-case, unless-both}
 use Rattle.replication.proofs.DecideLaws.{KnownSession}
 use Rattle.replication.proofs.Accepted.{read-passed, collect-passed}
 use Rattle.machine.specs.Machine as Plain
-use Rattle.machine.specs.Machine.{Session, session, Step}
+use Rattle.machine.specs.Machine.{Session, Step}
 use Rattle.refinement.specs.Represents.{OfLayout, Represents, Simulates}
 use Rattle.refinement.proofs.Represented.{machineOf}
-use Rattle.refinement.proofs.Sessions.{SessionBytes, request-bytes, empty-bytes, empty-request, own-bytes, own-sequence, length-sessions, sessions-form, shown, sessions-shown, session-of}
+use Rattle.refinement.proofs.Sessions.{SessionBytes, request-bytes, empty-bytes, empty-request, own-bytes, own-sequence, shown, session-of, session-formed, session-represents}
 use Rattle.refinement.proofs.Arrays.{Arrays, arrays, formed, of-layout}
 
--- memory with other bytes of session s
-abbrev with : Memory → ℕ → ℕ → List ℕ → Memory
-with m s n x = withSessions m (withSession (m .sessions) s (withSequence n x))
-
 module _ (c : Control) (m : Memory) (s : ℕ) (w : KnownSession s (studioOf c s)) (a : Arrays c) (f : Formed c m) where
-  module _ (n : ℕ) (x : List ℕ) (b : SessionBytes x) (l : n ≤ c .commits) where
-    session-formed : Formed c (with m s n x)
-    session-formed = record {
-      control = f .control;
-      library = f .library;
-      log = f .log;
-      sessions = record {
-        size = length-sessions c (m .sessions) (f .sessions .size) s w n x b;
-        forms = sessions-form c (m .sessions) (f .sessions .size) s w n x b l (f .sessions .forms);
-      };
-      counts = f .counts;
-    }
-
-    session-represents : (log : List Transaction) (sessions : List Session) → Represents c m (machineOf c log sessions)
-        → Represents c (with m s n x) (machineOf c log (set sessions (s - 1) (session (studioOf c s) n (requestOf x))))
-    session-represents log sessions h = record {
-      form = of-layout _ _ a session-formed;
-      studios = refl;
-      log = h .log;
-      sent = refl;
-      applied = refl;
-      count = length-set sessions (s - 1) _ ∙ h .count;
-      sessions = sessions-shown c (m .sessions) (f .sessions .size) s w n x b sessions _ (h .count) (h .sessions);
-      primary = h .primary;
-      replicas = h .replicas;
-    }
-
   -- a read or collect that no row stops: answered now, or `behind`
   module _ (q : Request) (x : List ℕ) (b : SessionBytes x) (out : List ℕ) where
     block-keeps : (behind : After) → OfLayout (behind .control) (behind .memory)
@@ -66,7 +35,7 @@ module _ (c : Control) (m : Memory) (s : ℕ) (w : KnownSession s (studioOf c s)
     unfolding Bytes.block Bytes.answerFrom numberAfter
     block-keeps behind h =
         by-cond (λ (r : After). OfLayout (r .control) (r .memory)) (leb (sequenceOf (sessionAt (m .sessions) s)) (nth (c .applied) (studioOf c s))) _ _
-        (λ _. of-layout _ _ a (session-formed _ x b (own-sequence c (m .sessions) (f .sessions) s w))) (λ _. h)
+        (λ _. of-layout _ _ a (session-formed c m s w a f _ x b (own-sequence c (m .sessions) (f .sessions) s w))) (λ _. h)
 
     block-simulates : requestOf x ≡ nothing → (log : List Transaction) (sessions : List Session) → Represents c m (machineOf c log sessions)
         → (behind : After) (waits : Step) → Simulates behind waits
@@ -78,7 +47,7 @@ module _ (c : Control) (m : Memory) (s : ℕ) (w : KnownSession s (studioOf c s)
         (record {
           answer = ap (λ (z : List ℕ). answered (nth (c .applied) (studioOf c s)) (foundIn z q)) copy;
           output = ap (λ (z : List ℕ). over out 0 (needed q) (shownFrom z q)) copy;
-          next = rw (← e) (session-represents _ x b (own-sequence c (m .sessions) (f .sessions) s w) log sessions h);
+          next = rw (← e) (session-represents c m s w a f _ x b (own-sequence c (m .sessions) (f .sessions) s w) log sessions h);
         }) k)
       where
         copy : copyAt (m .library) (studioOf c s) ≡ L log (nth (c .applied) (studioOf c s))
@@ -111,7 +80,7 @@ module _ (c : Control) (m : Memory) (s : ℕ) (request out : List ℕ) where
   read-simulates log sessions h =
       rw (memory-passes c m readRowsOf (h .form .lengths) (h .form .layout), session-of c m _ h s)
       (unless-both Simulates (stopped readRowsOf) _ _ _ _
-      (λ _. record { answer = refl; output = refl; next = h })
+      (λ _ _. record { answer = refl; output = refl; next = h })
       (λ e. let p = read-passed _ _ _ _ _ e in
       block-simulates c m s (p .who) (arrays c m (h .form)) f (requestOf request) _ (own-bytes c (m .sessions) (f .sessions) s (p .who)) out (p .idle) log sessions h _ _
       (record {
@@ -141,7 +110,7 @@ module _ (c : Control) (m : Memory) (s : ℕ) (out : List ℕ) where
   collect-simulates log sessions h =
       rw (memory-passes c m collectRowsOf (h .form .lengths) (h .form .layout), session-of c m _ h s)
       (unless-both Simulates (stopped collectRowsOf) _ _ _ _
-      (λ _. record { answer = refl; output = refl; next = h })
+      (λ _ _. record { answer = refl; output = refl; next = h })
       (λ e. block-simulates c m s (collect-passed _ _ _ _ e .who) (arrays c m (h .form)) (formed c m (h .form)) _ (zeros 80) empty-bytes out empty-request log sessions h _ _
       (record { answer = refl; output = refl; next = rw same h })))
     where

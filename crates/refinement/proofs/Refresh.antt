@@ -132,7 +132,7 @@ module _ (c : Control) (m : Memory) (i : ℕ) where
   refresh-simulates log sessions h =
       rw (memory-passes c m rows (h .form .lengths) (h .form .layout))
       (unless-both Simulates (stopped rows) _ _ _ _
-      (λ _. record { answer = refl; output = refl; next = h })
+      (λ _ _. record { answer = refl; output = refl; next = h })
       (λ e. record { answer = refl; output = refl; next = next (arrays c m (h .form)) (formed c m (h .form)) (refresh-passed _ _ _ _ e) }))
     where
       n : ℕ

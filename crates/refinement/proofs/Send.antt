@@ -75,7 +75,7 @@ module _ (c : Control) (m : Memory) (i : ℕ) where
   send-simulates log sessions h =
       rw (memory-passes c m rows (h .form .lengths) (h .form .layout), log-length c m _ h)
       (unless-both Simulates (stopped rows) _ _ _ _
-      (λ _. record { answer = refl; output = refl; next = h })
+      (λ _ _. record { answer = refl; output = refl; next = h })
       (λ e. record {
         answer = refl;
         output = refl;

@@ -8,9 +8,10 @@ use native.Mathlib.Omega.{arith}
 use native.Mathlib.Decide.{ℕ-discrete, decLe}
 use borrow.Author.Tests.{leb-true, le-leb, eqb-true, ne-eqb}
 use lib.Dec.{leb, eqb}
-use lib.ListN.{length, getD, set, List·getD-eq-default, drop-of-length-le}
+use lib.ListN.{length, getD, set, length-set, List·getD-eq-default, drop-of-length-le}
 use lib.Seq.{getD-set-same, getD-set-other}
 use Rattle.carts.specs.Bytes.{zeros, part, byte, u16, u16Bytes, all, every, allZero}
+use Rattle.carts.specs.Transaction.{Transaction}
 use Rattle.carts.proofs.TestLaws.{all-at, all-set, all-cons, all-nil}
 use Rattle.carts.proofs.PartLaws.{length-over}
 use Rattle.carts.proofs.ZeroLaws.{zero-part}
@@ -19,13 +20,14 @@ use Rattle.carts.proofs.CellLaws.{length-cell, length-cells, cell-same, cell-ot
 use Rattle.replication.specs.Memory.{Memory, sessionAt, withSession, sequenceOf, withSequence, studioOf}
 use Rattle.replication.specs.Request.{nothing, numbersIn, requestOf, numbersForm, requestFields, requestForm}
 use Rattle.replication.specs.Layout.{waitingForm, sessionForm, sessionFormOf}
-use Rattle.replication.specs.Calls.{committed}
+use Rattle.replication.specs.Calls.{committed, withSessions}
 use Rattle.replication.specs.declared.control.Control.{Control}
 use Rattle.replication.proofs.DecideLaws.{KnownSession}
-use Rattle.replication.proofs.Formed.{SessionsFormed}
+use Rattle.replication.proofs.Formed.{SessionsFormed, Formed}
 use Rattle.machine.specs.Machine.{Session, session, Machine, sessionOf}
 use Rattle.refinement.specs.Represents.{Represents}
-use Rattle.refinement.proofs.Arrays.{formed}
+use Rattle.refinement.proofs.Represented.{machineOf}
+use Rattle.refinement.proofs.Arrays.{Arrays, formed, of-layout}
 
 -- 80 bytes of a session in use, but for their sequence number
 pub record SessionBytes (x : List ℕ) : Type 0 where
@@ -132,7 +134,7 @@ module _ (c : Control) (memory : List ℕ) (f : SessionsFormed c memory) (s : �
 
 -- session s replaced
 module _ (c : Control) (memory : List ℕ) (k : length memory ≡ 1280) (s : ℕ) (w : KnownSession s (studioOf c s)) (n : ℕ) (x : List ℕ) (b : SessionBytes x) where
-  same : sessionAt (withSession memory s (withSequence n x)) s ≡ withSequence n x
+  pub same : sessionAt (withSession memory s (withSequence n x)) s ≡ withSequence n x
   unfolding sessionAt withSession
   same = cell-same 16 memory k s (w .low) (w .high) (withSequence n x) (length-withSequence n x (b .size))
 
@@ -185,3 +187,35 @@ session-of c m M h (suc s) = go (decLe (suc s) 16)
         let b : length (c .«session_studios») ≤ suc s - 1 = let n = h .form .sessionStudios in omega arith in
         let d : length (m .sessions) ≤ 80 * (suc s - 1) = let n = f .sessions .size in omega arith in
         rw (List·getD-eq-default (M .sessions) (session 0 0 nothing) a, List·getD-eq-default (c .«session_studios») 0 b, drop-of-length-le (m .sessions) d)
+
+-- memory with other bytes of session s
+abbrev pub with : Memory → ℕ → ℕ → List ℕ → Memory
+with m s n x = withSessions m (withSession (m .sessions) s (withSequence n x))
+
+module _ (c : Control) (m : Memory) (s : ℕ) (w : KnownSession s (studioOf c s)) (a : Arrays c) (f : Formed c m) (n : ℕ) (x : List ℕ) (b : SessionBytes x)
+    (l : n ≤ c .commits) where
+  pub session-formed : Formed c (with m s n x)
+  session-formed = record {
+    control = f .control;
+    library = f .library;
+    log = f .log;
+    sessions = record {
+      size = length-sessions c (m .sessions) (f .sessions .size) s w n x b;
+      forms = sessions-form c (m .sessions) (f .sessions .size) s w n x b l (f .sessions .forms);
+    };
+    counts = f .counts;
+  }
+
+  pub session-represents : (log : List Transaction) (sessions : List Session) → Represents c m (machineOf c log sessions)
+      → Represents c (with m s n x) (machineOf c log (set sessions (s - 1) (session (studioOf c s) n (requestOf x))))
+  session-represents log sessions h = record {
+    form = of-layout _ _ a session-formed;
+    studios = refl;
+    log = h .log;
+    sent = refl;
+    applied = refl;
+    count = length-set sessions (s - 1) _ ∙ h .count;
+    sessions = sessions-shown c (m .sessions) (f .sessions .size) s w n x b sessions _ (h .count) (h .sessions);
+    primary = h .primary;
+    replicas = h .replicas;
+  }

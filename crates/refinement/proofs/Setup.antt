@@ -119,7 +119,7 @@ module _ (before : Memory) (studios : ℕ) (bytes : List ℕ) where
       let same = row-passes 1 (not (lengthsForm before)) (setupRows studios bytes) right in
       rw same
       (unless-both Agrees (stopped (setupRows studios bytes)) _ _ _ _
-      (λ k. (refl, λ e. let z : _≡_ {A = ℕ} 0 1 = cc in absurd (omega arith)))
+      (λ k _. (refl, λ e. let z : _≡_ {A = ℕ} 0 1 = cc in absurd (omega arith)))
       (λ e. (refl, λ _. record { answer = refl; output = refl; next = fresh-represents before studios bytes (setup-passed before studios bytes (same ∙ e)) })))
 
   pub setup-answer : lengthsForm before ≡ true → Bytes.setup before studios bytes .answer ≡ Plain.setup studios bytes .answer

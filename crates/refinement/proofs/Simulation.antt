@@ -1,18 +1,18 @@
 -- Every call keeps the layout and does what the plain machine's call does, and so does every list of calls.
 use mathlib.Core.Path.{_≡_, refl}
-use mathlib.Core.List.{List, [], _∷_, _++_}
+use mathlib.Core.List.{List, [], _∷_, _++_, map}
 use Rattle.carts.specs.Transaction.{Transaction}
 use Rattle.replication.specs.Memory.{Memory}
-use Rattle.replication.specs.Call.{Call, commit, preview, send, refresh, read, collect, run, final}
+use Rattle.replication.specs.Call.{Call, Turn, commit, preview, send, refresh, read, collect, run, final}
 use Rattle.replication.specs.Calls as Bytes
 use Rattle.replication.specs.Calls.{After}
 use Rattle.replication.specs.declared.control.Control.{Control}
 use Rattle.machine.specs.Machine as Plain
 use Rattle.machine.specs.Machine.{Session, Machine, Step}
-use Rattle.machine.specs.OneCopy.{history}
-use Rattle.machine.proofs.Entries.{plainHistory}
+use Rattle.machine.specs.OneCopy.{eventOf, history, countedHistory}
+use Rattle.machine.proofs.Entries.{plainEvent, plainHistory, plainCounted}
 use Rattle.refinement.specs.Represents.{OfLayout, Represents, Simulates}
-use Rattle.refinement.proofs.Represented.{machineOf, by-machine}
+use Rattle.refinement.proofs.Represented.{machineOf, by-machine, log-length}
 use Rattle.refinement.proofs.Send.{send-keeps, send-simulates}
 use Rattle.refinement.proofs.Refresh.{refresh-keeps, refresh-simulates}
 use Rattle.refinement.proofs.Read.{read-keeps, read-simulates, collect-keeps, collect-simulates}
@@ -58,9 +58,20 @@ unfolding history run final
 history-joined [] K r = refl
 history-joined (x ∷ H) K r = cc (history-joined H K (Bytes.call (r .control) (r .memory) x))
 
-pub same-history : (H : List Call) (r : After) (p : Step) → Simulates r p → history r H ≡ plainHistory p H
-unfolding history plainHistory run
-same-history [] r p h = refl
-same-history (x ∷ H) r p h =
+-- what is the same of two turns is the same all along a list
+same-turns : {B : Type 0} (f : Turn After → B) (g : Turn Step → B)
+    → ((x : Call) (r : After) (p : Step) → Simulates r p → f (record { call = x; left = r }) ≡ g (record { call = x; left = p }))
+    → (H : List Call) (r : After) (p : Step) → Simulates r p → map f (Bytes.run r H) ≡ map g (Plain.run p H)
+unfolding run
+same-turns f g same [] r p h = refl
+same-turns f g same (x ∷ H) r p h =
     let s = simulates (r .control) (r .memory) (p .next) (h .next) x in
-    cc (s .answer, s .output, same-history H _ _ s)
+    cc (same x _ _ s, same-turns f g same H _ _ s)
+
+pub same-history : (H : List Call) (r : After) (p : Step) → Simulates r p → history r H ≡ plainHistory p H
+unfolding history plainHistory
+same-history = same-turns eventOf plainEvent (λ x r p s. cc (s .answer, s .output))
+
+pub same-counted : (H : List Call) (r : After) (p : Step) → Simulates r p → countedHistory r H ≡ plainCounted p H
+unfolding countedHistory plainCounted
+same-counted = same-turns _ _ (λ x r p s. cc (s .answer, s .output, log-length _ _ _ (s .next)))

@@ -9,20 +9,21 @@ use Rattle.carts.specs.Bytes.{zeros, part, u16, every}
 use Rattle.carts.specs.Cart.{cartAt, hasTitle}
 use Rattle.carts.specs.Operation.{operationForm, writesTitle, spaced, operationsOf}
 use Rattle.carts.specs.Transaction.{L}
-use Rattle.replication.specs.Answer.{refused, done, answered}
-use Rattle.replication.specs.Memory.{Memory, lengthsForm, copyAt, sessionAt, nth, studioOf}
+use Rattle.replication.specs.Answer.{refused, done, waits, answered}
+use Rattle.replication.specs.Memory.{Memory, lengthsForm, copyAt, sessionAt, sequenceOf, withNumber, nth, studioOf}
 use Rattle.replication.specs.Log.{firstRecord}
 use Rattle.replication.specs.Request.{byNumbers, byTitle, requestOf, isWaiting}
-use Rattle.replication.specs.Rows.{row, stopped, memoryRows, sessionRow, sizeForm}
+use Rattle.replication.specs.Rows.{row, stopped, memoryRows, sessionRow, sizeForm, readStop}
 use Rattle.replication.specs.Call as Call
 use Rattle.replication.specs.Call.{Call}
 use Rattle.replication.specs.Calls as Bytes
-use Rattle.replication.specs.Calls.{After, after, controlOf, setup, afterCalls}
+use Rattle.replication.specs.Calls.{After, after, withSessions, controlOf, setup, afterCalls}
 use Rattle.replication.specs.declared.control.Control.{Control}
 use Rattle.machine.specs.Machine as Plain
 use Rattle.machine.specs.Machine.{Machine, Step}
 use Rattle.machine.specs.OneCopy.{event, history, Demand3}
-use Rattle.machine.specs.Titles.{titleIn, spares, Writes, asked, ShowsTheOne}
+use Rattle.machine.specs.Asked.{asked, asker}
+use Rattle.machine.specs.Titles.{titleIn, spares, Writes, ShowsTheOne}
 use Rattle.machine.proofs.Sound.{setup-sound}
 use Rattle.machine.proofs.Spaces.{setup-unspaced, after-unspaced}
 use Rattle.machine.proofs.Kept.{after-sound}
@@ -30,6 +31,8 @@ use Rattle.machine.proofs.Entries.{plainHistory}
 use Rattle.machine.proofs.OneCopyOrder.{one-copy}
 use Rattle.machine.specs.Table.{studioBytes, cases2to10, callsOf, Table}
 use Rattle.machine.proofs.Table.{start, started, table}
+use Rattle.machine.specs.Taken.{taking}
+use Rattle.machine.proofs.Taken as Taken
 use Rattle.replication.specs.Log.{transactionsFrom}
 use Rattle.refinement.specs.Represents.{OfLayout, Represents, Simulates}
 use Rattle.refinement.specs.Lent.{lent}
@@ -38,6 +41,7 @@ use Rattle.refinement.proofs.Setup as Setup
 use Rattle.refinement.proofs.Refused as Refused
 use Rattle.refinement.proofs.Preview as Preview
 use Rattle.refinement.proofs.Simulation as Simulation
+use Rattle.refinement.proofs.Told as Told
 use Rattle.refinement.proofs.Titles as Titles
 
 -- LAYOUT. Every call, accepted, waiting or refused, keeps the layout, from any control and memory of it, also where a copy is no L(n); so does every list.
@@ -53,10 +57,16 @@ pub simulates : (c : Control) (m : Memory) (M : Machine) → Represents c m M �
 simulates = Simulation.simulates
 
 -- REFUSALS. From any control and memory, also not of the layout, a refused call hands back control as it was passed and leaves every lent byte as it
--- was. A refused setup hands back the all-zero control.
+-- was, unless it is a commit refused with 8. A refused setup hands back the all-zero control.
 pub refused-changes-nothing : (n : ℕ) (c : Control) (m : Memory) (x : Call) → Bytes.call c m x .answer ≡ refused n
-    → Bytes.call c m x ≡ after (refused n) c m (lent x)
+    → ((s : ℕ) (bytes : List ℕ) → x ≡ Call.commit s bytes → n ≡ 8 → ⊥) → Bytes.call c m x ≡ after (refused n) c m (lent x)
 refused-changes-nothing = Refused.call-refused
+
+-- 02, S-3. A commit refused with 8 hands back control as it was passed, and leaves its session with the number commits and every other lent byte as it was.
+pub told-leaves : (c : Control) (m : Memory) (s : ℕ) (bytes : List ℕ) → Bytes.call c m (Call.commit s bytes) .answer ≡ refused 8
+    → Bytes.call c m (Call.commit s bytes) ≡ after (refused 8) c (withSessions m (withNumber (m .sessions) s (c .commits))) (lent (Call.commit s bytes))
+unfolding Bytes.call lent
+told-leaves = Refused.told-leaves
 
 pub refused-setup : (n : ℕ) (before : Memory) (studios : ℕ) (bytes : List ℕ) → setup before studios bytes .answer ≡ refused n
     → setup before studios bytes ≡ after (refused n) (controlOf 0 (zeros 16)) before []
@@ -83,6 +93,21 @@ module _ (r : After) (H K : List Call) (s : ℕ) (bytes : List ℕ) where
   pub preview-leaves : (afterCalls r (H ++ (Call.preview s bytes ∷ K)) .control ≡ afterCalls r (H ++ K) .control)
       × (afterCalls r (H ++ (Call.preview s bytes ∷ K)) .memory ≡ afterCalls r (H ++ K) .memory)
   preview-leaves = Preview.preview-leaves s bytes K H r
+
+-- TOLD (02, S-3). From any control and memory, after a commit refused with 8: its session's number is commits; a read of the session straight afterwards that
+-- no row stops waits for them, where its studio has not applied so many.
+module _ (c : Control) (m : Memory) (s : ℕ) (bytes : List ℕ) (told : Bytes.call c m (Call.commit s bytes) .answer ≡ refused 8) where
+  abbrev toldMemory : Memory
+  toldMemory = Bytes.call c m (Call.commit s bytes) .memory
+
+  pub told-number : sequenceOf (sessionAt (toldMemory .sessions) s) ≡ c .commits
+  unfolding Bytes.call
+  told-number = Told.told-number c m s bytes told
+
+  pub told-waits : (request out : List ℕ) → nth (c .applied) (studioOf c s) < c .commits → readStop c toldMemory s request (length out) ≡ 0
+      → Bytes.call c toldMemory (Call.read s request out) .answer ≡ waits (c .commits)
+  unfolding Bytes.call
+  told-waits = Told.told-waits c m s bytes told
 
 -- TITLES. "A title is kept whole or refused." From any control and memory, an accepted commit whose last operation on a cart is a new or a retitle
 -- leaves that title in the head end's copy: its length and its 64 bytes.
@@ -145,6 +170,13 @@ module _ (before : Memory) (studios : ℕ) (bytes : List ℕ) where
       pub commits : Plain.commits (plain .next) ≡ left .control .commits
       commits = log-length _ _ _ (simulates-after .next)
 
+      -- 02, S-3. After H from a fresh system a commit is refused with 8, the list goes on with `later`, and then a read or collect of the same session is
+      -- answered: its state has all that was committed when the session was told.
+      pub shown-after : (s : ℕ) (ops : List ℕ) → let told = Bytes.call (left .control) (left .memory) (Call.commit s ops) in told .answer ≡ refused 8
+          → (later : List Call) (x : Call) (k found : ℕ) → asker x ≡ s
+          → let r = afterCalls told later in Bytes.call (r .control) (r .memory) x .answer ≡ answered k found → left .control .commits ≤ k
+      shown-after = Told.shown-after _ _ simulates-after (after-sound H _ (setup-sound studios bytes plain-accepted))
+
       -- TITLES. After H from a fresh system a read or collect by title is answered with state k and found 1: in L(k) one cart alone has the title, and
       -- that cart is shown.
       pub title-read : (x : Call) (k : ℕ) (title : List ℕ) → let shown = Bytes.call (left .control) (left .memory) x in
@@ -178,9 +210,8 @@ module _ (before : Memory) (studios : ℕ) (bytes : List ℕ) where
 
 -- DEMAND 3. Every list of calls from a fresh system has a one-copy order.
 pub demand3 : Demand3
-unfolding plainHistory
 demand3 before studios bytes accepted H none =
-    rw (answers before studios bytes accepted H)
+    rw (Simulation.same-counted H _ _ (setup-simulates before studios bytes accepted))
     (one-copy studios bytes (plain-accepted before studios bytes accepted) H none)
 
 -- TABLE. The twelve cases hold of the calls on bytes, with their outputs, whatever three memories of the right lengths setup is lent: from the plain
@@ -193,3 +224,9 @@ unfolding start plainHistory
 twelve before lengths =
     let accepted = setup-answer before 2 studioBytes lengths ∙ started in
     subst₂ Table (fun-ext (λ H. sym (answers before 2 studioBytes accepted H))) (simulates-after before 2 studioBytes accepted (callsOf cases2to10) .next .log) table
+
+-- 02, S-3. The story of the request on bytes, likewise: another studio fills cart 40, the commit is refused with 8, the session's read waits, and after send and
+-- refresh its collect shows cart 40 held.
+pub told-then-shown : (before : Memory) → lengthsForm before ≡ true → history (setup before 2 studioBytes) (callsOf taking) ≡ taking
+unfolding start plainHistory
+told-then-shown before lengths = answers before 2 studioBytes (setup-answer before 2 studioBytes lengths ∙ started) (callsOf taking) ∙ Taken.told-then-shown

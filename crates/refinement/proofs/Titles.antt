@@ -23,11 +23,12 @@ use Rattle.replication.specs.Calls as Bytes
 use Rattle.replication.specs.Calls.{After}
 use Rattle.replication.specs.declared.control.Control.{Control}
 use Rattle.replication.proofs.CopyLaws.{length-copyAt, copy-same}
-use Rattle.replication.proofs.RowLaws.{numbered, stopped-by, unless-case, none-stops, memory-numbered, right-memory, lengths-are}
+use Rattle.replication.proofs.RowLaws.{lacks, stopped-by, unless-case, later-stops, memory-numbered, right-memory, lengths-are}
 use Rattle.replication.proofs.Accepted.{commit-passed}
 use Rattle.machine.specs.Machine as Plain
 use Rattle.machine.specs.Machine.{Step}
-use Rattle.machine.specs.Titles.{titleIn, spares, Writes, asked, ShowsTheOne}
+use Rattle.machine.specs.Asked.{asked}
+use Rattle.machine.specs.Titles.{titleIn, spares, Writes, ShowsTheOne}
 use Rattle.machine.proofs.Sound.{Sound}
 use Rattle.machine.proofs.Kept.{keeps, after-sound}
 use Rattle.machine.proofs.Grows.{after-grows}
@@ -46,7 +47,7 @@ unfolding Bytes.commit commitStop Bytes.refusedCommit
 primary-title c m s bytes op n w accepted =
     unless-case (λ (r : After). r .answer ≡ done n → titleIn (cartAt (copyAt (r .memory .library) 0) (u16 op 2)) ≡ titleIn op) _ _ _
     (λ k _ q. let z : _≡_ {A = ℕ} 0 1 = cc in absurd (omega arith))
-    (λ e _. let rows = none-stops (memoryRows c m) _ (memory-numbered c m) e in
+    (λ e _. let rows = later-stops (memoryRows c m) _ 0 (memory-numbered c m) e in
     let size = lengths-are m (right-memory c m (rows .0) .0) .0 in
     let a = commit-passed _ _ _ _ _ _ (rows .1) in
     let ops = operations-of bytes (a .form) in
@@ -73,7 +74,7 @@ module _ (c : Control) (m : Memory) (s : ℕ) (bytes : List ℕ) where
   pub title-refused : stopped (memoryRows c m ++ (sessionRow s (studioOf c s) ∷ row 4 (isWaiting (requestOf (sessionAt (m .sessions) s))) ∷ row 5 (not (sizeForm bytes)) ∷ [])) ≡ 0
       → (i : ℕ) → i < length (operationsOf bytes) → writesTitle (getD (operationsOf bytes) i []) ≡ true → hasTitle (getD (operationsOf bytes) i []) ≡ false
       → Bytes.commit c m s bytes .answer ≡ refused 6
-  unfolding Bytes.commit commitStop Bytes.refusedCommit commitRows memoryRows lengthsRow sessionRow numbered every unless
+  unfolding Bytes.commit commitStop Bytes.refusedCommit commitRows memoryRows lengthsRow sessionRow lacks every unless
   title-refused passes i u w e =
       let rows : List Row = commitRows s (studioOf c s) (requestOf (sessionAt (m .sessions) s)) (c .used) (copyAt (m .library) 0) bytes in
       let stops : not (every operationForm (operationsOf bytes)) ≡ true = rw (form-wrong i u w e) in
@@ -82,7 +83,7 @@ module _ (c : Control) (m : Memory) (s : ℕ) (bytes : List ℕ) where
   pub spaced-refused : stopped (memoryRows c m ++ (sessionRow s (studioOf c s) ∷ row 4 (isWaiting (requestOf (sessionAt (m .sessions) s))) ∷ row 5 (not (sizeForm bytes))
       ∷ row 6 (not (every operationForm (operationsOf bytes))) ∷ [])) ≡ 0
       → (i : ℕ) → i < length (operationsOf bytes) → spaced (getD (operationsOf bytes) i []) ≡ true → Bytes.commit c m s bytes .answer ≡ refused 16
-  unfolding Bytes.commit commitStop Bytes.refusedCommit commitRows memoryRows lengthsRow sessionRow numbered every unless
+  unfolding Bytes.commit commitStop Bytes.refusedCommit commitRows memoryRows lengthsRow sessionRow lacks every unless
   spaced-refused passes i u e =
       let rows : List Row = commitRows s (studioOf c s) (requestOf (sessionAt (m .sessions) s)) (c .used) (copyAt (m .library) 0) bytes in
       rw (stopped-by (memoryRows c m ++ take 4 rows) (drop 5 rows) 16 _ refl passes (any-at spaced (operationsOf bytes) [] i u e))
