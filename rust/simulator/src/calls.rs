@@ -1,5 +1,6 @@
 //! What the calls do to a system. The system of a refused call is thrown away,
-//! and that of a preview, which is a commit in all else.
+//! but for a commit refused with 8; so is that of a preview, which is a commit in
+//! all else.
 
 use crate::cart::{Copy, encode_cart};
 use crate::control::Outcome;
@@ -8,7 +9,7 @@ use crate::session::{Request, Session};
 use crate::sizes::{RECORDS, TRANSACTION_OPERATIONS, UNIT, WINDOW};
 use crate::system::{Studio, System};
 
-/// The end of a call, or the number of the row that stopped it.
+/// The end of a call whose system is kept, or the number of the row that stopped it.
 pub type Ended = Result<Outcome, u32>;
 
 pub fn commit(system: &mut System, session: u32, operations: &[u8]) -> Ended {
@@ -30,16 +31,17 @@ pub fn commit(system: &mut System, session: u32, operations: &[u8]) -> Ended {
     if used + count > RECORDS {
         return Err(7);
     }
-    for operation in &transaction {
-        if !operation.meets(&system.head_end) {
-            return Err(8);
+    let outcome = match acted(&system.head_end, &transaction) {
+        Some(head_end) => {
+            system.head_end = head_end;
+            system.transactions.push(transaction);
+            Outcome::Done(system.commits())
         }
-        operation.act(&mut system.head_end);
-    }
-    system.transactions.push(transaction);
-    let number = system.commits();
-    session_at_mut(system, place).number = number;
-    Ok(Outcome::Done(number))
+        None => Outcome::Refused(8),
+    };
+    // Also refused with 8, the session was answered by a library of this many commits.
+    session_at_mut(system, place).number = system.commits();
+    Ok(outcome)
 }
 
 pub fn send(system: &mut System, studio: u32) -> Ended {
@@ -103,6 +105,19 @@ pub fn collect(system: &mut System, session: u32, output: &mut [u8]) -> Ended {
         }
         None => Ok(Outcome::Waits(session_at(system, place).number)),
     }
+}
+
+/// The copy that a transaction makes, or `None` where an operation meets its
+/// cart in the wrong state.
+fn acted(copy: &Copy, transaction: &Transaction) -> Option<Copy> {
+    let mut copy = copy.clone();
+    for operation in transaction {
+        if !operation.meets(&copy) {
+            return None;
+        }
+        operation.act(&mut copy);
+    }
+    Some(copy)
 }
 
 /// The session's studio, if its copy has reached the session's number.

@@ -1,4 +1,4 @@
-//! The cart wall of document 01, with requests S-1 and S-2 of document 02, by
+//! The cart wall of document 01, with requests S-1 to S-3 of document 02, by
 //! another hand.
 //!
 //! Every call decodes the lent memory and the control into a value, acts on
@@ -40,13 +40,14 @@ pub fn setup(library: &mut [u8], log: &mut [u8], sessions: &mut [u8], studios: u
     Outcome::Done(0).with(control)
 }
 
-/// Commit.
+/// Commit. Refused with 8 it leaves its session's number as commits, and no other
+/// refusal leaves anything.
 pub fn commit(library: &mut [u8], log: &mut [u8], sessions: &mut [u8], control: Control, session: u32, operations: &[u8]) -> Answer {
     play(library, log, sessions, control, |system| calls::commit(system, session, operations))
 }
 
 /// Preview: what commit would answer. It reads the memory, writes none of it,
-/// and hands control back as it was passed.
+/// and hands control back as it was passed, also where the answer is 8.
 pub fn preview(library: &mut [u8], log: &mut [u8], sessions: &mut [u8], control: Control, session: u32, operations: &[u8]) -> Answer {
     let ended = decode(library, log, sessions, &control).and_then(|mut system| calls::commit(&mut system, session, operations));
     ended.unwrap_or_else(Outcome::Refused).with(control)

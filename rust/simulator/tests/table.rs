@@ -20,10 +20,12 @@ fn cases_1_to_10() {
     assert_eq!(output, top_hour(), "case 7: a held cart begins with 1, as new does");
     assert_eq!(u32::from_le_bytes(output[4..8].try_into().unwrap()), 501, "case 7");
     assert_eq!(wall.commit(1, &[top_hour()]), refused(8), "case 8");
+    assert_eq!(wall.number(1), 1, "case 8: commits, as its own commit had made it");
     assert_eq!(wall.commit(1, &[withdraw(7), top_hour()]), done(2), "case 9");
     let eight = new(8, "Eight", 1, 1);
     assert_eq!(wall.commit(1, &[eight, eight]), refused(8), "case 10");
     assert_eq!(wall.library[560..640], [0; 80], "case 10: cart 8 is empty in L(2)");
+    assert_eq!(wall.number(1), 2, "case 10: commits, as its own commit had made it");
 }
 
 #[test]

@@ -39,12 +39,24 @@ pub fn fresh() -> Wall {
 }
 
 impl Wall {
+    /// Takes the control over. `before` is the wall that a refusal has to leave.
     fn keep(&mut self, before: Wall, answer: Answer) -> Words {
         self.control = answer.control;
         if answer.kind == simulator::REFUSED {
-            assert_eq!(*self, before, "a refused call changes nothing");
+            assert_eq!(*self, before, "a refused call changes nothing, but a session's number by a commit's 8");
         }
         (answer.kind, answer.value, answer.found)
+    }
+
+    /// A session's number, bytes 2 and 3 of its 80.
+    pub fn number(&self, session: u32) -> u32 {
+        let at = number_at(session);
+        u32::from(u16::from_le_bytes([self.sessions[at], self.sessions[at + 1]]))
+    }
+
+    fn put_number(&mut self, session: u32, number: u32) {
+        let (at, number) = (number_at(session), u16::try_from(number).unwrap());
+        self.sessions[at..at + 2].copy_from_slice(&number.to_le_bytes());
     }
 
     pub fn setup(&mut self, studios: u32, bytes: &[u8]) -> Words {
@@ -58,10 +70,14 @@ impl Wall {
         self.commit_bytes(session, &operations.concat())
     }
 
+    /// The only refusal that changes a byte: with 8, the session's number becomes commits.
     pub fn commit_bytes(&mut self, session: u32, bytes: &[u8]) -> Words {
-        let before = self.clone();
+        let mut before = self.clone();
         let (library, log) = (&mut self.library, &mut self.log);
         let answer = simulator::commit(library, log, &mut self.sessions, self.control, session, bytes);
+        if (answer.kind, answer.value) == (simulator::REFUSED, 8) {
+            before.put_number(session, before.control.commits);
+        }
         self.keep(before, answer)
     }
 
@@ -108,6 +124,10 @@ impl Wall {
         let answer = simulator::collect(library, log, sessions, self.control, session, output);
         self.keep(before, answer)
     }
+}
+
+fn number_at(session: u32) -> usize {
+    UNIT * (usize::try_from(session).unwrap() - 1) + 2
 }
 
 /// Two previews, then the commit: the same answer three times.
