@@ -34,11 +34,6 @@ fn stored(title: &str) -> Wall {
     wall
 }
 
-/// Transaction n is sent to studio 1 and acts there.
-fn refreshed(wall: &mut Wall, n: u32) {
-    assert_eq!((wall.send(1), wall.refresh(1)), (done(n), done(n)));
-}
-
 #[test]
 fn the_ends_of_a_title() {
     let (first, later) = (fresh(), committed(1));

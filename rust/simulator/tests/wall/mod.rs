@@ -148,6 +148,11 @@ pub fn committed(commits: u32) -> Wall {
     wall
 }
 
+/// Transaction n is sent to studio 1 and acts there.
+pub fn refreshed(wall: &mut Wall, n: u32) {
+    assert_eq!((wall.send(1), wall.refresh(1)), (done(n), done(n)));
+}
+
 fn unit(kind: u8, cart: u16, title: &str, audio: u32, length: u32) -> [u8; UNIT] {
     let mut unit = [0; UNIT];
     unit[0] = kind;
