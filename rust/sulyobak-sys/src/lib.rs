@@ -44,7 +44,7 @@ pub struct Answer {
 // The structs of the header have 27 and 30 words.
 const _: () = assert!(core::mem::size_of::<Control>() == 27 * 4 && core::mem::size_of::<Answer>() == 30 * 4);
 
-/// Nothing was done, and no byte was changed.
+/// Nothing was done, and no byte was changed (but a session's number, by a commit refused by 8).
 pub const REFUSED: u32 = 0;
 /// Done.
 pub const DONE: u32 = 1;
@@ -70,7 +70,7 @@ extern "C" {
         session_studios_len: usize,
     ) -> Answer;
 
-    /// Commits a transaction at the head end.
+    /// Commits a transaction at the head end. Refused by 8, it raises its session's number.
     pub fn sulyobak_commit(
         library: *mut u8,
         library_len: usize,

@@ -2,7 +2,8 @@ use crate::cart::Cart;
 use std::error::Error;
 use std::fmt;
 
-/// Why a call was refused. A refused call changes nothing.
+/// Why a call was refused. A refused call changes nothing, with one exception: a commit that is refused by [`Refusal::WrongState`] raises
+/// its session's number ([`Library::commit`](crate::Library::commit) says why).
 ///
 /// ```
 /// use sulyobak::{Library, Refusal};
@@ -30,7 +31,8 @@ pub enum Refusal {
     Operation,
     /// 7: the log has no room for the operations.
     LogFull,
-    /// 8: an operation meets its cart in the wrong state.
+    /// 8: an operation meets its cart in the wrong state. A commit refused so leaves its session's number at the count of commits, and
+    /// changes nothing else; a preview changes nothing.
     WrongState,
     /// 9: every committed transaction was sent to this studio.
     AllSent,
@@ -155,7 +157,7 @@ pub enum Read {
         /// A cart for each number asked, in order, or none where it is empty. For a title one place: the cart, if exactly one has it.
         carts: Vec<Option<Cart>>,
     },
-    /// The studio's copy is behind the session's own last commit. The request is kept: [`collect`](crate::Library::collect) it later.
+    /// The studio's copy has not reached the session's number yet. The request is kept: [`collect`](crate::Library::collect) it later.
     Waits {
         /// How many transactions the copy has to reach: the session's number.
         number: u32,

@@ -2,8 +2,9 @@
 //!
 //! One head end commits edits to its copy of the library and to a log. Up to four studios are sent the committed transactions and
 //! apply them, in order, to copies of their own. A session belongs to one studio and reads that studio's copy. Its read is answered
-//! once the copy has reached the session's own last commit, and waits until then, so nobody is handed an old cut that they have
-//! just replaced.
+//! once the copy has reached the session's number, and waits until then. The number is that of the session's last commit, or the count
+//! of commits at which it was refused one because of a cart's state ([`Refusal::WrongState`]), whichever came later. So nobody is
+//! handed an old cut that they have just replaced, or told that a cart is taken and then shown a copy from before it was.
 //!
 //! The engine is written in Rattle and linked as a static library; each of its functions is proved to answer, and to leave in
 //! memory, exactly what its specification gives. This crate is a safe wrapper around it, with no dependency but the

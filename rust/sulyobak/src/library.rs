@@ -118,12 +118,36 @@ impl Library {
     /// # Ok(())
     /// # }
     /// ```
+    ///
+    /// [`Refusal::WrongState`] tells of the library at the head end. So it raises the session's number to the count of commits, its only
+    /// change, and the session's later reads wait until they show what it told of. No other refusal changes anything.
+    ///
+    /// ```
+    /// use sulyobak::{Library, Operation, Read, Refusal, Request, Title};
+    ///
+    /// # fn main() -> Result<(), Box<dyn std::error::Error>> {
+    /// // Session 1 sits in studio 1, session 2 in studio 2, and fills cart 40.
+    /// let mut library = Library::new(2, &[1, 2])?;
+    /// let travel = Operation::New { cart: 40, title: Title::new("Travel bed")?, audio: 403, milliseconds: 45_000 };
+    /// assert_eq!(library.commit(2, &[travel]), Ok(1));
+    ///
+    /// // Session 1 is told that cart 40 is taken, and is not shown the copy in which it is empty.
+    /// assert_eq!(library.commit(1, &[travel]), Err(Refusal::WrongState));
+    /// assert_eq!(library.read(1, &Request::cart(40))?, Read::Waits { number: 1 });
+    ///
+    /// library.send(1)?;
+    /// library.refresh(1)?;
+    /// let Read::Answered { carts, .. } = library.collect(1)? else { panic!("still waiting") };
+    /// assert_eq!(carts[0].map(|cart| cart.audio), Some(403));
+    /// # Ok(())
+    /// # }
+    /// ```
     pub fn commit(&mut self, session: u32, operations: &[Operation]) -> Result<u32, Refusal> {
         self.memory().commit(session, operations)
     }
 
-    /// Answers what [`commit`](Library::commit) would for the same session and operations, and changes nothing: the number that the
-    /// commit would have, or its refusal. The answer is the commit's as long as nothing is changed in between.
+    /// Answers what [`commit`](Library::commit) would for the same session and operations, and changes nothing, whatever it answers: the
+    /// number that the commit would have, or its refusal. The answer is the commit's as long as nothing is changed in between.
     ///
     /// A producer tries an edit before making it:
     ///
@@ -163,7 +187,7 @@ impl Library {
         self.memory().refresh(studio)
     }
 
-    /// Reads from the copy of the session's studio, or waits until that copy has reached the session's last commit.
+    /// Reads from the copy of the session's studio, or waits until that copy has reached the session's number.
     pub fn read(&mut self, session: u32, request: &Request) -> Result<Read, Refusal> {
         self.memory().read(session, request)
     }

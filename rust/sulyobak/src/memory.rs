@@ -56,7 +56,8 @@ impl Memory<'_> {
     }
 
     /// Commits 1 to 8 operations at the head end, all or none. Returns the commit's number. A title that begins or ends with a space is
-    /// refused: [`Library::commit`](crate::Library::commit) has an example.
+    /// refused, and a refusal because of a cart's state raises the session's number: [`Library::commit`](crate::Library::commit) has
+    /// examples.
     pub fn commit(&mut self, session: u32, operations: &[Operation]) -> Result<u32, Refusal> {
         self.commit_bytes(session, &operation::bytes_of(operations))
     }
@@ -89,7 +90,7 @@ impl Memory<'_> {
         self.done(answer)
     }
 
-    /// Reads from the copy of the session's studio, or waits until it has reached the session's last commit.
+    /// Reads from the copy of the session's studio, or waits until it has reached the session's number.
     pub fn read(&mut self, session: u32, request: &Request) -> Result<Read, Refusal> {
         let mut output = [0; sizes::OUTPUT_MOST];
         let output = &mut output[..sizes::CART * request.places()];

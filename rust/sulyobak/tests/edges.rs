@@ -4,7 +4,8 @@ mod made;
 use made::{fresh, new, recut};
 use sulyobak::{sizes, Control, Found, Library, Memory, Operation, Read, Refusal, Request};
 
-// Takes a system with its words, does a call that must be refused, and sees that nothing changed.
+// Takes a system with its words, does a call that must be refused, and sees that nothing changed. (Refusal 8 is met here before any commit,
+// where the session's number stays 0: tests/taken.rs has what it changes later.)
 fn refused<T: std::fmt::Debug + PartialEq>(library: &mut Library, refusal: Refusal, call: impl FnOnce(&mut Library) -> Result<T, Refusal>) {
     let before = library.clone();
     assert_eq!(call(library), Err(refusal));

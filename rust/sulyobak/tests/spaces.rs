@@ -18,7 +18,7 @@ fn retitle(cart: u16, text: &str) -> Operation {
     Operation::Retitle { cart, title: title(text) }
 }
 
-// Previews and commits in session 1; a refusal changes no byte.
+// Previews and commits in session 1.
 fn edit(library: &mut Library, operations: &[Operation]) -> Result<u32, Refusal> {
     tried(library, 1, &bytes_of(operations))
 }

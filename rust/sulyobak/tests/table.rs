@@ -41,11 +41,13 @@ fn cases_1_to_10() {
     assert_eq!(library.send(1), Ok(1), "case 7, send");
     assert_eq!(library.refresh(1), Ok(1), "case 7, refresh");
     assert_eq!(library.collect(1), answered(1, 1, &[Some(cart_a())]), "case 7, collect");
+    let before = library.clone();
     assert_eq!(library.commit(1, &[a()]), Err(Refusal::WrongState), "case 8");
+    assert_eq!(library, before, "case 8: the session's number is commits, 1, already, so nothing changes");
     assert_eq!(library.commit(1, &[Operation::Withdraw { cart: 7 }, a()]), Ok(2), "case 9");
     let before = library.clone();
     assert_eq!(library.commit(1, &[new(8, "Top hour B"), new(8, "Top hour B")]), Err(Refusal::WrongState), "case 10");
-    assert_eq!(library, before, "case 10: a refused commit changes nothing");
+    assert_eq!(library, before, "case 10: the session's number is commits, 2, already, so nothing changes");
     assert_eq!(library.send(1), Ok(2), "case 10, send");
     assert_eq!(library.refresh(1), Ok(2), "case 10, refresh");
     assert_eq!(library.read(1, &Request::cart(8)), answered(2, 0, &[None]), "case 10: cart 8 is empty in L(2)");
