@@ -5,7 +5,8 @@
  * playlist gets the same carts. Part two: a producer re-cuts the sponsor's jingle and reads it in the same chair while the studio's
  * copy is two edits behind. The read waits, and is collected with the new cut. One chair is one session: a second session in the
  * producer's chair has edited nothing, so its read is answered at once with the old cut. Part three: the producer tries an edit of two
- * steps before making it, is told what is wrong with it, mends it and commits it.
+ * steps before making it, is told what is wrong with it, mends it and commits it. Part four: the presenter is told that the cart of that
+ * edit is taken. The studio's copy still has it empty, so the presenter's read of it waits, and is collected with what is there.
  */
 #include "sulyobak_util.h"
 
@@ -78,7 +79,7 @@ static void commit(const char *what, uint32_t session, const uint8_t *operations
     say(what, sulyobak_commit(MEMORY, control, session, operations, count * SULYOBAK_OPERATION_SIZE));
 }
 
-/* What a commit would answer; nothing is changed. */
+/* What a commit would answer; nothing is changed, whatever it is. */
 static void preview(const char *what, uint32_t session, const uint8_t *operations, size_t count)
 {
     say(what, sulyobak_preview(MEMORY, control, session, operations, count * SULYOBAK_OPERATION_SIZE));
@@ -167,6 +168,25 @@ static void the_weather_bed(void)
     preview("the producer tries the edit with the next cart", PRODUCER, operations, 2);
     printf("commits %u, as before\n", (unsigned)control.commits);
     commit("the producer commits it", PRODUCER, operations, 2);
+}
+
+static void the_taken_cart(void)
+{
+    static const uint32_t weather[1] = {WEATHER};
+    const uint8_t *presenter = sulyobak_session_at(session_memory, PRESENTER);
+    uint8_t operation[SULYOBAK_OPERATION_SIZE];
+
+    printf("\nThe taken cart\n");
+    read_numbers("the presenter looks for a free cart", PRESENTER, weather, 1);
+    show(0);
+    made(sulyobak_operation_new(operation, WEATHER, "Travel bed", 403, 45000));
+    commit("the presenter commits a travel bed there", PRESENTER, operation, 1);
+    printf("the presenter's number is %u now: the refusal spoke of %u commits\n", (unsigned)sulyobak_session_number(presenter),
+           (unsigned)control.commits);
+    read_numbers("the presenter reads the cart, which the studio's copy has empty", PRESENTER, weather, 1);
+    catch_up();
+    say("the presenter collects", sulyobak_collect(MEMORY, control, PRESENTER, output, sizeof output));
+    show(0);
     say("control and memory are of the layout", sulyobak_layout(MEMORY, control));
 }
 
@@ -181,5 +201,6 @@ int main(void)
     the_title_column();
     the_sponsors_jingle();
     the_weather_bed();
+    the_taken_cart();
     return 0;
 }

@@ -142,6 +142,19 @@ static void test_sessions(void)
     HOLD(sulyobak_title(session, title) == 1 && strcmp(title, "B") == 0 && sulyobak_session_cart(session, 0) == 0);
 }
 
+/* A commit refused by 8 leaves its session's number at the count of commits. */
+static void test_taken(void)
+{
+    uint8_t operation[80];
+    const uint8_t *session = sulyobak_session_at(session_memory, 2);
+    sulyobak_answer answer;
+    HOLD(sulyobak_session_number(session) == 0 && control.commits == 3);
+    HOLD(sulyobak_operation_withdraw(operation, 1) == SULYOBAK_MADE);
+    answer = keep(sulyobak_commit(MEMORY, control, 2, operation, sizeof operation));
+    HOLD(answer.kind == SULYOBAK_REFUSED && answer.value == SULYOBAK_WRONG_STATE);
+    HOLD(sulyobak_session_number(session) == 3 && sulyobak_session_waiting(session) == 0);
+}
+
 /* Every number has a sentence of its own. */
 static void test_sentences(void)
 {
@@ -156,13 +169,14 @@ static void test_sentences(void)
 
 int main(void)
 {
-    static const uint8_t studios[SULYOBAK_SESSIONS] = {1};
+    static const uint8_t studios[SULYOBAK_SESSIONS] = {1, 1};
     HOLD(sulyobak_version() == SULYOBAK_VERSION);
     HOLD(keep(sulyobak_setup(MEMORY, 1, studios, sizeof studios)).kind == SULYOBAK_DONE);
     test_misfits();
     test_operations();
     test_spaces();
     test_sessions();
+    test_taken();
     test_sentences();
     printf("util_test: everything held\n");
     return 0;

@@ -3,8 +3,9 @@
 //! Two versions of a jingle have long titles that differ in the last letter: a playlist imported by title and by cart number gets the
 //! same carts. Then a producer re-cuts the sponsor's jingle and reads it in the same chair while the studio's copy is two edits
 //! behind: the read waits, and is collected with the new cut. One chair is one session: a second session in the producer's chair has
-//! edited nothing, so its read is answered at once with the old cut. Last the producer tries an edit of two steps before making it, is
-//! told what is wrong with it, mends it and commits it.
+//! edited nothing, so its read is answered at once with the old cut. Then the producer tries an edit of two steps before making it, is
+//! told what is wrong with it, mends it and commits it. Last the presenter is told that the cart of that edit is taken: the studio's copy
+//! still has it empty, so the presenter's read of it waits, and is collected with what is there.
 use std::error::Error;
 use sulyobak::{Library, Operation, Read, Refusal, Request, Title};
 
@@ -29,6 +30,8 @@ fn main() -> Result<(), Box<dyn Error>> {
     the_sponsors_jingle(&mut wall)?;
     println!();
     the_weather_bed(&mut wall)?;
+    println!();
+    the_taken_cart(&mut wall)?;
     Ok(())
 }
 
@@ -94,6 +97,21 @@ fn the_weather_bed(wall: &mut Library) -> Result<(), Box<dyn Error>> {
     println!("with cart {WEATHER}: it would be commit {}", wall.preview(PRODUCER, &mended)?);
     println!("commits: {}, as before", wall.control().commits);
     println!("commit {}: the producer's weather bed, and the sponsor's new title", wall.commit(PRODUCER, &mended)?);
+    Ok(())
+}
+
+fn the_taken_cart(wall: &mut Library) -> Result<(), Box<dyn Error>> {
+    println!("The taken cart");
+    let request = Request::cart(WEATHER);
+    show("the presenter looks for a free cart", &wall.read(PRESENTER, &request)?);
+    let travel = Operation::New { cart: WEATHER, title: Title::new("Travel bed")?, audio: 403, milliseconds: 45_000 };
+    match wall.commit(PRESENTER, &[travel]) {
+        Ok(number) => println!("commit {number}"),
+        Err(refusal) => println!("the presenter's travel bed there: {refusal}"),
+    }
+    show("the presenter reads the cart, which the studio's copy has empty", &wall.read(PRESENTER, &request)?);
+    catch_up(wall)?;
+    show("the presenter collects", &wall.collect(PRESENTER)?);
     Ok(())
 }
 
