@@ -22,6 +22,8 @@ pub struct Coverage {
     pairs: BTreeMap<Key, u64>,
     pub orders: u64,
     pub entries: u64,
+    /// Entries that are commits refused with 8.
+    pub refusals: u64,
 }
 
 impl Coverage {
@@ -38,9 +40,10 @@ impl Coverage {
         *self.counts.entry(key).or_default() += 1;
     }
 
-    pub fn count_order(&mut self, entries: usize) {
+    pub fn count_order(&mut self, entries: usize, refusals: usize) {
         self.orders += 1;
         self.entries += entries as u64;
+        self.refusals += refusals as u64;
     }
 
     pub fn note(&mut self, call: &Call, control: &Control, holding: &[u32], before: &Before, after: &Lent, answer: &Answer) {
@@ -234,6 +237,7 @@ impl Coverage {
         }
         self.orders += other.orders;
         self.entries += other.entries;
+        self.refusals += other.refusals;
     }
 }
 

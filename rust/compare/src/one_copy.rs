@@ -1,13 +1,27 @@
-//! 01's one-copy order: the list's accepted commits and answered reads, put
-//! into one order and played on the single library.
+//! 01's one-copy order: the list's accepted commits, its commits refused with 8
+//! (02's S-3) and its answered reads, put into one order and played on the
+//! single library.
 
 use crate::call::Call;
 use crate::single::SingleLibrary;
-use simulator::{ANSWERED, Answer, DONE, WAITS};
+use simulator::{ANSWERED, Answer, DONE, REFUSED, WAITS};
 
 enum What {
-    Commit { operations: Vec<u8>, number: u32 },
-    Read { request: Vec<u8>, state: u32, found: u32, written: Vec<u8> },
+    Commit {
+        operations: Vec<u8>,
+        number: u32,
+    },
+    /// A commit refused with 8, and the commits of the control handed back.
+    Refused {
+        operations: Vec<u8>,
+        commits: u32,
+    },
+    Read {
+        request: Vec<u8>,
+        state: u32,
+        found: u32,
+        written: Vec<u8>,
+    },
 }
 
 struct Entry {
@@ -17,11 +31,11 @@ struct Entry {
 }
 
 impl Entry {
-    /// Commit n stands at 2n, a read at state k at 2k + 1.
+    /// Commit n stands at 2n, a read at state k and a refusal 8 at k commits at 2k + 1.
     fn place(&self) -> u64 {
         match self.what {
             What::Commit { number, .. } => 2 * u64::from(number),
-            What::Read { state, .. } => 2 * u64::from(state) + 1,
+            What::Read { state: count, .. } | What::Refused { commits: count, .. } => 2 * u64::from(count) + 1,
         }
     }
 }
@@ -38,11 +52,16 @@ impl History {
         History { entries: Vec::new(), waited: vec![Vec::new(); 17] }
     }
 
-    /// Takes in one call of H; `output` is as it stood when the call ended. Waits, refusals, sends, refreshes and previews have no entry.
+    /// Takes in one call of H; `output` is as it stood when the call ended. Waits, sends, refreshes, previews and refusals have no entry,
+    /// but for a commit's refusal 8.
     pub fn note(&mut self, number: u64, call: &Call, answer: &Answer, output: &[u8]) {
         match (call, answer.kind) {
             (Call::Commit { session, operations }, DONE) => {
                 let what = What::Commit { operations: operations.clone(), number: answer.value };
+                self.entries.push(Entry { call: number, session: *session, what });
+            }
+            (Call::Commit { session, operations }, REFUSED) if answer.value == 8 => {
+                let what = What::Refused { operations: operations.clone(), commits: answer.control.commits };
                 self.entries.push(Entry { call: number, session: *session, what });
             }
             (Call::Read { session, request, .. }, ANSWERED) => {
@@ -70,7 +89,7 @@ impl History {
     pub fn change(&mut self, unit: impl Fn(&mut [u8]), request: impl Fn(&mut [u8])) {
         for entry in &mut self.entries {
             match &mut entry.what {
-                What::Commit { operations, .. } => operations.chunks_exact_mut(80).for_each(&unit),
+                What::Commit { operations, .. } | What::Refused { operations, .. } => operations.chunks_exact_mut(80).for_each(&unit),
                 What::Read { request: asked, written, .. } => {
                     request(asked);
                     written.chunks_exact_mut(80).for_each(&unit);
@@ -82,6 +101,11 @@ impl History {
 
     pub fn len(&self) -> usize {
         self.entries.len()
+    }
+
+    /// How many entries are commits refused with 8.
+    pub fn refusals(&self) -> usize {
+        self.entries.iter().filter(|entry| matches!(entry.what, What::Refused { .. })).count()
     }
 
     /// Builds the order, checks each session's order in it, and replays it.
@@ -109,9 +133,14 @@ impl History {
 fn replay(library: &mut SingleLibrary, entry: &Entry) -> Result<(), String> {
     match &entry.what {
         What::Commit { operations, number } => match library.commit(operations) {
-            Some(count) if count == *number => Ok(()),
-            Some(count) => Err(format!("one-copy order: commit {number} is the library's {count}")),
-            None => Err(format!("one-copy order: commit {number} is the library's refusal 8")),
+            Ok(count) if count == *number => Ok(()),
+            Ok(count) => Err(format!("one-copy order: commit {number} is the library's {count}")),
+            Err(_) => Err(format!("one-copy order: commit {number} is the library's refusal 8")),
+        },
+        What::Refused { operations, commits } => match library.commit(operations) {
+            Err(count) if count == *commits => Ok(()),
+            Err(count) => Err(format!("one-copy order: refusal 8 at {commits} commits is the library's at {count}")),
+            Ok(count) => Err(format!("one-copy order: refusal 8 at {commits} commits is the library's commit {count}")),
         },
         What::Read { request, state, found, written } => {
             let (count, held, carts) = library.read(request);
@@ -177,12 +206,62 @@ mod tests {
         assert!(history(answer(ANSWERED, 2, 1), &new_cart_1()).check().is_err());
     }
 
+    /// Session 1 commits a new cart 1, and session 2 reads it. Session 2's commit of these operations is refused with 8 and hands back so
+    /// many commits.
+    fn refused(operations: Vec<u8>, commits: u32) -> History {
+        let mut history = History::new();
+        history.note(1, &Call::Commit { session: 1, operations: new_cart_1() }, &answer(DONE, 1, 0), &[]);
+        history.note(2, &read_cart_1(2), &answer(ANSWERED, 1, 1), &new_cart_1());
+        let control = Control { commits, ..Control::default() };
+        let refusal = Answer { control, ..answer(REFUSED, 8, 0) };
+        history.note(3, &Call::Commit { session: 2, operations }, &refusal, &[]);
+        history
+    }
+
+    #[test]
+    fn a_refusal_8_stands_between_the_reads_of_its_count() {
+        let mut history = refused(new_cart_1(), 1);
+        history.note(4, &read_cart_1(2), &answer(ANSWERED, 1, 1), &new_cart_1());
+        assert_eq!((history.len(), history.refusals(), history.check()), (4, 1, Ok(())));
+    }
+
+    #[test]
+    fn a_read_from_before_a_refusal_8_does_not_stand_after_it() {
+        let mut history = refused(new_cart_1(), 1);
+        history.note(4, &read_cart_1(2), &answer(ANSWERED, 0, 0), &[0; 80]);
+        assert!(history.check().unwrap_err().1.contains("session 2 out of its order"));
+    }
+
+    #[test]
+    fn a_refusal_8_at_another_count_does_not_stand() {
+        assert!(refused(new_cart_1(), 0).check().unwrap_err().1.contains("session 2 out of its order"));
+        assert!(refused(new_cart_1(), 2).check().unwrap_err().1.contains("refusal 8 at 2 commits is the library's at 1"));
+    }
+
+    #[test]
+    fn a_refusal_8_that_the_library_accepts_does_not_stand() {
+        let mut cart_2 = new_cart_1();
+        cart_2[2] = 2;
+        assert!(refused(cart_2, 1).check().unwrap_err().1.contains("is the library's commit 2"));
+    }
+
+    #[test]
+    fn other_refusals_of_a_commit_have_no_entry() {
+        let mut history = History::new();
+        for number in [3, 4, 5, 6, 16, 7] {
+            let commit = Call::Commit { session: 1, operations: new_cart_1() };
+            history.note(1, &commit, &answer(REFUSED, number, 0), &[]);
+        }
+        assert_eq!(history.len(), 0);
+    }
+
     #[test]
     fn a_preview_has_no_entry() {
         let mut history = history(answer(ANSWERED, 1, 1), &new_cart_1());
         let preview = Call::Preview { session: 1, operations: vec![0; 80] };
         history.note(3, &preview, &answer(DONE, 2, 0), &[]);
-        history.note(4, &read_cart_1(1), &answer(ANSWERED, 1, 1), &new_cart_1());
+        history.note(4, &preview, &answer(REFUSED, 8, 0), &[]);
+        history.note(5, &read_cart_1(1), &answer(ANSWERED, 1, 1), &new_cart_1());
         assert_eq!((history.len(), history.check()), (3, Ok(())));
     }
 

@@ -107,7 +107,7 @@ impl<'e> Player<'e> {
 
     /// Checks the one-copy order of a whole list.
     pub fn check_order(&mut self, history: &History) -> Result<(), Mismatch> {
-        self.coverage.count_order(history.len());
+        self.coverage.count_order(history.len(), history.refusals());
         history.check().map_err(|(call_number, words)| Mismatch { call_number, call: "(the whole list)".to_string(), words })
     }
 

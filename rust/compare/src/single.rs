@@ -52,18 +52,18 @@ impl SingleLibrary {
         SingleLibrary { count: 0, carts: vec![0; 128 * UNIT] }
     }
 
-    /// The commit's number, or `None` for refusal 8.
-    pub fn commit(&mut self, operations: &[u8]) -> Option<u32> {
+    /// The commit's number; for refusal 8 the count of commits at which it is refused.
+    pub fn commit(&mut self, operations: &[u8]) -> Result<u32, u32> {
         let mut carts = self.carts.clone();
         for operation in operations.chunks_exact(UNIT) {
             if !meets(&carts, operation) {
-                return None;
+                return Err(self.count);
             }
             act(&mut carts, operation);
         }
         self.carts = carts;
         self.count += 1;
-        Some(self.count)
+        Ok(self.count)
     }
 
     /// State, found, and the bytes that the answer writes.
