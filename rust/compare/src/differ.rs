@@ -3,30 +3,30 @@
 use crate::lent::{Lent, Part};
 use simulator::{Answer, COPY, Control, UNIT};
 
-/// The first difference between the simulator's end of a call and the
-/// engine's, in words.
-pub fn first_difference(simulated: (&Answer, &Lent), played: (&Answer, &Lent)) -> Option<String> {
-    let (answer, lent) = simulated;
+/// The first difference between the right end of a call and the engine's, in
+/// words; `by` names who says what is right.
+pub fn first_difference(by: &str, right: (&Answer, &Lent), played: (&Answer, &Lent)) -> Option<String> {
+    let (answer, lent) = right;
     let (other_answer, other) = played;
-    answer_difference(answer, other_answer)
-        .or_else(|| part_difference("library", &lent.library, &other.library, cart_place))
-        .or_else(|| part_difference("log", &lent.log, &other.log, record_place))
-        .or_else(|| part_difference("sessions", &lent.sessions, &other.sessions, session_place))
-        .or_else(|| part_difference("output", &lent.output, &other.output, output_place))
-        .or_else(|| part_difference("const input", &lent.input, &other.input, output_place))
+    answer_difference(by, answer, other_answer)
+        .or_else(|| part_difference(by, "library", (&lent.library, &other.library), cart_place))
+        .or_else(|| part_difference(by, "log", (&lent.log, &other.log), record_place))
+        .or_else(|| part_difference(by, "sessions", (&lent.sessions, &other.sessions), session_place))
+        .or_else(|| part_difference(by, "output", (&lent.output, &other.output), output_place))
+        .or_else(|| part_difference(by, "const input", (&lent.input, &other.input), output_place))
 }
 
-fn answer_difference(simulated: &Answer, played: &Answer) -> Option<String> {
+fn answer_difference(by: &str, right: &Answer, played: &Answer) -> Option<String> {
     let words = |answer: &Answer| (answer.kind, answer.value, answer.found);
-    if words(simulated) != words(played) {
-        let (right, wrong) = (answer_text(simulated), answer_text(played));
-        return Some(format!("answer: simulator {right}, engine {wrong}"));
+    if words(right) != words(played) {
+        let (right, wrong) = (answer_text(right), answer_text(played));
+        return Some(format!("answer: {by} {right}, engine {wrong}"));
     }
-    let right = control_words(&simulated.control);
+    let right = control_words(&right.control);
     let wrong = control_words(&played.control);
     let at = right.iter().zip(&wrong).position(|(a, b)| a != b)?;
     let name = control_word_name(at);
-    Some(format!("control, {name}: simulator {}, engine {}", right[at], wrong[at]))
+    Some(format!("control, {name}: {by} {}, engine {}", right[at], wrong[at]))
 }
 
 pub fn answer_text(answer: &Answer) -> String {
@@ -60,15 +60,15 @@ fn control_word_name(at: usize) -> String {
     }
 }
 
-fn part_difference(name: &str, simulated: &Part, played: &Part, place: fn(usize) -> String) -> Option<String> {
-    let at = simulated.first_difference(played)?;
+fn part_difference(by: &str, name: &str, (right, played): (&Part, &Part), place: fn(usize) -> String) -> Option<String> {
+    let at = right.first_difference(played)?;
     let words = match usize::try_from(at) {
         Err(_) => format!("guard, {} before the start", -at),
-        Ok(at) if at >= simulated.len() => format!("guard, {} past the end", at - simulated.len()),
+        Ok(at) if at >= right.len() => format!("guard, {} past the end", at - right.len()),
         Ok(at) => format!("byte {at} ({})", place(at)),
     };
-    let (right, wrong) = (simulated.at(at), played.at(at));
-    Some(format!("{name}, {words}: simulator {right}, engine {wrong}"))
+    let (right, wrong) = (right.at(at), played.at(at));
+    Some(format!("{name}, {words}: {by} {right}, engine {wrong}"))
 }
 
 fn cart_place(at: usize) -> String {

@@ -12,6 +12,7 @@ mod direct;
 mod engine;
 mod guided;
 mod keys;
+mod left;
 mod lent;
 mod lists;
 mod log;

@@ -5,11 +5,13 @@ use crate::coverage::Coverage;
 use crate::differ::{answer_text, first_difference};
 use crate::engine::{Engine, simulate};
 use crate::keys::{PREVIEWED, PREVIEWED_IN_LIST};
+use crate::left;
+use crate::lent::Lent;
 use crate::one_copy::History;
 use crate::rows;
 use crate::wall::Wall;
 use crate::watch;
-use simulator::{Answer, REFUSED};
+use simulator::{Answer, Control, REFUSED};
 
 /// Where and how engine and simulator parted.
 #[derive(Debug)]
@@ -28,12 +30,14 @@ pub struct Player<'e> {
     pub call_number: u64,
     pub calls: u64,
     scratch: Option<Wall>,
+    /// What the call now played was lent.
+    before: Lent,
 }
 
 impl<'e> Player<'e> {
     pub fn new(engine: &'e mut dyn Engine, compares: bool) -> Player<'e> {
         let coverage = Coverage::default();
-        Player { engine, compares, coverage, call_number: 0, calls: 0, scratch: None }
+        Player { engine, compares, coverage, call_number: 0, calls: 0, scratch: None, before: Lent::zeros() }
     }
 
     /// Begins the list of a seed.
@@ -61,9 +65,10 @@ impl<'e> Player<'e> {
         let control = wall.control;
         let mut holding = rows::holding(call, &control, &wall.simulated);
         let before = Coverage::before(call, &wall.simulated);
+        self.before.copy_from(&wall.simulated);
         let expected = simulate(call, control, &mut wall.simulated);
         let answer = self.engine.play(call, control, &mut wall.played);
-        let difference = first_difference((&expected, &wall.simulated), (&answer, &wall.played));
+        let difference = first_difference("simulator", (&expected, &wall.simulated), (&answer, &wall.played));
         if let Some(words) = difference {
             let ends = format!("{} / {}", answer_text(&expected), answer_text(&answer));
             let call = format!("{call}\n  with {control:?}\n  simulator / engine: {ends}");
@@ -71,6 +76,7 @@ impl<'e> Player<'e> {
         }
         self.settle_row_2(&mut holding, call, &answer, wall, &control);
         self.check_rows(&holding, call, &answer)?;
+        self.check_left(call, control, &answer, &wall.played)?;
         self.check_preview(wall, call, &answer)?;
         self.coverage.note(call, &control, &holding, &before, &wall.simulated, &answer);
         Ok(answer)
@@ -116,7 +122,7 @@ impl<'e> Player<'e> {
     }
 
     /// Row 2 is what the answer says, except after row 1, where it is looked at.
-    fn settle_row_2(&self, holding: &mut Vec<u32>, call: &Call, answer: &Answer, wall: &Wall, control: &simulator::Control) {
+    fn settle_row_2(&self, holding: &mut Vec<u32>, call: &Call, answer: &Answer, wall: &Wall, control: &Control) {
         let applies = call.rows().contains(&2) && answer.kind == REFUSED;
         let holds = match answer.value {
             1 => rows::out_of_layout(control, &wall.simulated),
@@ -136,6 +142,18 @@ impl<'e> Player<'e> {
         }
         let words = format!("rows that hold {holding:?}, but the answer is refusal {refused:?}");
         Err(self.mismatch(call.to_string(), words))
+    }
+
+    /// A refused call leaves what `left.rs` says, apart from the simulator.
+    fn check_left(&mut self, call: &Call, control: Control, answer: &Answer, played: &Lent) -> Result<(), Mismatch> {
+        if answer.kind != REFUSED {
+            return Ok(());
+        }
+        let right = left::by_refusal(answer.value, call, control, &mut self.before);
+        match first_difference("left.rs", (&right, &self.before), (answer, played)) {
+            Some(words) => Err(self.mismatch(call.to_string(), format!("what a refused call leaves, {words}"))),
+            None => Ok(()),
+        }
     }
 
     /// 02's preview (S-1): the commit right after it gives the answer that it gave.
@@ -170,5 +188,22 @@ mod tests {
         wall.previewed = Some((commit.clone(), otherwise));
         let mismatch = player.play(&mut wall, &commit).expect_err("another answer than the preview's");
         assert_eq!(mismatch.words, "previewed as refused 6 (found 0), but the commit is refused 5 (found 0)");
+    }
+
+    #[test]
+    fn a_refused_call_must_leave_what_01_and_02_say() {
+        let control = Control { commits: 300, ..Control::default() };
+        let mut raised = Lent::zeros();
+        raised.sessions.lent_mut()[82..84].copy_from_slice(&[44, 1]);
+        let passes = |call: &Call, value: u32, played: &Lent| {
+            let answer = Answer { kind: REFUSED, value, found: 0, control };
+            Player::new(&mut Simulated, true).check_left(call, control, &answer, played).is_ok()
+        };
+        let commit = Call::Commit { session: 2, operations: Vec::new() };
+        let preview = Call::Preview { session: 2, operations: Vec::new() };
+        for (call, value, raises) in [(&commit, 8, true), (&commit, 7, false), (&commit, 16, false), (&preview, 8, false)] {
+            assert_eq!(passes(call, value, &raised), raises, "{call} refused {value}");
+            assert_eq!(passes(call, value, &Lent::zeros()), !raises, "{call} refused {value}");
+        }
     }
 }
