@@ -86,9 +86,10 @@ impl Guide<'_, '_> {
             Aim::Mixed => self.steps(400, &taste([25, 20, 20, 25, 10, 8], (1, 8), 85)),
             Aim::Waits => self.steps(350, &taste([22, 13, 13, 30, 22, 6], (1, 3), 93)),
             Aim::Titles => self.steps(350, &taste([25, 18, 20, 30, 7, 6], (1, 3), 93)),
-            Aim::Eights => self.fill((8, 8), 504),
-            Aim::Ones => self.fill((1, 1), 512),
-            Aim::Varied => self.fill((1, 8), 500),
+            Aim::Eights => self.fill(&taste([66, 13, 13, 5, 3, 7], (8, 8), 97), 504),
+            // Few reads: a session that waits commits nothing, and the studios are far behind.
+            Aim::Ones => self.fill(&taste([85, 6, 6, 1, 1, 5], (1, 1), 97), 511),
+            Aim::Varied => self.fill(&taste([66, 13, 13, 5, 3, 7], (1, 8), 97), 500),
             Aim::Window => self.window(),
             Aim::Older => self.older(),
         }
@@ -107,13 +108,12 @@ impl Guide<'_, '_> {
     }
 
     /// Commits until `used` reaches the mark, then every way of ending.
-    fn fill(&mut self, sizes: (usize, usize), mark: u32) -> Result<(), Mismatch> {
-        let filling = taste([66, 13, 13, 5, 3, 7], sizes, 97);
+    fn fill(&mut self, filling: &Taste, mark: u32) -> Result<(), Mismatch> {
         for _ in 0..1_200 {
             if self.wall.control.used >= mark {
                 break;
             }
-            self.step(&filling)?;
+            self.step(filling)?;
         }
         for _ in 0..60 {
             self.overfill()?;
