@@ -31,6 +31,8 @@ pub struct Taste {
     pub sizes: (usize, usize),
     /// Percent of arguments that are meant to fit.
     pub fitting: usize,
+    /// Percent of commits and previews in which one operation meets its cart in the wrong state.
+    pub misfits: usize,
 }
 
 /// A call; after a preview often the commit that it was of.
@@ -75,6 +77,10 @@ fn edit(random: &mut Random, maker: &Maker, taste: &Taste, wall: &Wall) -> (u32,
     }
     let size = random.within(taste.sizes.0, taste.sizes.1);
     let mut operations: Vec<u8> = (0..size).flat_map(|_| maker.fitting(random, &mut held)).collect();
+    if random.percent(taste.misfits) {
+        let unit = 80 * random.below(size);
+        maker.misfit(random, &mut operations[unit..unit + 80]);
+    }
     if !random.percent(taste.fitting) {
         maker.space(random, &mut operations, wall.played.library.lent());
     }
@@ -108,8 +114,13 @@ fn unsettle(random: &mut Random, maker: &Maker, operations: &mut Vec<u8>) {
     }
 }
 
+/// A read; often by a session that has not read since a refusal 8 raised its number.
 fn read(random: &mut Random, maker: &Maker, taste: &Taste, wall: &Wall) -> Call {
-    let session = session(random, taste, wall, false);
+    let told = wall.told.refused();
+    let session = match told.is_empty() || random.percent(50) {
+        true => session(random, taste, wall, false),
+        false => *random.pick(&told),
+    };
     let mut request = maker.request(random).to_vec();
     let asked = rows::output_asked(&request);
     if !random.percent(taste.fitting) {

@@ -12,7 +12,7 @@ use crate::wall::Wall;
 use simulator::{Control, REFUSED};
 
 pub fn play(player: &mut Player<'_>, random: &mut Random, maker: &Maker, taste: &Taste, wall: &Wall) -> Result<(), Mismatch> {
-    let even = Taste { weights: [1; CALLS], sizes: (1, 8), fitting: taste.fitting.min(70) };
+    let even = Taste { weights: [1; CALLS], sizes: (1, 8), fitting: taste.fitting.min(70), misfits: taste.misfits };
     let call = match random.percent(15) {
         true => arguments::setup(random, 50),
         false => arguments::call(random, maker, &even, wall),

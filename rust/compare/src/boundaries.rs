@@ -1,6 +1,7 @@
 //! The boundaries that a run must have met, with how their calls ended.
 
 use crate::keys::{APPLIED, COLLECT_SPACES, COMMIT, DONE, Edit, Key, PREVIEW, READ, READ_SPACES, Reading, SENT_OVER, WAITED};
+use crate::keys::{RAISED_BEHIND, RAISED_FROM, RAISED_HIGH, REFUSED_AT, REFUSED_IN_LIST};
 
 /// −1 as it is kept in a key.
 const LESS: u32 = u32::MAX;
@@ -8,7 +9,18 @@ const HUGE: u32 = u32::MAX;
 
 pub fn all() -> Vec<Key> {
     let spaces = [reading(&READ_SPACES), reading(&COLLECT_SPACES)].concat();
-    [edit(&COMMIT), edit(&PREVIEW), spaces, OTHERS.to_vec()].concat()
+    [edit(&COMMIT), edit(&PREVIEW), taken(), spaces, OTHERS.to_vec()].concat()
+}
+
+/// Those of a commit refused with 8. Its commits are at most 511, since the last operation has to fit the log.
+fn taken() -> Vec<Key> {
+    numbered(&[
+        (REFUSED_AT, &[0, 1, 511], 8),
+        (REFUSED_IN_LIST, &[0, 1], 8),
+        (RAISED_FROM, &[0, 1], 8),
+        (RAISED_HIGH, &[0, 1], 8),
+        (RAISED_BEHIND, &[0, 1, 2], 8),
+    ])
 }
 
 /// Those of a read or of a collect that have to do with spaced titles.
@@ -50,6 +62,15 @@ fn edit(of: &Edit) -> Vec<Key> {
         (of.spaced_cart, &[2], 16),
         (of.spaced_cart, &[2, 3, 4], DONE),
         (of.same_title, &[64], 16),
+        (of.wrong_state, &[0, 1, 2], 8),
+        (of.wrong_state, &[1, 2], 7),
+        (of.wrong_state, &[1, 2], 16),
+        (of.wrong_state, &[2], 6),
+        (of.wrong_state, &[2], 5),
+        (of.wrong_state, &[2], 4),
+        (of.wrong_state, &[2], 3),
+        (of.at_fault, &[1, 2, 3, 4, 5, 6, 7, 8], 8),
+        (of.fault_kind, &[1, 2, 3, 4], 8),
     ])
 }
 

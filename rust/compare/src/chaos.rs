@@ -12,7 +12,7 @@ use crate::wall::Wall;
 
 pub fn play(player: &mut Player<'_>, seed: u64) -> Result<(), Mismatch> {
     let mut random = Random::new(seed);
-    let taste = Taste { weights: [1; CALLS], sizes: (1, 8), fitting: 80 };
+    let taste = Taste { weights: [1; CALLS], sizes: (1, 8), fitting: 80, misfits: 5 };
     for _ in 0..10 {
         let maker = Maker::new(&mut random, 6);
         let wall = direct::wall(&mut random, &maker);

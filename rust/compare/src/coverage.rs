@@ -59,6 +59,7 @@ impl Coverage {
         if end != 1 {
             self.note_arguments(call, control, before, answer);
             self.note_spaces(call, before, after, answer);
+            self.note_wrong_state(call, control, holding, before, answer);
         }
     }
 
@@ -202,7 +203,7 @@ impl Coverage {
     fn note_test(&mut self, subject: &'static str, call: &Call, control: &Control, before: &Before, end: u32) {
         let studio = rows::session_studio(call, control);
         if matches!(end, READ | WAITED) {
-            let number = u32::from(before.session[2]) | u32::from(before.session[3]) << 8;
+            let number = rows::session_number(&before.session);
             let behind = i64::from(number) - i64::from(control.applied[studio as usize - 1]);
             self.count((subject, behind.clamp(-2, 2) as u32, end));
             self.count(("read or collect, session number", number, end));

@@ -28,6 +28,8 @@ pub enum Aim {
     Titles,
     /// Titles that only an engine before S-2 took.
     Older,
+    /// Commits refused with 8, with studios behind and level, and the reads after them.
+    Taken,
 }
 
 /// One list being played.
@@ -42,7 +44,7 @@ pub struct Guide<'p, 'e> {
 pub fn play(player: &mut Player<'_>, seed: u64, aim: Aim) -> Result<(), Mismatch> {
     let mut random = Random::new(seed);
     let carts = match aim {
-        Aim::Titles | Aim::Waits | Aim::Older => 3,
+        Aim::Titles | Aim::Waits | Aim::Older | Aim::Taken => 3,
         Aim::Mixed => 40,
         _ => 10,
     };
@@ -69,7 +71,7 @@ impl Guide<'_, '_> {
         }
         let mut call = arguments::setup(&mut self.random, 100);
         if let Call::Setup { studios, session_studios } = &mut call {
-            if matches!(aim, Aim::Window | Aim::Waits | Aim::Older) {
+            if matches!(aim, Aim::Window | Aim::Waits | Aim::Older | Aim::Taken) {
                 *studios = self.random.within(1, 2) as u32;
                 session_studios.iter_mut().for_each(|studio| *studio = (*studio).min(*studios as u8));
             }
@@ -92,6 +94,7 @@ impl Guide<'_, '_> {
             Aim::Varied => self.fill(&taste([66, 13, 13, 5, 3, 7], (1, 8), 97), 500),
             Aim::Window => self.window(),
             Aim::Older => self.older(),
+            Aim::Taken => self.taken(),
         }
     }
 
@@ -123,11 +126,11 @@ impl Guide<'_, '_> {
         self.steps(150, &taste([5, 40, 40, 10, 5, 3], (1, 1), 95))
     }
 
-    /// A preview and its commit that just fit the log, or are one operation too large, aside.
+    /// A preview and its commit that just fit the log, or are one operation too large, aside; often with a cart in the wrong state.
     fn overfill(&mut self) -> Result<(), Mismatch> {
         let space = 512 - self.wall.control.used as usize;
         let size = self.random.within(space, space + 1).clamp(1, 8);
-        let taste = taste(arguments::only(PREVIEW), (size, size), 97);
+        let taste = Taste { misfits: 30, ..taste(arguments::only(PREVIEW), (size, size), 97) };
         let call = arguments::call(&mut self.random, &self.maker, &taste, &self.wall);
         self.player.play_aside(&self.wall, &call, |_| ()).map(|_| ())
     }
@@ -162,8 +165,21 @@ impl Guide<'_, '_> {
         }
         self.steps(300, &mixed)
     }
+
+    /// Edits; then studios that stay behind or catch up; then edits of carts in the wrong state, and reads.
+    fn taken(&mut self) -> Result<(), Mismatch> {
+        for _ in 0..10 {
+            self.steps(6, &taste([75, 5, 5, 5, 5, 5], (1, 3), 95))?;
+            if self.random.percent(50) {
+                self.steps(20, &taste([0, 45, 45, 0, 10, 0], (1, 1), 100))?;
+            }
+            let mistaken = Taste { misfits: 70, ..taste([40, 5, 5, 30, 12, 8], (1, 3), 97) };
+            self.steps(10, &mistaken)?;
+        }
+        Ok(())
+    }
 }
 
 fn taste(weights: [usize; CALLS], sizes: (usize, usize), fitting: usize) -> Taste {
-    Taste { weights, sizes, fitting }
+    Taste { weights, sizes, fitting, misfits: 5 }
 }

@@ -12,6 +12,22 @@ pub type Key = (&'static str, u32, u32);
 pub const PREVIEWED: &str = "commit right after its preview";
 pub const PREVIEWED_IN_LIST: &str = "commit right after its preview, in a list";
 
+/// The commits of the control at which a commit was refused with 8: anywhere, and in lists from fresh systems, where it is an entry.
+pub const REFUSED_AT: &str = "commit refused with 8, commits";
+pub const REFUSED_IN_LIST: &str = "commit refused with 8 in a list, commits";
+/// Such a refusal of a session whose number is below commits.
+pub const RAISED: Key = ("commit refused with 8, number below commits", 0, 8);
+/// The number that it raises, the high byte that it writes, and how far the session's studio is behind.
+pub const RAISED_FROM: &str = "number raised by a refusal 8, from";
+pub const RAISED_HIGH: &str = "number raised by a refusal 8, high byte";
+pub const RAISED_BEHIND: &str = "number raised by a refusal 8, commits − applied";
+/// The session's next read: any, and one that waits only because of the refusal. Then the collect of that read.
+pub const READ_TOLD: &str = "next read after a refusal 8 that raised the number";
+pub const READ_TOLD_ALONE: &str = "next read after a refusal 8 that raised a number already reached";
+pub const COLLECT_TOLD: &str = "collect of the next read after a refusal 8";
+/// A number raised by a refusal 8 in lists from memory that no list reaches.
+pub const RAISED_UNREACHED: &str = "list from unreached memory with a number raised by a refusal 8";
+
 /// The subjects of a commit or of a preview, which have the same arguments.
 pub struct Edit {
     pub session: &'static str,
@@ -33,6 +49,11 @@ pub struct Edit {
     pub spaced_cart: &'static str,
     /// The length of the spaced title that a retitle gives to a cart that has it.
     pub same_title: &'static str,
+    /// Where row 8 holds: commits less the session's number, 2 standing for more too.
+    pub wrong_state: &'static str,
+    /// Where row 8 stops it: the place and the kind of the first operation at fault.
+    pub at_fault: &'static str,
+    pub fault_kind: &'static str,
 }
 
 macro_rules! edit {
@@ -53,6 +74,9 @@ macro_rules! edit {
             spaced_place: concat!($call, ", the one spaced title of eight at"),
             spaced_cart: concat!("operation of a ", $call, " on a cart with a spaced title, kind"),
             same_title: concat!("operation of a ", $call, ", the spaced title that the cart has, length"),
+            wrong_state: concat!($call, " with row 8, commits − session's number"),
+            at_fault: concat!($call, ", the first operation in a wrong state at"),
+            fault_kind: concat!($call, ", the first operation in a wrong state, kind"),
         }
     };
 }

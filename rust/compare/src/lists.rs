@@ -5,12 +5,13 @@ use crate::asides;
 use crate::chaos;
 use crate::direct;
 use crate::guided::{self, Aim};
+use crate::keys::{DONE, RAISED, RAISED_UNREACHED};
 use crate::make::Maker;
 use crate::player::{Mismatch, Player};
 use crate::random::Random;
 use crate::sweep;
 
-const KINDS: [&str; 18] = [
+const KINDS: [&str; 19] = [
     "mixed",
     "direct",
     "waits",
@@ -29,6 +30,7 @@ const KINDS: [&str; 18] = [
     "lengths",
     "chaos",
     "older",
+    "taken",
 ];
 
 pub fn kind(seed: u64) -> &'static str {
@@ -47,6 +49,7 @@ pub fn play(player: &mut Player<'_>, seed: u64) -> Result<(), Mismatch> {
         "varied" => guided::play(player, seed, Aim::Varied),
         "ones" => guided::play(player, seed, Aim::Ones),
         "older" => guided::play(player, seed, Aim::Older),
+        "taken" => guided::play(player, seed, Aim::Taken),
         "direct" => unreached(player, seed),
         "damage" => damage(player, seed),
         "memory sweep" => sweep::memory(player, seed, turn),
@@ -60,14 +63,15 @@ pub fn play(player: &mut Player<'_>, seed: u64) -> Result<(), Mismatch> {
 /// Only lists from fresh systems, for the one-copy order alone.
 pub fn play_fresh(player: &mut Player<'_>, seed: u64) -> Result<(), Mismatch> {
     player.begin_list(seed);
-    let aims = [Aim::Waits, Aim::Titles, Aim::Mixed, Aim::Window, Aim::Older];
+    let aims = [Aim::Waits, Aim::Titles, Aim::Mixed, Aim::Window, Aim::Older, Aim::Taken];
     guided::play(player, seed, aims[seed as usize % aims.len()])
 }
 
 /// Lists from memory of the layout that no list reaches.
 fn unreached(player: &mut Player<'_>, seed: u64) -> Result<(), Mismatch> {
     let mut random = Random::new(seed);
-    let taste = Taste { weights: [25, 15, 30, 18, 12, 12], sizes: (1, 8), fitting: 92 };
+    let taste = Taste { weights: [25, 15, 30, 18, 12, 12], sizes: (1, 8), fitting: 92, misfits: 8 };
+    let raised = player.coverage.met(&RAISED);
     for _ in 0..8 {
         let maker = Maker::new(&mut random, 6);
         let mut wall = direct::wall(&mut random, &maker);
@@ -76,13 +80,16 @@ fn unreached(player: &mut Player<'_>, seed: u64) -> Result<(), Mismatch> {
             player.play(&mut wall, &call)?;
         }
     }
+    if player.coverage.met(&RAISED) > raised {
+        player.coverage.count((RAISED_UNREACHED, 0, DONE));
+    }
     Ok(())
 }
 
 /// Damage of every kind to memory that has a place for every kind.
 fn damage(player: &mut Player<'_>, seed: u64) -> Result<(), Mismatch> {
     let mut random = Random::new(seed);
-    let taste = Taste { weights: [1; CALLS], sizes: (1, 8), fitting: 75 };
+    let taste = Taste { weights: [1; CALLS], sizes: (1, 8), fitting: 75, misfits: 5 };
     for _ in 0..10 {
         let maker = Maker::new(&mut random, 6);
         let wall = direct::wall(&mut random, &maker);

@@ -31,6 +31,8 @@ mod self_check;
 mod single;
 mod spaces;
 mod sweep;
+mod taken;
+mod told;
 mod wall;
 mod watch;
 mod wrong;

@@ -51,6 +51,13 @@ impl Maker {
         self.operation(random, kind, cart)
     }
 
+    /// In the place of an operation that meets its cart one on the same cart that does not.
+    pub fn misfit(&self, random: &mut Random, unit: &mut [u8]) {
+        let kind = if unit[0] == 1 { random.within(2, 4) as u8 } else { 1 };
+        let cart = u16::from_le_bytes([unit[2], unit[3]]);
+        unit.copy_from_slice(&self.operation(random, kind, cart));
+    }
+
     /// An operation in form, of any kind, that may meet its cart or not.
     pub fn any(&self, random: &mut Random) -> Unit {
         let kind = random.within(1, 4) as u8;

@@ -4,7 +4,7 @@ use crate::call::Call;
 use crate::coverage::Coverage;
 use crate::differ::{answer_text, first_difference};
 use crate::engine::{Engine, simulate};
-use crate::keys::{PREVIEWED, PREVIEWED_IN_LIST};
+use crate::keys::{PREVIEWED, PREVIEWED_IN_LIST, REFUSED_IN_LIST};
 use crate::left;
 use crate::lent::Lent;
 use crate::one_copy::History;
@@ -52,12 +52,14 @@ impl<'e> Player<'e> {
         self.calls += 1;
         wall.lend(call, self.call_number);
         watch::call_begins(self.call_number, call);
+        let number = rows::session_number(&rows::stored(call, &wall.played));
         let answer = match self.compares {
             true => self.compare(wall, call)?,
             false => self.engine.play(call, wall.control, &mut wall.played),
         };
         wall.control = answer.control;
         wall.previewed = call.previewed().map(|commit| (commit, answer));
+        wall.told.follow(call, number, &answer);
         Ok(answer)
     }
 
@@ -79,6 +81,7 @@ impl<'e> Player<'e> {
         self.check_left(call, control, &answer, &wall.played)?;
         self.check_preview(wall, call, &answer)?;
         self.coverage.note(call, &control, &holding, &before, &wall.simulated, &answer);
+        self.coverage.note_told(call, wall.told.of(call), &control, &before, &answer);
         Ok(answer)
     }
 
@@ -89,7 +92,11 @@ impl<'e> Player<'e> {
         if previewed.is_some() {
             self.coverage.count_end(PREVIEWED_IN_LIST, &answer);
         }
+        let entries = history.len();
         history.note(self.call_number, call, &answer, wall.played.output.lent());
+        if answer.kind == REFUSED && history.len() > entries {
+            self.coverage.count((REFUSED_IN_LIST, answer.control.commits, answer.value));
+        }
         Ok(answer)
     }
 

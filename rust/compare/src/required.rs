@@ -2,6 +2,7 @@
 
 use crate::boundaries;
 use crate::damage;
+use crate::keys::{COLLECT_TOLD, RAISED, RAISED_UNREACHED, READ_TOLD, READ_TOLD_ALONE};
 use crate::keys::{DONE, Key, LENGTHS, PREVIEWED, PREVIEWED_IN_LIST, READ, WAITED};
 use crate::older;
 use crate::places;
@@ -88,7 +89,21 @@ pub fn lines() -> Vec<Line> {
     lines.extend(sweeps.map(|name| Line::Ended((name, 0, DONE))));
     lines.extend(damage::names().map(|name| Line::Ended((name, 0, 2))));
     lines.push(Line::Ended((older::NAME, 0, DONE)));
+    lines.extend(told().map(Line::Ended));
     lines
+}
+
+/// Numbers raised by refusal 8, and the reads after it.
+fn told() -> [Key; 7] {
+    [
+        RAISED,
+        (RAISED_UNREACHED, 0, DONE),
+        (READ_TOLD, 0, READ),
+        (READ_TOLD, 0, WAITED),
+        (READ_TOLD_ALONE, 0, WAITED),
+        (COLLECT_TOLD, 0, READ),
+        (COLLECT_TOLD, 0, WAITED),
+    ]
 }
 
 fn pair(call: &'static str, row: u32, other: u32) -> Option<Line> {

@@ -79,6 +79,11 @@ pub fn stored(call: &Call, lent: &Lent) -> Vec<u8> {
     }
 }
 
+/// The number that a session's 80 bytes have.
+pub fn session_number(unit: &[u8]) -> u32 {
+    u32::from(unit[2]) | u32::from(unit[3]) << 8
+}
+
 fn waiting(call: &Call, lent: &Lent) -> bool {
     stored(call, lent)[0] != 0
 }
@@ -102,13 +107,13 @@ fn edit_row_holds(row: u32, operations: &[u8], control: &Control, lent: &Lent) -
     }
 }
 
-fn in_form(operations: &[u8]) -> impl Iterator<Item = &[u8]> {
-    operations.chunks_exact(UNIT).filter(|unit| simulator::operation_in_form(unit))
+fn in_form(operations: &[u8]) -> impl Iterator<Item = (usize, &[u8])> {
+    operations.chunks_exact(UNIT).enumerate().filter(|(_, unit)| simulator::operation_in_form(unit))
 }
 
 /// Row 16: a new or retitle has a spaced title; operations out of form are passed over.
 pub fn spaced_title_met(operations: &[u8]) -> bool {
-    in_form(operations).any(|unit| matches!(unit[0], 1 | 2) && title_spaced(unit))
+    in_form(operations).any(|(_, unit)| matches!(unit[0], 1 | 2) && title_spaced(unit))
 }
 
 /// Whether the title of 80 bytes begins or ends with byte 32, by 02's words (S-2) and not by the simulator: of an operation, a record, a
@@ -130,14 +135,19 @@ pub fn head_end(lent: &Lent) -> Vec<u8> {
 
 /// Row 8; operations out of form are passed over.
 pub fn wrong_state_met(operations: &[u8], lent: &Lent) -> bool {
-    let mut head_end = head_end(lent);
-    for unit in in_form(operations) {
-        if !single::meets(&head_end, unit) {
-            return true;
+    first_at_fault(operations, &head_end(lent)).is_some()
+}
+
+/// The place, from 0, of the first operation that meets its cart in the wrong state.
+pub fn first_at_fault(operations: &[u8], head_end: &[u8]) -> Option<usize> {
+    let mut copy = head_end.to_vec();
+    for (place, unit) in in_form(operations) {
+        if !single::meets(&copy, unit) {
+            return Some(place);
         }
-        single::act(&mut head_end, unit);
+        single::act(&mut copy, unit);
     }
-    false
+    None
 }
 
 fn studio_row_holds(row: u32, studio: u32, control: &Control) -> bool {

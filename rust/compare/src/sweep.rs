@@ -13,7 +13,7 @@ use crate::random::Random;
 use crate::wall::Wall;
 use simulator::UNIT;
 
-const EVEN: Taste = Taste { weights: [1; CALLS], sizes: (1, 8), fitting: 92 };
+const EVEN: Taste = Taste { weights: [1; CALLS], sizes: (1, 8), fitting: 92, misfits: 5 };
 
 const BYTES: [u8; 15] = [0, 1, 2, 3, 4, 5, 31, 32, 33, 64, 65, 126, 127, 128, 255];
 
@@ -104,7 +104,7 @@ pub fn input(player: &mut Player<'_>, seed: u64, turn: usize) -> Result<(), Mism
 
 fn input_call(random: &mut Random, maker: &Maker, wall: &Wall, kind: usize) -> Call {
     let weights = arguments::only(if kind < 4 { PREVIEW } else { READ });
-    let taste = Taste { weights, sizes: (1, 3), fitting: 100 };
+    let taste = Taste { weights, sizes: (1, 3), fitting: 100, misfits: 0 };
     arguments::call(random, maker, &taste, wall)
 }
 

@@ -2,6 +2,7 @@
 
 use crate::call::Call;
 use crate::lent::Lent;
+use crate::told::Sessions;
 use simulator::{Answer, Control};
 
 #[derive(Clone)]
@@ -11,11 +12,13 @@ pub struct Wall {
     pub control: Control,
     /// If the latest call was a preview: the commit that it was of, and its answer.
     pub previewed: Option<(Call, Answer)>,
+    pub told: Sessions,
 }
 
 impl Wall {
     pub fn zeros() -> Wall {
-        Wall { simulated: Lent::zeros(), played: Lent::zeros(), control: Control::default(), previewed: None }
+        let (control, told) = (Control::default(), Sessions::default());
+        Wall { simulated: Lent::zeros(), played: Lent::zeros(), control, previewed: None, told }
     }
 
     pub fn copy_from(&mut self, other: &Wall) {
@@ -23,12 +26,14 @@ impl Wall {
         self.played.copy_from(&other.played);
         self.control = other.control;
         self.previewed.clone_from(&other.previewed);
+        self.told.clone_from(&other.told);
     }
 
     /// Gives the simulator the engine's memory, after the latter was changed.
     pub fn mirror(&mut self) {
         self.simulated.copy_from(&self.played);
         self.previewed = None;
+        self.told = Sessions::default();
     }
 
     /// The answer of the preview right before this call, if the call is the commit that it was of.
