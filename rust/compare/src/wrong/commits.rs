@@ -1,8 +1,9 @@
 //! Mistakes of commit.
 
-use super::mistake::{Mistake, Notes, copy_of, is_refused, mistake, order_mistake, refused, right};
+use super::mistake::{Mistake, Notes, copy_of, is_refused, mistake, order_mistake, refused, refused_8, right};
 use super::mistake::{clear_waiting, session_unit};
 use crate::call::Call;
+use crate::left::set_number;
 use crate::lent::Lent;
 use crate::log::transaction;
 use crate::rows;
@@ -29,21 +30,18 @@ pub const MISTAKES: &[Mistake] = &[
 ];
 
 fn number_at_send(notes: &mut Notes, call: &Call, control: Control, lent: &mut Lent) -> Answer {
-    let before = match call {
-        Call::Commit { session: session @ 1..=16, .. } if lent.right_lengths() => Some(session_unit(lent, *session)[2..4].to_vec()),
-        _ => None,
-    };
+    let before = rows::session_number(&rows::stored(call, lent));
     let answer = right(call, control, lent);
-    match (call, answer.kind, before) {
-        (Call::Setup { .. }, DONE, _) => notes.sessions.clear(),
-        (Call::Commit { session, .. }, DONE, Some(number)) => {
-            session_unit(lent, *session)[2..4].copy_from_slice(&number);
+    match (call, answer.kind) {
+        (Call::Setup { .. }, DONE) => notes.sessions.clear(),
+        (Call::Commit { session, .. }, DONE) => {
+            set_number(lent, *session, before);
             notes.sessions.insert(answer.value, *session);
         }
-        (Call::Send { .. }, DONE, _) => {
+        (Call::Send { .. }, DONE) => {
             if let Some(session) = notes.sessions.get(&answer.value) {
-                let number = (answer.value as u16).to_le_bytes();
-                session_unit(lent, *session)[2..4].copy_from_slice(&number);
+                let number = rows::session_number(session_unit(lent, *session));
+                set_number(lent, *session, number.max(answer.value));
             }
         }
         _ => {}
@@ -112,7 +110,7 @@ fn carts_checked_at_once(_: &mut Notes, call: &Call, control: Control, lent: &mu
     let stale = |unit: &[u8]| !single::meets(head_end, unit);
     if committed(call, &answer) && call.input().chunks_exact(80).any(stale) {
         lent.copy_from(&before);
-        return refused(8, control);
+        return refused_8(call, control, lent);
     }
     answer
 }
@@ -163,7 +161,7 @@ fn rows_6_7(_: &mut Notes, call: &Call, control: Control, lent: &mut Lent) -> An
 fn rows_7_8(_: &mut Notes, call: &Call, control: Control, lent: &mut Lent) -> Answer {
     let answer = right(call, control, lent);
     if is_refused(&answer, 7) && rows::wrong_state_met(call.input(), lent) {
-        return refused(8, control);
+        return refused_8(call, control, lent);
     }
     answer
 }

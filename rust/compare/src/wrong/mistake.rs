@@ -2,6 +2,7 @@
 
 use crate::call::Call;
 use crate::engine::simulate;
+use crate::left;
 use crate::lent::Lent;
 use simulator::{Answer, Control};
 use std::collections::BTreeMap;
@@ -38,6 +39,11 @@ pub const fn order_mistake(name: &'static str, play: Play) -> Mistake {
 /// An answer of a number without a control change.
 pub fn refused(number: u32, control: Control) -> Answer {
     Answer { kind: simulator::REFUSED, value: number, found: 0, control }
+}
+
+/// Refusal 8 where the right engine answers otherwise, with what it leaves of memory.
+pub fn refused_8(call: &Call, control: Control, lent: &mut Lent) -> Answer {
+    left::by_refusal(8, call, control, lent)
 }
 
 pub fn is_refused(answer: &Answer, number: u32) -> bool {

@@ -10,6 +10,7 @@ mod reads;
 mod setups;
 mod spaces;
 mod studios;
+mod taken;
 
 use crate::call::Call;
 use crate::engine::Engine;
@@ -21,6 +22,7 @@ use simulator::{Answer, Control};
 pub fn all() -> Vec<Mistake> {
     let groups = [
         commits::MISTAKES,
+        taken::MISTAKES,
         previews::MISTAKES,
         spaces::MISTAKES,
         studios::MISTAKES,

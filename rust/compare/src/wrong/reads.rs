@@ -3,6 +3,7 @@
 use super::mistake::{Mistake, Notes, copy_of, is_refused, mistake, order_mistake, refused, right};
 use super::mistake::{clear_waiting, session_unit};
 use crate::call::Call;
+use crate::left::set_number;
 use crate::lent::Lent;
 use crate::rows;
 use simulator::{ANSWERED, Answer, COPY, Control, WAITS};
@@ -287,8 +288,7 @@ fn read_raises_number(_: &mut Notes, call: &Call, control: Control, lent: &mut L
     if let Call::Read { session, .. } = call
         && answer.kind == ANSWERED
     {
-        let number = (answer.value as u16).to_le_bytes();
-        session_unit(lent, *session)[2..4].copy_from_slice(&number);
+        set_number(lent, *session, answer.value);
     }
     answer
 }
@@ -296,8 +296,7 @@ fn read_raises_number(_: &mut Notes, call: &Call, control: Control, lent: &mut L
 fn waits_too_long(_: &mut Notes, call: &Call, control: Control, lent: &mut Lent) -> Answer {
     let before = lent.clone();
     let answer = right(call, control, lent);
-    let stored = rows::stored(call, &before);
-    let number = u32::from(stored[2]) | u32::from(stored[3]) << 8;
+    let number = rows::session_number(&rows::stored(call, &before));
     if !answered(call, &answer) || number == 0 || number != answer.value {
         return answer;
     }

@@ -1,6 +1,6 @@
 //! Mistakes of row 16, and of memory and requests with spaced titles, which begin or end with a space.
 
-use super::mistake::{Mistake, Notes, copy_of, is_refused, mistake, order_mistake, refused, right};
+use super::mistake::{Mistake, Notes, copy_of, is_refused, mistake, order_mistake, refused, refused_8, right};
 use crate::call::Call;
 use crate::lent::{Lent, Part};
 use crate::log;
@@ -204,7 +204,7 @@ fn rows_16_7(_: &mut Notes, call: &Call, control: Control, lent: &mut Lent) -> A
 fn row_16_last(_: &mut Notes, call: &Call, control: Control, lent: &mut Lent) -> Answer {
     let answer = right(call, control, lent);
     match is_refused(&answer, 16) && rows::wrong_state_met(call.input(), lent) {
-        true => refused(8, control),
+        true => refused_8(call, control, lent),
         false => answer,
     }
 }
