@@ -7,29 +7,35 @@ use Rattle.carts.specs.Cart.{titleAt}
 use Rattle.carts.specs.Bytes.{byte, u16}
 use Rattle.lines.specs.Text.{partIn}
 use Rattle.lines.specs.Words.{bytesOf}
-use Rattle.journal.specs.History.{entryAt}
+use Rattle.journal.specs.History.{entryAt, commitKind, refusedKind}
 use Rattle.journal.specs.declared.history.Entry.{Entry}
 use Rattle.words.specs.Page.{numbered, countOf, quoted}
 use Rattle.words.specs.Request.{askedNumbers}
 
--- the one-copy order begins: how many edits and reads it has
-unfoldable pub orderText : ℕ → ℕ → List ℕ
-orderText edits reads = bytesOf "One-copy order of " ++ countOf edits (bytesOf "edit") ++ bytesOf " and " ++ countOf reads (bytesOf "read") ++ bytesOf ":\n"
+-- how many commits were refused with 8, where any were
+unfoldable pub refusalsText : ℕ → List ℕ
+refusalsText n = cond (eqb n 0) [] (bytesOf ", " ++ countOf n (bytesOf "refusal") ++ bytesOf " (8)")
 
--- how many of the first n entries are edits
-unfoldable pub ifEdit : Entry → ℕ
-ifEdit e = cond (eqb (e .kind) 1) 1 0
+-- the one-copy order begins: how many edits, refusals with 8 and reads it has
+unfoldable pub orderText : ℕ → ℕ → ℕ → List ℕ
+orderText edits refusals reads =
+    bytesOf "One-copy order of " ++ countOf edits (bytesOf "edit") ++ refusalsText refusals ++ (bytesOf " and " ++ countOf reads (bytesOf "read")) ++ bytesOf ":\n"
 
-unfoldable pub editsIn : List ℕ → ℕ → ℕ
-editsIn cells zero = 0
-editsIn cells (suc n) = editsIn cells n + ifEdit (entryAt cells n)
+-- how many of the first n entries are of a kind
+unfoldable pub ifKind : ℕ → Entry → ℕ
+ifKind kind e = cond (eqb (e .kind) kind) 1 0
 
--- an entry of the order: its line and session, and what it did: an edit's number and, one by one, its operations
+unfoldable pub ofKind : ℕ → List ℕ → ℕ → ℕ
+ofKind kind cells zero = 0
+ofKind kind cells (suc n) = ofKind kind cells n + ifKind kind (entryAt cells n)
+
+-- an entry of the order: its line and session, and what it did: an edit's number, or the edit at whose state a commit was refused,
+-- and, one by one, its operations
 unfoldable pub placeText : Entry → List ℕ
 placeText e = numbered "  line " (e .line) ++ numbered ", session " (e .session)
 
 unfoldable pub editText : Entry → List ℕ
-editText e = placeText e ++ numbered ": edit " (e .number) ++ bytesOf ":"
+editText e = placeText e ++ cond (eqb (e .kind) refusedKind) (numbered ": refused (8) at edit " (e .number)) (numbered ": edit " (e .number)) ++ bytesOf ":"
 
 unfoldable pub operationText : List ℕ → List ℕ
 operationText op =
@@ -47,10 +53,10 @@ requestText request =
 unfoldable pub askedText : Entry → List ℕ → List ℕ
 askedText e request = placeText e ++ requestText request
 
--- and what it was shown; where the next commit of the order is on an earlier line, that the read stands before it
+-- and what it was shown; where the next accepted commit of the order is on an earlier line, that the read stands before it
 unfoldable pub reasonText : Entry → Entry → List ℕ
 reasonText e next =
-    cond (eqb (next .kind) 1 && ltb (next .line) (e .line))
+    cond (eqb (next .kind) commitKind && ltb (next .line) (e .line))
     (numbered ", so it stands before edit " (next .number) ++ numbered " of line " (next .line)) []
 
 unfoldable pub shownText : Entry → Entry → List ℕ

@@ -7,8 +7,7 @@ use words::line;
 ghost use mathlib.Core.Path.{_≡_};
 ghost use Prim.Native.Nat.{_<_, _≤_};
 ghost use lib.ListN.{length};
-ghost use Rattle.journal.specs.History.{mostEntries};
-ghost use Rattle.order_lines.specs.Order.{ifEdit, editsIn};
+ghost use Rattle.order_lines.specs.Order.{ifKind, ofKind};
 
 // An operation, after the one before it.
 fn operation(op: &[u8], is_first: bool) {
@@ -33,7 +32,7 @@ fn operations(store: &[u8], first: u32, slots: u32) {
     }
 }
 
-// A commit's number, and its operations.
+// A commit's number, or at which edit it was refused, and its operations.
 fn edit(e: Entry, store: &[u8]) {
     let mut page = io::buffer();
     let n = order::edit(&mut page, e);
@@ -69,14 +68,14 @@ fn same(verdict: u8) {
     line::told(&page, n);
 }
 
-// The first commit in an order, from place i on; where there is none, the entry at place i.
+// The first accepted commit in an order, from place i on; where there is none, the entry at place i.
 fn next_commit(cells: &[u32], order: &[u32], n: usize, i: usize) -> Entry
     requires { ⌜ (n ≤ length (now order)) × (i < n) ⌝ }
 {
     let mut at = i;
     while at < n {
         let e = history::entry_at(cells, order[at]);
-        if e.kind == 1 {
+        if e.kind == Entry::COMMIT {
             return e;
         }
         at += 1;
@@ -89,7 +88,7 @@ fn entry(cells: &[u32], store: &[u8], order: &[u32], n: usize, i: usize)
     requires { ⌜ (n ≤ length (now order)) × (i < n) ⌝ }
 {
     let e = history::entry_at(cells, order[i]);
-    if e.kind == 1 {
+    if e.is_commit() {
         edit(e, store);
         return;
     }
@@ -125,34 +124,36 @@ pub fn left_out(answers: u32) {
     line::told(&page, n);
 }
 
-// 1 for an edit, 0 for a read.
-fn if_edit(e: Entry) -> u32
-    ensures { λ r. ⌜ (r ≡ ifEdit e) × (r ≤ 1) ⌝ }
+// 1 for an entry of the kind, else 0.
+fn if_kind(e: Entry, kind: u32) -> u32
+    ensures { λ r. ⌜ (r ≡ ifKind kind e) × (r ≤ 1) ⌝ }
 {
-    if e.kind == 1 {
+    if e.kind == kind {
         return 1;
     }
     0
 }
 
-// How many of the first n entries are edits.
-pub fn edits(cells: &[u32], n: u32) -> u32
-    requires { ⌜ n ≤ mostEntries ⌝ }
-    ensures { λ r. ⌜ (r ≡ editsIn (now (cells .entry)) n) × (r ≤ n) ⌝ }
+// How many of the first n entries are of the kind.
+fn of_kind(cells: &[u32], n: u32, kind: u32) -> u32
+    ensures { λ r. ⌜ r ≡ ofKind kind (now (cells .entry)) n ⌝ }
 {
     let mut count: u32 = 0;
     let mut i: u32 = 0;
     while i < n {
         let e = history::entry_at(cells, i);
-        count += if_edit(e);
+        count += if_kind(e, kind);
         i += 1;
     }
     count
 }
 
-// The order begins.
-pub fn heading(edits: u32, reads: u32) {
+// The order of n entries begins.
+pub fn heading(cells: &[u32], n: u32) {
+    let edits = of_kind(cells, n, Entry::COMMIT);
+    let refusals = of_kind(cells, n, Entry::REFUSED);
+    let reads = of_kind(cells, n, Entry::READ);
     let mut page = io::buffer();
-    let n = order::heading(&mut page, edits, reads);
-    line::told(&page, n);
+    let length = order::heading(&mut page, edits, refusals, reads);
+    line::told(&page, length);
 }

@@ -8,16 +8,29 @@ ghost use Prim.Native.Nat.{_+_, _≤_};
 ghost use lib.ListN.{length};
 ghost use Rattle.carts.specs.Cart.{cartSize};
 ghost use Rattle.words.specs.Page.{pageSize, Put, Told};
-ghost use Rattle.order_lines.specs.Order.{orderText, placeText, editText, operationText, requestText, askedText, reasonText, shownText, sameText, unlikeText, verdictText, leftOutText};
+ghost use Rattle.order_lines.specs.Order.{orderText, refusalsText, placeText, editText, operationText, requestText, askedText, reasonText, shownText, sameText, unlikeText, verdictText, leftOutText};
+
+// How many commits were refused with 8, where any were.
+fn put_refusals(out: &mut [u8], at: usize, n: u32) -> usize
+    requires { ⌜ at + 64 ≤ length (now out) ⌝ }
+    ensures { λ r. ⌜ Put (refusalsText n) (now (out .entry)) at (now (out .exit)) r × (r ≤ at + 64) ⌝ }
+{
+    if n == 0 {
+        return at;
+    }
+    let a = page::put_counted(out, at, b", ", n, b"refusal");
+    page::put(out, a, b" (8)")
+}
 
 // The order begins.
-pub fn heading(out: &mut [u8], edits: u32, reads: u32) -> usize
+pub fn heading(out: &mut [u8], edits: u32, refusals: u32, reads: u32) -> usize
     requires { ⌜ length (now out) ≡ pageSize ⌝ }
-    ensures { λ r. ⌜ Told (orderText edits reads) (now (out .entry)) (now (out .exit)) r ⌝ }
+    ensures { λ r. ⌜ Told (orderText edits refusals reads) (now (out .entry)) (now (out .exit)) r ⌝ }
 {
     let a = page::put_counted(out, 0, b"One-copy order of ", edits, b"edit");
-    let b = page::put_counted(out, a, b" and ", reads, b"read");
-    page::put(out, b, b":\n")
+    let b = put_refusals(out, a, refusals);
+    let c = page::put_counted(out, b, b" and ", reads, b"read");
+    page::put(out, c, b":\n")
 }
 
 // An entry's line and session.
@@ -28,12 +41,15 @@ fn put_place(out: &mut [u8], e: Entry) -> usize
     page::put_pair(out, 0, b"  line ", e.line, b", session ", e.session)
 }
 
-// A commit, before its operations.
+// A commit, accepted or refused with 8, before its operations.
 pub fn edit(out: &mut [u8], e: Entry) -> usize
     requires { ⌜ length (now out) ≡ pageSize ⌝ }
     ensures { λ r. ⌜ Told (editText e) (now (out .entry)) (now (out .exit)) r ⌝ }
 {
     let a = put_place(out, e);
+    if e.kind == Entry::REFUSED {
+        return page::put_between(out, a, b": refused (8) at edit ", e.number, b":");
+    }
     page::put_between(out, a, b": edit ", e.number, b":")
 }
 
@@ -78,12 +94,12 @@ pub fn asked(out: &mut [u8], e: Entry, request: &[u8]) -> usize
     put_request(out, a, request)
 }
 
-// Why a read stands before the next commit of the order, where that is on an earlier line.
+// Why a read stands before the next accepted commit of the order, where that is on an earlier line.
 fn put_reason(out: &mut [u8], at: usize, e: Entry, next: Entry) -> usize
     requires { ⌜ at + 64 ≤ length (now out) ⌝ }
     ensures { λ r. ⌜ Put (reasonText e next) (now (out .entry)) at (now (out .exit)) r ⌝ }
 {
-    if (next.kind == 1) & (next.line < e.line) {
+    if (next.kind == Entry::COMMIT) & (next.line < e.line) {
         return page::put_pair(
             out,
             at,
