@@ -11,7 +11,7 @@ use Rattle.report.specs.declared.turn.Came.the-variants as Came
 use Rattle.replication.specs.declared.control.Control.{Control}
 
 -- a call's answer, with the payload of a commit or the block of a read; a preview "has no entry in the one-copy order" (02,
--- S-1); a line that cannot be read is counted; any other line changes nothing
+-- S-1), also where it answers 8 (S-3); a line that cannot be read is counted; any other line changes nothing
 unfoldable pub cameKept : Progress → Came → Control → List ℕ → List ℕ → List ℕ → List ℕ → Kept
 cameKept p (Came.Setup a studios) c payload block cells store = kept cells store (afterSetup p c a)
 cameKept p (Came.Commit a s n) c payload block cells store = afterCommit p c a s (partIn payload 0 (recordSize * n)) cells store

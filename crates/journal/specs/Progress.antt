@@ -15,7 +15,7 @@ use Rattle.replication.specs.declared.answer.CountAnswer.the-variants as Count
 use Rattle.replication.specs.declared.answer.ReadAnswer.{ReadAnswer}
 use Rattle.replication.specs.declared.answer.ReadAnswer.the-variants as Read
 use Rattle.lines.specs.Text.{partIn}
-use Rattle.journal.specs.History.{addedCells, addedStore, addedHistory, emptyHistory, keptIn, slotSize}
+use Rattle.journal.specs.History.{addedCells, addedStore, addedHistory, emptyHistory, keptIn, slotSize, commitKind, readKind, refusedKind}
 use Rattle.journal.specs.declared.history.Entry.{Entry}
 use Rattle.journal.specs.declared.history.History.{History}
 use Rattle.journal.specs.declared.progress.Outcome.{Outcome}
@@ -61,14 +61,14 @@ pub record Kept : Type 0 where
 abbrev pub kept : List ℕ → List ℕ → Progress → Kept
 kept cells store p = record { cells = cells; store = store; progress = p }
 
--- an entry of kind 1, a commit, or 2, a read; its slots are set where it is added
+-- an entry of a kind; its slots are set where it is added
 abbrev pub entryOf : ℕ → ℕ → ℕ → ℕ → ℕ → Entry
 entryOf kind line session number found = record { kind = kind; line = line; session = session; number = number; found = found; first = 0; slots = 0 }
 
--- an accepted call, with one entry more where there is room
-unfoldable pub withEntry : Progress → Control → Entry → List ℕ → List ℕ → List ℕ → Kept
-withEntry p control e payload cells store =
-    kept (addedCells (p .history) e payload cells store) (addedStore (p .history) e payload cells store) (stepped p control (addedHistory (p .history) e payload cells store) Accepted)
+-- after a call that is an entry: one more where there is room
+unfoldable pub withEntry : Progress → Control → Outcome → Entry → List ℕ → List ℕ → List ℕ → Kept
+withEntry p control outcome e payload cells store =
+    kept (addedCells (p .history) e payload cells store) (addedStore (p .history) e payload cells store) (stepped p control (addedHistory (p .history) e payload cells store) outcome)
 
 -- a setup: accepted, the entries begin anew; refused, memory is unchanged, and the control that there was is kept
 unfoldable pub afterSetup : Progress → Control → SetupAnswer → Progress
@@ -80,10 +80,13 @@ unfoldable pub afterMove : Progress → Control → CountAnswer → Progress
 afterMove p control (Count.Number n) = stepped p control (p .history) Accepted
 afterMove p control (Count.Refused n) = stepped p control (p .history) Refused
 
--- a commit: accepted, it is an entry with its operations
+-- a commit: accepted, it is an entry with its number and its operations; "refused with 8", it "becomes an entry of the one-copy order, answered by a
+-- library of that many commits" (02, S-3): its number is the commits of the control that the call handed back
 unfoldable pub afterCommit : Progress → Control → CountAnswer → ℕ → List ℕ → List ℕ → List ℕ → Kept
-afterCommit p control (Count.Number n) session ops cells store = withEntry p control (entryOf 1 (p .line) session n 0) ops cells store
-afterCommit p control (Count.Refused n) session ops cells store = kept cells store (stepped p control (p .history) Refused)
+afterCommit p control (Count.Number n) session ops cells store = withEntry p control Accepted (entryOf commitKind (p .line) session n 0) ops cells store
+afterCommit p control (Count.Refused n) session ops cells store =
+    let told = withEntry p control Refused (entryOf refusedKind (p .line) session (control .commits) 0) ops cells store in
+    cond (eqb n 8) told (kept cells store (stepped p control (p .history) Refused))
 
 -- how many carts an answered read shows: one for a title, else one for each number; the request is at the block's start
 unfoldable pub placesOf : List ℕ → ℕ
@@ -95,7 +98,7 @@ readBytes block = partIn block 0 (slotSize + slotSize * placesOf block)
 
 -- a read or a collect: answered, it is an entry with its request and carts; where it waits, its request is kept
 unfoldable pub afterRead : Progress → Control → ReadAnswer → ℕ → List ℕ → List ℕ → List ℕ → Kept
-afterRead p control (Read.Answered state found) session block cells store = withEntry p control (entryOf 2 (p .line) session state found) (readBytes block) cells store
+afterRead p control (Read.Answered state found) session block cells store = withEntry p control Accepted (entryOf readKind (p .line) session state found) (readBytes block) cells store
 afterRead p control (Read.Waits n) session block cells store = kept cells (keptIn store session (partIn block 0 slotSize)) (stepped p control (p .history) Waited)
 afterRead p control (Read.Refused n) session block cells store = kept cells store (stepped p control (p .history) Refused)
 

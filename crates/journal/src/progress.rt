@@ -144,22 +144,23 @@ impl Progress {
         }
     }
 
-    // An accepted call, with one entry more where there is room.
+    // After a call that is an entry, one more where there is room.
     fn with_entry(
         self,
         control: Control,
+        outcome: Outcome,
         cells: &mut [u32],
         store: &mut [u8],
         e: Entry,
         payload: &[u8],
     ) -> Progress
         requires { ⌜ 8 * self .history .entries ≤ length (now cells) ⌝ }
-        ensures { λ r. ⌜ (kept (now (cells .exit)) (now (store .exit)) r ≡ withEntry self control e (now (payload .entry)) (now (cells .entry)) (now (store .entry)))
+        ensures { λ r. ⌜ (kept (now (cells .exit)) (now (store .exit)) r ≡ withEntry self control outcome e (now (payload .entry)) (now (cells .entry)) (now (store .entry)))
             × (8 * r .history .entries ≤ length (now (cells .entry))) ⌝ }
     {
         let history = self.history;
         let next = history.add(cells, store, e, payload);
-        self.stepped(control, next, Outcome::Accepted)
+        self.stepped(control, next, outcome)
     }
 
     // A setup was answered: accepted, the entries begin anew; refused, the system before it goes on.
@@ -191,7 +192,7 @@ impl Progress {
         }
     }
 
-    // A commit was answered: accepted, it is an entry with its operations.
+    // A commit was answered: accepted, it is an entry with its number; refused with 8, with the commits handed back.
     pub fn after_commit(
         self,
         result: CountResult,
@@ -208,10 +209,14 @@ impl Progress {
         let control = result.control;
         match answer {
             CountAnswer::Number(n) => {
-                let e = entry_of(1, self.line, session, n, 0);
-                self.with_entry(control, cells, store, e, ops)
+                let e = entry_of(Entry::COMMIT, self.line, session, n, 0);
+                self.with_entry(control, Outcome::Accepted, cells, store, e, ops)
             }
-            CountAnswer::Refused(_) => {
+            CountAnswer::Refused(row) => {
+                if row == 8 {
+                    let e = entry_of(Entry::REFUSED, self.line, session, control.commits, 0);
+                    return self.with_entry(control, Outcome::Refused, cells, store, e, ops);
+                }
                 let history = self.history;
                 self.stepped(control, history, Outcome::Refused)
             }
@@ -236,9 +241,9 @@ impl Progress {
         let history = self.history;
         match answer {
             ReadAnswer::Answered { state, found } => {
-                let e = entry_of(2, self.line, session, state, found);
+                let e = entry_of(Entry::READ, self.line, session, state, found);
                 let payload = text::part_of(block, 0, Entry::SLOT + Entry::SLOT * places(block));
-                self.with_entry(control, cells, store, e, payload)
+                self.with_entry(control, Outcome::Accepted, cells, store, e, payload)
             }
             ReadAnswer::Waits(_) => {
                 history::keep_request(store, session, text::part_of(block, 0, Entry::SLOT));

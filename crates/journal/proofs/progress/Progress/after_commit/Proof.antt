@@ -1,5 +1,5 @@
 use Rattle.journal.specs.declared.progress.Outcome.the-variants.{Refused}
-use Rattle.journal.proofs.ProgressLaws.{commit-entry, commit-refused, same-room}
+use Rattle.journal.proofs.ProgressLaws.{commit-accepted, commit-told, commit-refused, same-room}
 use lib.ListN.{length}
 use borrow.Author.Needs.{needs}
 use Rattle.journal.proofs.progress.Progress.after_commit.Statement.{statement}
@@ -14,11 +14,14 @@ entry-of-requires c κs = search needs
 with-entry-requires : tie.Need-with-entry-requires
 with-entry-requires c κs = search needs
 
-enum-told : tie.Need-enum-told
-enum-told c = search needs
+enum-known-answer-2 : tie.Need-enum-known-answer-2
+enum-known-answer-2 c = search needs
 
-stepped-requires : tie.Need-stepped-requires
-stepped-requires c κs = search needs
+entry-of-requires-2 : tie.Need-entry-of-requires-2
+entry-of-requires-2 c κs = search needs
+
+with-entry-requires-2 : tie.Need-with-entry-requires-2
+with-entry-requires-2 c κs = search needs
 
 same-length : tie.Need-same-length
 same-length c = search needs
@@ -27,14 +30,37 @@ same-length-2 : tie.Need-same-length-2
 same-length-2 c = search needs
 
 returns : tie.Need-returns
-returns c = let at-entry-of = c .before .before .before .before .before .before .before in let start = c .before .before .before .before .before .before .before .before .before .before .before .before .before .before .before in let a = start .args in
-    let w = c .before .before .before .before .with-entry .ensures in
-    (commit-entry (a .self) (a .result .control) (a .result .answer) (a .session) (a .ops .now) (a .cells .now) (a .store .now) _ (at-entry-of .before .before .answer .given .1) (at-entry-of .entry-of .ensures) (w .0), w .1)
+returns c =
+    let called = c .before .before .before .before in
+    let made = called .before .before .before in
+    let branch = made .before in
+    let a = branch .before .before .before .before .before .before .before .before .args in
+    let w = called .with-entry2 .ensures in
+    (commit-told (a .self) (a .result .control) (a .result .answer) (a .session) (a .ops .now) (a .cells .now) (a .store .now) _ (branch .before .before .answer2 .given .1) (branch .if1 .taken) (made .entry-of2 .ensures) (w .0), w .1)
+
+stepped-requires : tie.Need-stepped-requires
+stepped-requires c κs = search needs
+
+same-length-3 : tie.Need-same-length-3
+same-length-3 c = search needs
+
+same-length-4 : tie.Need-same-length-4
+same-length-4 c = search needs
 
 returns-2 : tie.Need-returns-2
-returns-2 c = let s = c .before .before .before .before .before .before .before .before in
+returns-2 c =
+    let called = c .before .before .before .before in
+    let made = called .before .before .before in
+    let a = made .before .before .before .before .before .before .before .before .args in
+    let w = called .with-entry .ensures in
+    (commit-accepted (a .self) (a .result .control) (a .result .answer) (a .session) (a .ops .now) (a .cells .now) (a .store .now) _ (made .before .before .answer .given .1) (made .entry-of .ensures) (w .0), w .1)
+
+returns-3 : tie.Need-returns-3
+returns-3 c =
+    let branch = c .before .before in
+    let s = branch .before .before .before .before .before .before .before .before in
     let a = s .args in (
-      commit-refused (a .self) (a .result .control) (a .result .answer) (a .session) (a .ops .now) (a .cells .now) (a .store .now) _ (c .before .before .enum-told .given .1) (c .stepped .ensures),
+      commit-refused (a .self) (a .result .control) (a .result .answer) (a .session) (a .ops .now) (a .cells .now) (a .store .now) _ (branch .before .before .answer2 .given .1) (branch .if1 .left) (c .stepped .ensures),
       same-room (a .self) (a .result .control) Refused (length (a .cells .now)) (s .pre) (c .stepped .ensures),
     )
 
@@ -45,9 +71,14 @@ after-commit-spec =
     enum-known-answer
     entry-of-requires
     with-entry-requires
-    enum-told
-    stepped-requires
+    enum-known-answer-2
+    entry-of-requires-2
+    with-entry-requires-2
     same-length
     same-length-2
     returns
-    returns-2)
+    stepped-requires
+    same-length-3
+    same-length-4
+    returns-2
+    returns-3)

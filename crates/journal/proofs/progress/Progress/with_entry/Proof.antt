@@ -17,7 +17,7 @@ same-length-2 c = search needs
 
 returns : tie.Need-returns
 returns c = let s = c .before .before .before .before .before .before .before .before .before .before .before .before in
-    with-entry (s .args .self) (s .args .control) (s .args .e) (s .args .payload .now) (s .args .cells .now) (s .args .store .now) (s .pre) (c .before .before .before .before .before .add .ensures) (c .stepped .ensures)
+    with-entry (s .args .self) (s .args .control) (s .args .outcome) (s .args .e) (s .args .payload .now) (s .args .cells .now) (s .args .store .now) (s .pre) (c .before .before .before .before .before .add .ensures) (c .stepped .ensures)
 
 pub with-entry-spec : {M : Type 1} → statement M
 with-entry-spec =
