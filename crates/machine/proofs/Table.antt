@@ -1,6 +1,7 @@
 -- The table of twelve, reads while transactions are sent and not applied, and previews, on the plain machine by computation.
 use mathlib.Core.Path.{_≡_, refl}
 use mathlib.Core.List.{List, [], _∷_, _++_}
+use lib.ListN.{take}
 use Rattle.carts.specs.Bytes.{zeros, u16, u32, u16s, within, all, every, any, allZero, pairwise, parts}
 use Rattle.carts.specs.Cart.{cartAt, printable, titleForm, hasTitle, noTitle, hasAudio, noAudio, held}
 use Rattle.carts.specs.Operation.{operationFields, operationForm, spaced, operationsOf, made, retitled, recut, meetsCart, effect, actedOn, meets, act, meetsAll, actAll}
@@ -34,6 +35,15 @@ computed H = plainHistory start H
 pub table : Table (plainHistory start) (afterCalls start (callsOf cases2to10) .next .log)
 unfolding computed longTitle titleRead cases2to10 case11 case12
 table = record { fresh = refl; followed = refl; audio = refl; empty = refl; longTitles = refl; oneTitle = refl }
+
+-- 02, S-3: cases 8 and 10, which are refused with 8, leave session 1's number at commits
+pub case-8-number : Machine.sessionOf (afterCalls start (callsOf (take 9 cases2to10)) .next) 1 .number ≡ 1
+unfolding computed cases2to10
+case-8-number = refl
+
+pub case-10-number : Machine.sessionOf (afterCalls start (callsOf cases2to10) .next) 1 .number ≡ 2
+unfolding computed cases2to10
+case-10-number = refl
 
 -- a studio that lags behind what it was sent: its reads show the state that it has applied
 unfoldable pub lagging : List Event
