@@ -167,7 +167,7 @@ sulyobak_answer sulyobak_setup(uint8_t *library, size_t library_len, uint8_t *lo
  * Answers done (value: the commit's number, from 1), or refused 1, 2, 3, 4, 5, 6, 16, 7, 8 (in this order).
  * Refused by 8, the session has been told of the library at the head end: its number becomes control.commits (bytes 2 and 3 of its 80
  * bytes, no other byte, and control comes back as it was passed), so its later reads wait until its studio has taken everything that
- * was committed by then, and show what the refusal spoke of. Every other refusal changes no byte. */
+ * was committed by then: none of them shows a copy from before the refusal. Every other refusal changes no byte. */
 sulyobak_answer sulyobak_commit(uint8_t *library, size_t library_len, uint8_t *log, size_t log_len, uint8_t *sessions, size_t sessions_len,
                                 sulyobak_control control, uint32_t session, const uint8_t *operations, size_t operations_len);
 

@@ -50,7 +50,7 @@ fn asked(e: Entry, request: &[u8]) {
     line::told(&page, n);
 }
 
-// What a read asked for and was shown, with the next commit of the order.
+// What a read asked for and was shown, with the next accepted commit of the order.
 fn read(e: Entry, store: &[u8], next: Entry) {
     asked(
         e,

@@ -120,7 +120,8 @@ impl Library {
     /// ```
     ///
     /// [`Refusal::WrongState`] tells of the library at the head end. So it raises the session's number to the count of commits, its only
-    /// change, and the session's later reads wait until they show what it told of. No other refusal changes anything.
+    /// change, and the session's later reads wait until the studio's copy has all that was committed by then. No other refusal changes
+    /// anything.
     ///
     /// ```
     /// use sulyobak::{Library, Operation, Read, Refusal, Request, Title};
