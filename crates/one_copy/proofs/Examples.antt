@@ -14,8 +14,10 @@ use Rattle.one_copy.specs.Fault.{allowed, firstFault}
 use Rattle.one_copy.specs.Replay.{plays}
 use Rattle.one_copy.specs.Order.{ofRank, byRank, opsOf, commits, copyAfter, countAfter, refusalAgrees, commitAgrees, isSame}
 
--- a short copy of eight empty carts: new 7 meets its cart on it, withdraw 8 does not, and withdraw 0 is out of form
+-- a short copy of eight empty carts: new 7 meets its cart on it, withdraw 8 does not, and withdraw 0 is out of form; whoever unfolds it unfolds all that
+-- an operation is judged by
 unfoldable none : List ℕ
+unfolding zeros u16 u32 u16Bytes within all every any allZero parts cartAt printable titleForm hasTitle noTitle hasAudio noAudio held operationFields operationForm spaced operationsOf made meetsCart effect actedOn meets act meetsAll u32Bytes operation newCart withdrawCart news
 none = zeros 640
 
 -- new 7 "News", and new 7 " News"
@@ -34,7 +36,7 @@ pub record Faults : Type 0 where
   by-state-in-turn : firstFault none 8 (plainNews ++ plainNews) 8 ≡ 2
 
 pub faults : Faults
-unfolding none plainNews spacedNews zeros u16 u32 u16Bytes within all every any allZero parts cartAt printable titleForm hasTitle noTitle hasAudio noAudio held operationFields operationForm spaced operationsOf made meetsCart effect actedOn meets act meetsAll u32Bytes operation newCart withdrawCart news allowed firstFault
+unfolding none plainNews spacedNews allowed firstFault
 faults = record {
   by-space = refl;
   by-first-space = refl;
@@ -68,7 +70,7 @@ pub record Refusals : Type 0 where
   order : byRank five 5 0 6 ≡ 1 ∷ 0 ∷ 2 ∷ 4 ∷ 3 ∷ []
 
 pub refusals : Refusals
-unfolding none plainNews refusedAt five zeros u16 u32 u16Bytes within all every any allZero parts cartAt printable titleForm hasTitle noTitle hasAudio noAudio held operationFields operationForm spaced operationsOf made meetsCart effect actedOn meets act meetsAll u32Bytes operation newCart withdrawCart news entryAt entryCells isCommit rankOf plays ofRank byRank opsOf commits copyAfter countAfter refusalAgrees commitAgrees isSame
+unfolding none plainNews refusedAt five entryAt entryCells isCommit rankOf plays ofRank byRank opsOf commits copyAfter countAfter refusalAgrees commitAgrees isSame
 refusals = record {
   at-its-count = refl;
   stays = refl;
