@@ -8,7 +8,7 @@ use borrow.Author.Tests.{leb-true, leb-false, le-leb, lt-leb}
 use Rattle.replication.specs.Memory.{nth}
 use Rattle.replication.specs.Request.{Request}
 use Rattle.replication.specs.Calls.{numberAfter}
-use Rattle.machine.specs.Machine.{Machine, Step, refusal, commits, sessionOf, withNumber, refusedCommit, answerFrom, block}
+use Rattle.machine.specs.Machine.{Machine, Step, refusal, sessionOf, told, refusedCommit, answerFrom, block}
 use Rattle.machine.proofs.Updates.{eqb-case}
 
 -- what session s's studio has applied
@@ -16,10 +16,10 @@ abbrev pub stateFor : Machine → ℕ → ℕ
 stateFor m s = nth (m .applied) (sessionOf m s .studio)
 
 -- a commit refused with 8 leaves its session with the number commits; refused by another row it leaves the machine as it was
-pub refused-case : (P : Step → Type 0) (m : Machine) (s n : ℕ) → (n ≡ 8 → P (refusal (withNumber m s (commits m)) [] n)) → ((n ≡ 8 → ⊥) → P (refusal m [] n))
+pub refused-case : (P : Step → Type 0) (m : Machine) (s n : ℕ) → (n ≡ 8 → P (refusal (told m s) [] n)) → ((n ≡ 8 → ⊥) → P (refusal m [] n))
     → P (refusedCommit m s n)
 unfolding refusedCommit
-refused-case P m s n told other = eqb-case (λ b. P (refusal (cond b (withNumber m s (commits m)) m) [] n)) n 8 told other
+refused-case P m s n by-8 other = eqb-case (λ b. P (refusal (cond b (told m s) m) [] n)) n 8 by-8 other
 
 -- "if applied of the session's studio is at least the session's number, answered; else .."
 module _ (m : Machine) (s : ℕ) (q : Request) (behind : Step) (out : List ℕ) where

@@ -17,7 +17,7 @@ use Rattle.replication.proofs.RowLaws.{unless-case}
 use Rattle.replication.proofs.ShownLaws.{Askable, length-shown, request-askable}
 use Rattle.replication.proofs.DecideLaws.{KnownSession}
 use Rattle.replication.proofs.Accepted.{commit-passed, CommitTold, commit-told, read-passed, collect-passed}
-use Rattle.machine.specs.Machine.{Machine, session, Step, step, refusal, commits, sessionOf, withNumber, commit, preview, send, refresh, answerFrom, block, wait, read, collect, call, run}
+use Rattle.machine.specs.Machine.{Machine, session, Step, step, refusal, commits, sessionOf, told, commit, preview, send, refresh, answerFrom, block, wait, read, collect, call, run}
 use Rattle.machine.specs.Library.{operations, Reply, request, at, refused8, shown, library, serve}
 use Rattle.machine.specs.OneCopy.{Event, event, Counted, counted, entry, commitReplies, readReplies, readEntry, Kind, writes, reads, collects, neither, kindOf, entryOf, waitedAfter, entries}
 use Rattle.machine.proofs.Sort.{length-snoc}
@@ -71,7 +71,7 @@ module _ (H : List Call.Call) (go-on : Goes H) (m : Machine) (copies : ℕ → L
   nothing-new a out = go-on (step a m out) n copies floor waited (i + 1) refl sound f
 
   -- a commit refused with 8 is answered by the library of n commits, and its session has seen it
-  when-told : (s : ℕ) (bytes : List ℕ) (k : ℕ) → k ≡ 8 → CommitTold s (sessionOf m s .studio) (L (m .log) n) bytes → Fits (writes s bytes) (refusal (withNumber m s n) [] k)
+  when-told : (s : ℕ) (bytes : List ℕ) (k : ℕ) → k ≡ 8 → CommitTold s (sessionOf m s .studio) (L (m .log) n) bytes → Fits (writes s bytes) (refusal (told m s) [] k)
   unfolding entryOf commitReplies waitedAfter
   when-told s bytes k e a = rw e (λ kept.
       let ops : Transaction = operationsOf bytes in

@@ -29,7 +29,7 @@ module _ (m : Machine) (f : Sound m) where
 
   keeps-commit : (s : ℕ) (bytes : List ℕ) → Keeps (commit m s bytes)
   unfolding commit
-  keeps-commit s bytes = unless-case Keeps _ _ _ (λ k e. refused-case Keeps m s _ (λ u. with-session m f s _ (omega arith) (f .askable (s - 1))) (λ u. f)) (λ e.
+  keeps-commit s bytes = unless-case Keeps _ _ _ (λ k e. refused-case Keeps m s _ (λ u. with-session m f s _ (omega (arith, f .number-le (s - 1), applied-commits m f (sessionOf m s .studio - 1))) (f .askable (s - 1))) (λ u. f)) (λ e.
       let a = commit-passed s (sessionOf m s .studio) (sessionOf m s .waiting) (recordsUsed (m .log)) (L (m .log) (commits m)) bytes e in
       with-session _ (with-transaction m f (operationsOf bytes) (operations-of bytes (a .form))) s _
       (rw (length-snoc (m .log) (operationsOf bytes)) (omega (arith, f .number-le (s - 1))))

@@ -10,8 +10,9 @@ use Rattle.replication.specs.Request.{Request, nothing}
 use Rattle.replication.specs.Call as Call
 use Rattle.replication.specs.Calls.{numberAfter}
 use Rattle.replication.proofs.RowLaws.{unless-case}
+use Rattle.replication.proofs.DecideLaws.{KnownSession}
 use Rattle.replication.proofs.Accepted.{commit-told}
-use Rattle.machine.specs.Machine.{Machine, Session, session, Step, commits, sessionOf, withSession, commit, preview, send, refresh, answerFrom, block, wait, read, collect, call, afterCalls}
+use Rattle.machine.specs.Machine.{Machine, Session, session, Step, commits, sessionOf, withSession, told, commit, preview, send, refresh, answerFrom, block, wait, read, collect, call, afterCalls}
 use Rattle.machine.specs.Asked.{asker}
 use Rattle.machine.proofs.Updates.{set-either}
 use Rattle.machine.proofs.Cases.{refused-case, block-case}
@@ -40,7 +41,7 @@ module _ (m : Machine) (f : Sound m) (s v : ℕ) (h : Reached s v m) where
 
   commit-reaches : (t : ℕ) (bytes : List ℕ) → Still (commit m t bytes)
   unfolding commit
-  commit-reaches t bytes = unless-case Still _ _ _ (λ k e. refused-case Still m t _ (λ u. renumbered t _ (f .number-le (t - 1))) (λ u. h))
+  commit-reaches t bytes = unless-case Still _ _ _ (λ k e. refused-case Still m t _ (λ u. renumbered t _ (omega (arith, f .number-le (t - 1)))) (λ u. h))
       (λ e. renumbered t _ (omega (arith, f .number-le (t - 1))))
 
   block-reaches : (t : ℕ) (q : Request) (out : List ℕ) → Still (block m t q (wait m t q out) out)
@@ -62,14 +63,14 @@ after-reaches H r s v f h = after-keeps (λ m. Sound m × Reached s v m) (λ m p
 -- a commit refused with 8 leaves its session's number at commits
 told-reached : (m : Machine) → Sound m → (s : ℕ) (bytes : List ℕ) → commit m s bytes .answer ≡ refused 8 → Reached s (commits m) (commit m s bytes .next)
 unfolding commit
-told-reached m f s bytes =
-    unless-case (λ (r : Step). r .answer ≡ refused 8 → Reached s (commits m) (r .next)) _ _ _
-    (λ k e. refused-case (λ (r : Step). r .answer ≡ refused 8 → Reached s (commits m) (r .next)) m s _
-    (λ u _. let w = commit-told _ _ _ _ _ _ (e ∙ u) .who in
-    let z = f .sixteen in
-    rw (getD-set-same (m .sessions) (s - 1) _ _ (omega (arith, w .low, w .high))) (omega arith))
-    (λ u a. absurd (u cc)))
+told-reached m f s bytes = unless-case Tells _ _ _ (λ k e. refused-case Tells m s _ (λ u _. raised (commit-told _ _ _ _ _ _ (e ∙ u) .who)) (λ u a. absurd (u cc)))
     (λ e a. let z : _≡_ {A = ℕ} 0 1 = cc in absurd (omega arith))
+  where
+    Tells : Step → Type 0
+    Tells r = r .answer ≡ refused 8 → Reached s (commits m) (r .next)
+
+    raised : KnownSession s (sessionOf m s .studio) → Reached s (commits m) (told m s)
+    raised w = let z = f .sixteen in rw (getD-set-same (m .sessions) (s - 1) _ _ (omega (arith, w .low, w .high))) (omega arith)
 
 -- a later read or collect of that session, after any list of calls, is answered from a state that has them all
 pub shown-after : (m : Machine) → Sound m → (s : ℕ) (bytes : List ℕ) → call m (Call.commit s bytes) .answer ≡ refused 8

@@ -80,10 +80,13 @@ unfoldable pub setup : ℕ → List ℕ → Step
 setup studios bytes =
     unless (stopped (setupRows studios bytes)) (refusal (fresh 0 (zeros sessionCount)) []) (step (done 0) (fresh studios bytes) [])
 
--- what a commit that a row stops leaves, by the row's number. 02, S-3: "A commit refused with 8 now raises the session's number to commits, and
--- changes nothing else."
+-- 02, S-3, "told that the cart is taken": "A commit refused with 8 now raises the session's number to commits, and changes nothing else."
+abbrev pub told : Machine → ℕ → Machine
+told m s = withNumber m s (commits m)
+
+-- what a commit that a row stops leaves, by the row's number
 unfoldable pub refusedCommit : Machine → ℕ → ℕ → Step
-refusedCommit m s n = refusal (cond (eqb n 8) (withNumber m s (commits m)) m) [] n
+refusedCommit m s n = refusal (cond (eqb n 8) (told m s) m) [] n
 
 -- "Commit (session, 1 to 8 operations): .. all are applied and appended, or none. The commit's number is the new count; the session's
 -- number becomes it. Returns it."

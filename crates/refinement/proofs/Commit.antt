@@ -139,7 +139,7 @@ module _ (c : Control) (m : Memory) (s : ℕ) (bytes : List ℕ) where
         answer = refl;
         output = refl;
         next =
-            eqb-case (λ b. Represents c (withSessions m (cond b (withNumber (m .sessions) s (c .commits)) (m .sessions))) (cond b (Plain.withNumber M s (Plain.commits M)) M)) n 8
+            eqb-case (λ b. Represents c (withSessions m (cond b (withNumber (m .sessions) s (c .commits)) (m .sessions))) (cond b (Plain.told M s) M)) n 8
             (λ u. let w = commit-told _ _ _ _ _ _ (e ∙ u) .who in
             rw (session-of c m _ h s, log-length c m _ h)
             (session-represents c m s w (arrays c m (h .form)) f (c .commits) _ (own-bytes c (m .sessions) (f .sessions) s w) (omega arith) log sessions h))

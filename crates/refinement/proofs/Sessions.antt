@@ -192,6 +192,7 @@ session-of c m M h (suc s) = go (decLe (suc s) 16)
 abbrev pub with : Memory → ℕ → ℕ → List ℕ → Memory
 with m s n x = withSessions m (withSession (m .sessions) s (withSequence n x))
 
+-- it keeps the layout, and stands for the machine with that session
 module _ (c : Control) (m : Memory) (s : ℕ) (w : KnownSession s (studioOf c s)) (a : Arrays c) (f : Formed c m) (n : ℕ) (x : List ℕ) (b : SessionBytes x)
     (l : n ≤ c .commits) where
   pub session-formed : Formed c (with m s n x)
