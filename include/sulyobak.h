@@ -3,9 +3,10 @@
  *
  * One head end commits edits to its copy of the library and to a log. Up to four studios are sent the committed transactions and apply
  * them, in order, to copies of their own. A session belongs to one studio and reads that studio's copy; a session's read is answered
- * once the copy has reached the session's number, and waits until then. The number is that of the session's last commit, or the count of
- * commits at which the head end refused it one because of a cart's state (8), whichever came later. So nobody is handed an old cut that
- * they have just replaced, or told that a cart is taken and then shown a copy from before it was.
+ * once the copy has reached the session's number, and waits until then; who cannot wait has the read forwarded to the head end. The number
+ * is that of the session's last commit, or the count of commits at which the head end refused it one because of a cart's state (8) or
+ * answered it, whichever came later. So nobody is handed an old cut that they have just replaced, or told or shown what the head end has
+ * and then shown a copy from before.
  *
  * ONE CHAIR IS ONE SESSION. The wait goes by the session's own number, so whoever edits must read in the session that committed. With two
  * sessions in one chair, an edit committed in the first does not raise the second's number: a read in the second is answered at once from
@@ -45,7 +46,7 @@ extern "C" {
 /* The version of this interface: functions, structs, numbers and layout of memory. sulyobak_control and sulyobak_answer may change
  * with it, so a header and a library go together (compare the macro with sulyobak_version() at the program's start), and control is stored
  * together with the version that wrote it. docs/FORMAT.md says which versions have the same control and layout. */
-#define SULYOBAK_VERSION 4
+#define SULYOBAK_VERSION 5
 
 /* Stack that every call keeps within, in bytes. Measured on a full system, not proved: examples/run runs examples/c/stack.c, which fails
  * where a call takes more. */
@@ -59,7 +60,7 @@ extern "C" {
 /* Sizes of what is passed in and out, in bytes. */
 #define SULYOBAK_CART_SIZE 80       /* a cart in a copy or in output */
 #define SULYOBAK_OPERATION_SIZE 80  /* an operation of a commit */
-#define SULYOBAK_REQUEST_SIZE 80    /* what a read asks for */
+#define SULYOBAK_REQUEST_SIZE 80    /* what a read or forward asks for */
 #define SULYOBAK_COPY_SIZE 10240    /* one copy of the library */
 #define SULYOBAK_OUTPUT_MOST 2560   /* output of this size is long enough for every read */
 
@@ -115,7 +116,7 @@ typedef struct {
     uint32_t value; /* refused: the number, below; done: what the call counts; answered: the state; waits: the session's number */
     uint32_t found; /* answered: how many carts were found */
     sulyobak_control control; /* control for the next call; unchanged where the call was refused (setup's apart), and by preview, read,
-                               * collect and layout */
+                               * collect, forward and layout */
 } sulyobak_answer;
 
 /* Kinds of answer. */
@@ -149,7 +150,7 @@ uint32_t sulyobak_version(void);
  * it takes as const.
  *   library, library_len     SULYOBAK_LIBRARY_SIZE bytes: changed by setup, commit, refresh
  *   log, log_len             SULYOBAK_LOG_SIZE bytes: changed by setup, commit
- *   sessions, sessions_len   SULYOBAK_SESSIONS_SIZE bytes: changed by setup, commit, read, collect */
+ *   sessions, sessions_len   SULYOBAK_SESSIONS_SIZE bytes: changed by setup, commit, read, collect, forward */
 
 /* Sets up a fresh system: all memory zero, every cart empty, all counts zero.
  *   studios               how many studios, 1 to 4
@@ -218,6 +219,20 @@ sulyobak_answer sulyobak_read(const uint8_t *library, size_t library_len, const 
 sulyobak_answer sulyobak_collect(const uint8_t *library, size_t library_len, const uint8_t *log, size_t log_len,
                                  uint8_t *sessions, size_t sessions_len, sulyobak_control control, uint32_t session, uint8_t *output,
                                  size_t output_len);
+
+/* Reads carts now, for who cannot wait: from the copy of the session's studio, exactly as sulyobak_read does, where that copy has reached
+ * the session's number; else from the head end's copy, and the session's number becomes control.commits. It never waits and keeps no
+ * request. After an answer of the head end the session's later reads wait until its studio has taken everything that was committed by
+ * then (a read straight afterwards waits), or are forwarded too: none of them shows a copy from before.
+ *   control               as the last call handed it back
+ *   session               1 to 16
+ *   request, request_len  as for read
+ *   output, output_len    as for read
+ * Answers answered (value: how many transactions the copy that answered had taken: of the head end's, control.commits; found, as for
+ * read), or refused 1, 2, 3, 4, 12, 13, as read. A session that has a read waiting is refused by 4, and that read waits on. */
+sulyobak_answer sulyobak_forward(const uint8_t *library, size_t library_len, const uint8_t *log, size_t log_len,
+                                 uint8_t *sessions, size_t sessions_len, sulyobak_control control, uint32_t session, const uint8_t *request,
+                                 size_t request_len, uint8_t *output, size_t output_len);
 
 /* Tests memory and control alone, as every call but setup does first: for use after loading them from a disk. Changes no memory.
  *   control   as it was stored
