@@ -17,7 +17,7 @@ use Rattle.replication.proofs.RowLaws.{unless-case}
 use Rattle.replication.proofs.ShownLaws.{Askable, length-shown, request-askable}
 use Rattle.replication.proofs.DecideLaws.{KnownSession}
 use Rattle.replication.proofs.Accepted.{commit-passed, CommitTold, commit-told, read-passed, collect-passed}
-use Rattle.machine.specs.Machine.{Machine, session, Step, step, refusal, commits, sessionOf, told, commit, preview, send, refresh, answerFrom, block, wait, read, collect, call, run}
+use Rattle.machine.specs.Machine.{Machine, session, Step, step, refusal, commits, sessionOf, told, commit, preview, send, refresh, answerFrom, block, wait, reading, read, collect, forward, call, run}
 use Rattle.machine.specs.Library.{operations, Reply, request, at, refused8, shown, library, serve}
 use Rattle.machine.specs.OneCopy.{Event, event, Counted, counted, entry, commitReplies, readReplies, readEntry, Kind, writes, reads, collects, neither, kindOf, entryOf, waitedAfter, entries}
 use Rattle.machine.proofs.Sort.{length-snoc}
@@ -113,7 +113,7 @@ module _ (H : List Call.Call) (go-on : Goes H) (m : Machine) (copies : ℕ → L
       go-on _ n copies floor waited (i + 1) refl kept (refreshed m copies floor waited f j _ (omega arith)))
 
   module _ (s : ℕ) (who : KnownSession s (sessionOf m s .studio)) where
-    -- session s is shown the library of k commits, and its number becomes v: by read, or by collect
+    -- session s is shown the library of k commits, and its number becomes v: by read or forward, or by collect
     module _ (k v : ℕ) (low : floor s ≤ k) (high : k ≤ n) (top : k ≤ level (m .applied) (session (sessionOf m s .studio) v nothing)) where
       when-shown : (q : Request) (out : List ℕ) → Askable q → let r = answerFrom k v q m s out in
           Sound (r .next) → History n copies floor (readEntry i s q (r .answer) (r .output) ++ entries (i + 1) waited (plainCounted r H))
@@ -145,13 +145,27 @@ module _ (H : List Call.Call) (go-on : Goes H) (m : Machine) (copies : ℕ → L
     collect-waits out kept = go-on _ n copies floor waited (i + 1) refl kept
         (left-so m copies floor waited f s _ who (sound .sixteen) (f .floors s (who .low)) (λ w. refl))
 
-  when-read : (s : ℕ) (bytes out : List ℕ) → Fits (reads s bytes) (read m s bytes out)
-  unfolding read entryOf readEntry readReplies waitedAfter
-  when-read s bytes out = unless-case (Fits (reads s bytes)) _ _ _ (λ k e kept. nothing-new _ _) (λ e.
+  when-reading : (s : ℕ) (bytes : List ℕ) (behind : Step) (out : List ℕ) → (KnownSession s (sessionOf m s .studio) → Askable (requestOf bytes) → Fits (reads s bytes) behind)
+      → Fits (reads s bytes) (reading m s bytes behind out)
+  unfolding entryOf readEntry readReplies waitedAfter
+  when-reading s bytes behind out later = unless-case (Fits (reads s bytes)) _ _ _ (λ k e kept. nothing-new _ _) (λ e.
       let a = read-passed s (sessionOf m s .studio) (sessionOf m s .waiting) bytes (length out) e in
+      let asked = request-askable bytes (a .form) in
       block-case m s _ _ out (Fits (reads s bytes))
-      (λ u. read-shown s (a .who) (stateFor m s) _ (omega (arith, f .floors s (a .who .low))) (applied-commits m sound _) (omega arith) bytes out (request-askable bytes (a .form)))
-      (λ u. read-waits s (a .who) bytes out))
+      (λ u. read-shown s (a .who) (stateFor m s) _ (omega (arith, f .floors s (a .who .low))) (applied-commits m sound _) (omega arith) bytes out asked)
+      (λ u. later (a .who) asked))
+
+  when-read : (s : ℕ) (bytes out : List ℕ) → Fits (reads s bytes) (read m s bytes out)
+  unfolding read
+  when-read s bytes out = when-reading s bytes _ out (λ who asked. read-waits s who bytes out)
+
+  -- the head end shows the library of n commits, and the number becomes n
+  when-forward : (s : ℕ) (bytes out : List ℕ) → Fits (reads s bytes) (forward m s bytes out)
+  unfolding forward
+  when-forward s bytes out = when-reading s bytes _ out (λ who asked.
+      let low : floor s ≤ n = omega (arith, f .floors s (who .low), sound .number-le (s - 1), applied-commits m sound (sessionOf m s .studio - 1)) in
+      let high : n ≤ n = omega arith in
+      read-shown s who n _ low high (omega (arith, f .floors s (who .low), sound .number-le (s - 1), applied-commits m sound (sessionOf m s .studio - 1))) bytes out asked)
 
   when-collect : (s : ℕ) (out : List ℕ) → Fits (collects s) (collect m s out)
   unfolding collect entryOf readEntry readReplies waitedAfter
@@ -171,6 +185,7 @@ module _ (H : List Call.Call) (go-on : Goes H) (m : Machine) (copies : ℕ → L
   goes (Call.refresh j) = when-refresh j
   goes (Call.read s bytes out) = when-read s bytes out
   goes (Call.collect s out) = when-collect s out
+  goes (Call.forward s bytes out) = when-forward s bytes out
 
 pub all-goes : (H : List Call.Call) → Goes H
 unfolding entries plainCounted Call.run

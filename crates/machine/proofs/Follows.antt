@@ -16,11 +16,11 @@ use Rattle.machine.proofs.Updates.{put, put-case, both-case, set-either
 use Rattle.replication.proofs.DecideLaws.{KnownSession}
 use Rattle.machine.proofs.Libraries.{L-before, L-after}
 
--- what a session can have been shown: its number (its own commits, and what a refusal 8 told it of), and what its studio has applied
+-- what a session can have been shown: its number (its own commits, and what the head end told it by a refusal 8 or showed it), and what its studio has applied
 abbrev pub level : List ℕ → Session → ℕ
 level applied x = max (x .number) (nth applied (x .studio))
 
-level-rises : (applied : List ℕ) (p n : ℕ) (x : Session) → getD applied p 0 ≤ n → level applied x ≤ level (set applied p n) x
+pub level-rises : (applied : List ℕ) (p n : ℕ) (x : Session) → getD applied p 0 ≤ n → level applied x ≤ level (set applied p n) x
 level-rises applied p n x u = set-either (λ y. level applied x ≤ max (x .number) y) applied p n 0 (x .studio - 1)
     (λ e. omega (arith, ap (λ (k : ℕ). getD applied k 0) e))
     (omega arith)

@@ -13,7 +13,7 @@ use Rattle.replication.specs.Calls.{numberAfter}
 use Rattle.replication.proofs.RowLaws.{unless-case}
 use Rattle.replication.proofs.ShownLaws.{Askable, request-askable}
 use Rattle.replication.proofs.Accepted.{commit-passed, send-passed, refresh-passed, read-passed}
-use Rattle.machine.specs.Machine.{Machine, Step, commits, sessionOf, commit, preview, send, refresh, answerFrom, block, wait, read, collect, call, afterCalls}
+use Rattle.machine.specs.Machine.{Machine, Step, commits, sessionOf, commit, preview, send, refresh, answerFrom, block, wait, reading, read, collect, forward, call, afterCalls}
 use Rattle.machine.proofs.Sort.{length-snoc}
 use Rattle.machine.proofs.Cases.{refused-case, stateFor, block-case}
 use Rattle.machine.proofs.Sound.{Sound, applied-commits, with-session, with-transaction, with-sent, with-applied}
@@ -64,11 +64,18 @@ module _ (m : Machine) (f : Sound m) where
   keeps-block s q behind out h = block-case m s q behind out Keeps (λ u. keeps-answer _ _ q s out
       (omega (arith, number-after (sessionOf m s .number) (stateFor m s), f .number-le (s - 1), applied-commits m f (sessionOf m s .studio - 1)))) (λ u. h)
 
+  keeps-reading : (s : ℕ) (request : List ℕ) (behind : Step) (out : List ℕ) → (Askable (requestOf request) → Keeps behind) → Keeps (reading m s request behind out)
+  keeps-reading s request behind out h = unless-case Keeps _ _ _ (λ k e. f) (λ e.
+      let a = read-passed s (sessionOf m s .studio) (sessionOf m s .waiting) request (length out) e in
+      keeps-block s _ _ out (h (request-askable request (a .form))))
+
   keeps-read : (s : ℕ) (request out : List ℕ) → Keeps (read m s request out)
   unfolding read
-  keeps-read s request out = unless-case Keeps _ _ _ (λ k e. f) (λ e.
-      let a = read-passed s (sessionOf m s .studio) (sessionOf m s .waiting) request (length out) e in
-      keeps-block s _ _ out (keeps-wait (requestOf request) s out (request-askable request (a .form))))
+  keeps-read s request out = keeps-reading s request _ out (keeps-wait _ s out)
+
+  keeps-forward : (s : ℕ) (request out : List ℕ) → Keeps (forward m s request out)
+  unfolding forward
+  keeps-forward s request out = keeps-reading s request _ out (λ a. keeps-answer _ _ _ s out (omega (arith, f .number-le (s - 1))))
 
   keeps-collect : (s : ℕ) (out : List ℕ) → Keeps (collect m s out)
   unfolding collect
@@ -82,6 +89,7 @@ module _ (m : Machine) (f : Sound m) where
   keeps (Call.refresh i) = keeps-refresh i
   keeps (Call.read s request out) = keeps-read s request out
   keeps (Call.collect s out) = keeps-collect s out
+  keeps (Call.forward s request out) = keeps-forward s request out
 
 -- what every call keeps, every list keeps
 pub after-keeps : (P : Machine → Type 0) → ((m : Machine) → P m → (x : Call.Call) → P (call m x .next)) → (H : List Call.Call) (r : Step) → P (r .next) → P (afterCalls r H .next)

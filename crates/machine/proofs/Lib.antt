@@ -12,6 +12,7 @@ pub mod Entries
 pub mod OneCopyOrder
 pub mod Grows
 pub mod Shown
+pub mod NeverBack
 pub mod Told
 pub mod Titles
 pub mod TitleReads
@@ -19,4 +20,5 @@ pub mod Places
 pub mod Table
 pub mod NotEmpty
 pub mod Taken
+pub mod Forwarded
 pub mod Spaces

@@ -29,7 +29,7 @@ started = refl
 
 -- a list's history from that start; whoever unfolds this unfolds all that the plain machine computes a history with
 unfoldable pub computed : List Call → List Event
-unfolding zeros u16 u32 u16s within all every any allZero pairwise parts cartAt printable titleForm hasTitle noTitle hasAudio noAudio held operationFields operationForm spaced operationsOf made retitled recut meetsCart effect actedOn meets act meetsAll actAll shownByNumbers foundByNumbers sameLetter titled titledFrom titledIn theOne topHourA noRoom numbersIn requestOf numbersForm requestFields requestForm isWaiting needed foundIn shownFrom stopped unless setupRows sessionRow studioRow sizeForm commitRows sendRows refreshRows readRows collectRows numberAfter replay L recordsUsed Machine.fresh Machine.setup Machine.refusedCommit Machine.commit Machine.preview Machine.send Machine.refresh Machine.answerFrom Machine.block Machine.wait Machine.read Machine.collect Machine.call run final plainHistory start A buffer holding studioBytes payload new withdraw7 cartRead seven
+unfolding zeros u16 u32 u16s within all every any allZero pairwise parts cartAt printable titleForm hasTitle noTitle hasAudio noAudio held operationFields operationForm spaced operationsOf made retitled recut meetsCart effect actedOn meets act meetsAll actAll shownByNumbers foundByNumbers sameLetter titled titledFrom titledIn theOne topHourA noRoom numbersIn requestOf numbersForm requestFields requestForm isWaiting needed foundIn shownFrom stopped unless setupRows sessionRow studioRow sizeForm commitRows sendRows refreshRows readRows collectRows numberAfter replay L recordsUsed Machine.fresh Machine.setup Machine.refusedCommit Machine.commit Machine.preview Machine.send Machine.refresh Machine.answerFrom Machine.block Machine.wait Machine.read Machine.collect Machine.forward Machine.call run final plainHistory start A buffer holding studioBytes payload new withdraw7 cartRead seven
 computed H = plainHistory start H
 
 pub table : Table (plainHistory start) (afterCalls start (callsOf cases2to10) .next .log)

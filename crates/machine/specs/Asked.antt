@@ -5,7 +5,7 @@ use Rattle.replication.specs.Call.{Call}
 use Rattle.machine.specs.Machine.{Machine, sessionOf}
 use Rattle.machine.specs.OneCopy.{Kind, writes, reads, collects, neither, kindOf}
 
--- what a call asks for: "Read (session, request)"; "Collect (session): .. the stored request"
+-- what a call asks for: "Read (session, request)", and forward too; "Collect (session): .. the stored request"
 unfoldable pub askedBy : Machine → Kind → Request
 askedBy m (writes s bytes) = nothing
 askedBy m (reads s bytes) = requestOf bytes
@@ -15,7 +15,7 @@ askedBy m neither = nothing
 abbrev pub asked : Machine → Call → Request
 asked m x = askedBy m (kindOf x)
 
--- the session that a read or collect names; 0 for any other call
+-- the session that a read, forward or collect names; 0 for any other call
 unfoldable pub askerBy : Kind → ℕ
 askerBy (writes s bytes) = 0
 askerBy (reads s bytes) = s

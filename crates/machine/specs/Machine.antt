@@ -131,18 +131,26 @@ block m s q behind out =
 unfoldable pub wait : Machine → ℕ → Request → List ℕ → Step
 wait m s q out = let x = sessionOf m s in step (waits (x .number)) (withSession m s (session (x .studio) (x .number) q)) out
 
+-- a reading call that brings its request: read's rows, then the block step
+abbrev pub reading : Machine → ℕ → List ℕ → Step → List ℕ → Step
+reading m s request behind out =
+    let x = sessionOf m s in
+    unless (stopped (readRows s (x .studio) (x .waiting) request (length out))) (refusal m out) (block m s (requestOf request) behind out)
+
 -- "Read (session, request)"
 unfoldable pub read : Machine → ℕ → List ℕ → List ℕ → Step
-read m s request out =
-    let x = sessionOf m s in
-    let q = requestOf request in
-    unless (stopped (readRows s (x .studio) (x .waiting) request (length out))) (refusal m out) (block m s q (wait m s q out) out)
+read m s request out = reading m s request (wait m s (requestOf request) out) out
 
 -- "Collect (session): the same test on the stored request; answered clears it"
 unfoldable pub collect : Machine → ℕ → List ℕ → Step
 collect m s out =
     let x = sessionOf m s in
     unless (stopped (collectRows s (x .studio) (x .waiting) (length out))) (refusal m out) (block m s (x .waiting) (wait m s (x .waiting) out) out)
+
+-- 02, S-4, "the Forward method": "Where the studio's copy has reached the session's number, it answers exactly as read does. Otherwise it answers from the
+-- head end's copy with state commits, and the session's number becomes commits."
+unfoldable pub forward : Machine → ℕ → List ℕ → List ℕ → Step
+forward m s request out = reading m s request (answerFrom (commits m) (commits m) (requestOf request) m s out) out
 
 unfoldable pub call : Machine → Call.Call → Step
 call m (Call.commit s bytes) = commit m s bytes
@@ -151,6 +159,7 @@ call m (Call.send i) = send m i
 call m (Call.refresh i) = refresh m i
 call m (Call.read s request out) = read m s request out
 call m (Call.collect s out) = collect m s out
+call m (Call.forward s request out) = forward m s request out
 
 -- a list of calls, and what it leaves, as on bytes
 abbrev pub run : Step → List Call.Call → List (Call.Turn Step)

@@ -1,4 +1,4 @@
--- STATEMENT. Document 01, "The one-copy order", sentence by sentence, with document 02's S-3: what demand 3 claims of the calls on bytes.
+-- STATEMENT. Document 01, "The one-copy order", sentence by sentence, with document 02's S-3 and S-4: what demand 3 claims of the calls on bytes.
 use mathlib.Core.Path.{_≡_}
 use mathlib.Core.Bool.{cond}
 use mathlib.Core.List.{List, [], _∷_, _++_, map, List·Permᴰ}
@@ -9,7 +9,7 @@ use Rattle.carts.specs.Operation.{operationsOf}
 use Rattle.replication.specs.Answer.{Answer, refused, done, waits, answered}
 use Rattle.replication.specs.Memory.{Memory}
 use Rattle.replication.specs.Request.{Request, requestOf, needed}
-use Rattle.replication.specs.Call.{Call, Turn, commit, preview, send, refresh, read, collect}
+use Rattle.replication.specs.Call.{Call, Turn, commit, preview, send, refresh, read, collect, forward}
 use Rattle.replication.specs.Calls as Bytes
 use Rattle.machine.specs.Library.{Input, operations, request, Reply, number, at, refused8, shown, Library, emptyLibrary, play}
 
@@ -77,7 +77,8 @@ pub data Kind : Type 0 where
   collects : ℕ → Kind
   neither : Kind
 
--- 02, S-1, of preview: "It has no entry in the one-copy order."
+-- 02, S-1, of preview: "It has no entry in the one-copy order." S-4: "The single-library order has to cover lists that mix both reading calls": an answered
+-- forward is an entry as an answered read is
 unfoldable pub kindOf : Call → Kind
 kindOf (commit s bytes) = writes s bytes
 kindOf (preview s bytes) = neither
@@ -85,6 +86,7 @@ kindOf (send i) = neither
 kindOf (refresh i) = neither
 kindOf (read s bytes lent) = reads s bytes
 kindOf (collect s lent) = collects s
+kindOf (forward s bytes lent) = reads s bytes
 
 -- "An entry's session is the one its call names. A read answered by collect belongs to the collect: it stands where the collect stood in H,
 -- and its request is that of the session's latest read call before it that waited": `waited`

@@ -15,5 +15,6 @@ pub mod Refused
 -- all calls, and lists of them
 pub mod Simulation
 pub mod Told
+pub mod Forward
 pub mod Titles
 pub mod Theorems

@@ -1,97 +1,151 @@
--- Read and collect: they keep the layout, and do what the plain machine's do.
+-- Read, forward and collect: they keep the layout, and do what the plain machine's do.
 use mathlib.Core.Path.{_≡_, refl, sym, ap, _∙_}
 use mathlib.Core.List.{List}
-use Prim.Native.Nat.{ℕ, _-_}
+use Prim.Native.Nat.{ℕ, _-_, _≤_, _<_}
 use native.Mathlib.Omega.{arith}
 use lib.Dec.{leb}
 use lib.ListN.{length, set}
+use borrow.Author.Tests.{lt-leb}
 use lib.Seq.{set-getD}
 use Rattle.carts.specs.Bytes.{zeros, over}
 use Rattle.carts.specs.Transaction.{Transaction, L}
 use Rattle.carts.proofs.TestLaws.{by-cond, cond-both}
-use Rattle.replication.specs.Answer.{answered}
+use Rattle.replication.specs.Answer.{waits, answered}
 use Rattle.replication.specs.Memory.{Memory, copyAt, sessionAt, sequenceOf, nth, studioOf}
 use Rattle.replication.specs.Request.{Request, nothing, requestOf, needed, foundIn, shownFrom}
-use Rattle.replication.specs.Rows.{Row, stopped, readRows, readStop, collectRows, collectStop}
+use Rattle.replication.specs.Rows.{Row, stopped, unless, readRows, readStop, collectRows, collectStop}
 use Rattle.replication.specs.Calls as Bytes
 use Rattle.replication.specs.Calls.{After, numberAfter}
 use Rattle.replication.specs.declared.control.Control.{Control}
 use Rattle.replication.proofs.Formed.{Formed, few, studio-known}
 use Rattle.replication.proofs.RowLaws.{memory-passes, unless-case, unless-both}
 use Rattle.replication.proofs.DecideLaws.{KnownSession}
-use Rattle.replication.proofs.Accepted.{read-passed, collect-passed}
+use Rattle.replication.proofs.Accepted.{ReadAccepted, read-passed, collect-passed}
 use Rattle.machine.specs.Machine as Plain
 use Rattle.machine.specs.Machine.{Session, Step}
 use Rattle.refinement.specs.Represents.{OfLayout, Represents, Simulates}
-use Rattle.refinement.proofs.Represented.{machineOf}
+use Rattle.refinement.proofs.Represented.{machineOf, log-length}
 use Rattle.refinement.proofs.Sessions.{SessionBytes, request-bytes, empty-bytes, empty-request, own-bytes, own-sequence, shown, session-of, session-formed, session-represents}
 use Rattle.refinement.proofs.Arrays.{Arrays, arrays, formed, of-layout}
 
-module _ (c : Control) (m : Memory) (s : ℕ) (w : KnownSession s (studioOf c s)) (a : Arrays c) (f : Formed c m) where
-  -- a read or collect that no row stops: answered now, or `behind`
-  module _ (q : Request) (x : List ℕ) (b : SessionBytes x) (out : List ℕ) where
-    block-keeps : (behind : After) → OfLayout (behind .control) (behind .memory)
-        → OfLayout (Bytes.block c m s q x behind out .control) (Bytes.block c m s q x behind out .memory)
-    unfolding Bytes.block Bytes.answerFrom numberAfter
-    block-keeps behind h =
-        by-cond (λ (r : After). OfLayout (r .control) (r .memory)) (leb (sequenceOf (sessionAt (m .sessions) s)) (nth (c .applied) (studioOf c s))) _ _
-        (λ _. of-layout _ _ a (session-formed c m s w a f _ x b (own-sequence c (m .sessions) (f .sessions) s w))) (λ _. h)
+module _ (c : Control) (m : Memory) (s : ℕ) (w : KnownSession s (studioOf c s)) (a : Arrays c) (f : Formed c m) (q : Request) (x : List ℕ) (b : SessionBytes x)
+    (out : List ℕ) where
+  -- an answer from a copy, after which the session has the bytes x and a number not above commits
+  module _ (state : ℕ) (copy : List ℕ) (n : ℕ) (l : n ≤ c .commits) where
+    answer-keeps : let r = Bytes.answerFrom state copy q c m s n x out in OfLayout (r .control) (r .memory)
+    unfolding Bytes.answerFrom
+    answer-keeps = of-layout _ _ a (session-formed c m s w a f n x b l)
 
-    block-simulates : requestOf x ≡ nothing → (log : List Transaction) (sessions : List Session) → Represents c m (machineOf c log sessions)
-        → (behind : After) (waits : Step) → Simulates behind waits
-        → Simulates (Bytes.block c m s q x behind out) (Plain.block (machineOf c log sessions) s q waits out)
-    unfolding Bytes.block Bytes.answerFrom Plain.block Plain.answerFrom numberAfter
-    block-simulates e log sessions h behind waits k =
+    answer-simulates : requestOf x ≡ nothing → (log : List Transaction) (sessions : List Session) → Represents c m (machineOf c log sessions) → copy ≡ L log state
+        → Simulates (Bytes.answerFrom state copy q c m s n x out) (Plain.answerFrom state n q (machineOf c log sessions) s out)
+    unfolding Bytes.answerFrom Plain.answerFrom
+    answer-simulates e log sessions h same =
         rw (session-of c m _ h s)
-        (cond-both Simulates (leb (sequenceOf (sessionAt (m .sessions) s)) (nth (c .applied) (studioOf c s))) _ _ _ _
         (record {
-          answer = ap (λ (z : List ℕ). answered (nth (c .applied) (studioOf c s)) (foundIn z q)) copy;
-          output = ap (λ (z : List ℕ). over out 0 (needed q) (shownFrom z q)) copy;
-          next = rw (← e) (session-represents c m s w a f _ x b (own-sequence c (m .sessions) (f .sessions) s w) log sessions h);
-        }) k)
-      where
-        copy : copyAt (m .library) (studioOf c s) ≡ L log (nth (c .applied) (studioOf c s))
-        copy =
-            let n = w .used in
-            let k = few c m f in
-            let d = studio-known c m f s (a .sessionStudios) (w .high) in
-            h .replicas (studioOf c s) (omega arith) (omega arith)
+          answer = ap (λ (z : List ℕ). answered state (foundIn z q)) same;
+          output = ap (λ (z : List ℕ). over out 0 (needed q) (shownFrom z q)) same;
+          next = rw (← e) (session-represents c m s w a f n x b l log sessions h);
+        })
 
+  -- a reading call that no row stops: answered now, or `behind`
+  next-known : numberAfter (sequenceOf (sessionAt (m .sessions) s)) (nth (c .applied) (studioOf c s)) ≤ c .commits
+  unfolding numberAfter
+  next-known = own-sequence c (m .sessions) (f .sessions) s w
+
+  block-keeps : (behind : After) → OfLayout (behind .control) (behind .memory)
+      → OfLayout (Bytes.block c m s q x behind out .control) (Bytes.block c m s q x behind out .memory)
+  unfolding Bytes.block
+  block-keeps behind h =
+      by-cond (λ (r : After). OfLayout (r .control) (r .memory)) (leb (sequenceOf (sessionAt (m .sessions) s)) (nth (c .applied) (studioOf c s))) _ _
+      (λ _. answer-keeps _ _ _ next-known) (λ _. h)
+
+  block-simulates : requestOf x ≡ nothing → (log : List Transaction) (sessions : List Session) → Represents c m (machineOf c log sessions)
+      → (behind : After) (late : Step) → Simulates behind late
+      → Simulates (Bytes.block c m s q x behind out) (Plain.block (machineOf c log sessions) s q late out)
+  unfolding Bytes.block Plain.block
+  block-simulates e log sessions h behind late k =
+      rw (session-of c m _ h s)
+      (cond-both Simulates (leb (sequenceOf (sessionAt (m .sessions) s)) (nth (c .applied) (studioOf c s))) _ _ _ _
+      (answer-simulates _ _ _ next-known e log sessions h copy) k)
+    where
+      copy : copyAt (m .library) (studioOf c s) ≡ L log (nth (c .applied) (studioOf c s))
+      copy =
+          let n = w .used in
+          let k = few c m f in
+          let d = studio-known c m f s (a .sessionStudios) (w .high) in
+          h .replicas (studioOf c s) (omega arith) (omega arith)
+
+-- read and forward: what each does where the studio is behind
 module _ (c : Control) (m : Memory) (s : ℕ) (request out : List ℕ) where
-  readRowsOf : List Row
-  readRowsOf = readRows s (studioOf c s) (requestOf (sessionAt (m .sessions) s)) request (length out)
+  waiting : Request
+  waiting = requestOf (sessionAt (m .sessions) s)
 
-  pub read-keeps : OfLayout c m → OfLayout (Bytes.read c m s request out .control) (Bytes.read c m s request out .memory)
-  unfolding Bytes.read readStop readRowsOf
-  read-keeps h =
+  readRowsOf : List Row
+  unfolding waiting
+  readRowsOf = readRows s (studioOf c s) waiting request (length out)
+
+  abbrev Passed : Type 0
+  Passed = ReadAccepted s (studioOf c s) waiting request (length out)
+
+  reading-keeps : (behind : After) → (Passed → OfLayout (behind .control) (behind .memory)) → OfLayout c m
+      → OfLayout (Bytes.reading c m s request behind out .control) (Bytes.reading c m s request behind out .memory)
+  unfolding readStop readRowsOf waiting
+  reading-keeps behind later h =
+      let f = formed c m h in
       rw (memory-passes c m readRowsOf (h .lengths) (h .layout))
       (unless-case (λ (r : After). OfLayout (r .control) (r .memory)) (stopped readRowsOf) _ _ (λ _ _. h)
       (λ e. let p = read-passed _ _ _ _ _ e in
-      block-keeps c m s (p .who) (arrays c m h) f (requestOf request) _ (own-bytes c (m .sessions) (f .sessions) s (p .who)) out _
-      (of-layout _ _ (arrays c m h) (session-formed c m s (p .who) (arrays c m h) f _ request (request-bytes request (p .form))
-      (own-sequence c (m .sessions) (f .sessions) s (p .who))))))
-    where
-      f : Formed c m
-      f = formed c m h
+      block-keeps c m s (p .who) (arrays c m h) f (requestOf request) _ (own-bytes c (m .sessions) (f .sessions) s (p .who)) out _ (later p)))
 
-  pub read-simulates : (log : List Transaction) (sessions : List Session) → Represents c m (machineOf c log sessions)
-      → Simulates (Bytes.read c m s request out) (Plain.read (machineOf c log sessions) s request out)
-  unfolding Bytes.read readStop Plain.read Plain.wait readRowsOf
-  read-simulates log sessions h =
-      rw (memory-passes c m readRowsOf (h .form .lengths) (h .form .layout), session-of c m _ h s)
-      (unless-both Simulates (stopped readRowsOf) _ _ _ _
-      (λ _ _. record { answer = refl; output = refl; next = h })
-      (λ e. let p = read-passed _ _ _ _ _ e in
-      block-simulates c m s (p .who) (arrays c m (h .form)) f (requestOf request) _ (own-bytes c (m .sessions) (f .sessions) s (p .who)) out (p .idle) log sessions h _ _
-      (record {
-        answer = refl;
-        output = refl;
-        next = session-represents c m s (p .who) (arrays c m (h .form)) f _ request (request-bytes request (p .form))
-            (own-sequence c (m .sessions) (f .sessions) s (p .who)) log sessions h;
-      })))
-    where
-      f : Formed c m
-      f = formed c m (h .form)
+  pub read-keeps : OfLayout c m → OfLayout (Bytes.read c m s request out .control) (Bytes.read c m s request out .memory)
+  unfolding Bytes.read
+  read-keeps h = reading-keeps _ (λ p.
+      let f = formed c m h in
+      of-layout _ _ (arrays c m h) (session-formed c m s (p .who) (arrays c m h) f _ request (request-bytes request (p .form))
+      (own-sequence c (m .sessions) (f .sessions) s (p .who)))) h
+
+  pub forward-keeps : OfLayout c m → OfLayout (Bytes.forward c m s request out .control) (Bytes.forward c m s request out .memory)
+  unfolding Bytes.forward
+  forward-keeps h = reading-keeps _ (λ p.
+      let f = formed c m h in
+      answer-keeps c m s (p .who) (arrays c m h) f (requestOf request) _ (own-bytes c (m .sessions) (f .sessions) s (p .who)) out _ _ _ (omega arith)) h
+
+  module _ (log : List Transaction) (sessions : List Session) (h : Represents c m (machineOf c log sessions)) where
+    f : Formed c m
+    f = formed c m (h .form)
+
+    reading-simulates : (behind : After) (late : Step) → (Passed → Simulates behind late)
+        → Simulates (Bytes.reading c m s request behind out) (Plain.reading (machineOf c log sessions) s request late out)
+    unfolding readStop readRowsOf waiting
+    reading-simulates behind late later =
+        rw (memory-passes c m readRowsOf (h .form .lengths) (h .form .layout), session-of c m _ h s)
+        (unless-both Simulates (stopped readRowsOf) _ _ _ _
+        (λ _ _. record { answer = refl; output = refl; next = h })
+        (λ e. let p = read-passed _ _ _ _ _ e in
+        block-simulates c m s (p .who) (arrays c m (h .form)) f (requestOf request) _ (own-bytes c (m .sessions) (f .sessions) s (p .who)) out (p .idle) log sessions h _ _
+        (later p)))
+
+    pub read-simulates : Simulates (Bytes.read c m s request out) (Plain.read (machineOf c log sessions) s request out)
+    unfolding Bytes.read Plain.read Plain.wait
+    read-simulates = reading-simulates _ _ (λ p. rw (session-of c m _ h s) (record {
+      answer = refl;
+      output = refl;
+      next = session-represents c m s (p .who) (arrays c m (h .form)) f _ request (request-bytes request (p .form))
+          (own-sequence c (m .sessions) (f .sessions) s (p .who)) log sessions h;
+    }))
+
+    pub forward-simulates : Simulates (Bytes.forward c m s request out) (Plain.forward (machineOf c log sessions) s request out)
+    unfolding Bytes.forward Plain.forward waiting
+    forward-simulates = reading-simulates _ _ (λ p.
+        rw (log-length c m _ h)
+        (answer-simulates c m s (p .who) (arrays c m (h .form)) f (requestOf request) _ (own-bytes c (m .sessions) (f .sessions) s (p .who)) out _ _ _ (omega arith)
+        (p .idle) log sessions h (h .primary)))
+
+-- a read that no row stops, of a session whose number n its studio has not applied
+pub waits-for : (c : Control) (m : Memory) (s : ℕ) (request out : List ℕ) (n : ℕ) → sequenceOf (sessionAt (m .sessions) s) ≡ n → nth (c .applied) (studioOf c s) < n
+    → readStop c m s request (length out) ≡ 0 → Bytes.read c m s request out .answer ≡ waits n
+unfolding Bytes.read Bytes.block unless
+waits-for c m s request out n e u passes = rw (passes, e, lt-leb n (nth (c .applied) (studioOf c s)) u)
 
 module _ (c : Control) (m : Memory) (s : ℕ) (out : List ℕ) where
   collectRowsOf : List Row

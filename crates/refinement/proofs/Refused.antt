@@ -7,11 +7,11 @@ use lib.Dec.{leb}
 use borrow.Author.Tests.{ne-eqb}
 use Rattle.carts.specs.Bytes.{zeros}
 use Rattle.carts.proofs.TestLaws.{by-cond}
-use Rattle.replication.specs.Answer.{Answer, refused, done, waits}
+use Rattle.replication.specs.Answer.{Answer, refused, done, waits, answered}
 use Rattle.replication.specs.Memory.{Memory, sessionAt, sequenceOf, withNumber, nth, studioOf}
 use Rattle.replication.specs.Request.{Request}
 use Rattle.replication.specs.Rows.{unless}
-use Rattle.replication.specs.Call.{Call, commit, preview, send, refresh, read, collect}
+use Rattle.replication.specs.Call.{Call, commit, preview, send, refresh, read, collect, forward}
 use Rattle.replication.specs.Calls as Bytes
 use Rattle.replication.specs.Calls.{After, after, refusal, withSessions, controlOf, toldSessions}
 use Rattle.replication.specs.declared.control.Control.{Control}
@@ -23,6 +23,9 @@ not-done n e = let z : _≡_ {A = ℕ} 0 1 = cc in omega arith
 
 not-waits : (n : ℕ) {k : ℕ} → waits k ≡ refused n → ⊥
 not-waits n e = let z : _≡_ {A = ℕ} 0 1 = cc in omega arith
+
+not-answered : (n : ℕ) {k found : ℕ} → answered k found ≡ refused n → ⊥
+not-answered n e = let z : _≡_ {A = ℕ} 0 1 = cc in omega arith
 
 -- rows that refuse with their numbers, and a call that is not refused where none of them stops it
 by-rows : (n : ℕ) (left : ℕ → After) → ((j : ℕ) → left j .answer ≡ refused j) → (k : ℕ) (good : After) → (good .answer ≡ refused n → ⊥)
@@ -41,7 +44,7 @@ module _ (n : ℕ) (c : Control) (m : Memory) where
       → Bytes.block c m s q x behind out .answer ≡ refused n → ⊥
   unfolding Bytes.block Bytes.answerFrom
   block-answers s q x behind out h = by-cond (λ (r : After). r .answer ≡ refused n → ⊥) (leb (sequenceOf (sessionAt (m .sessions) s)) (nth (c .applied) (studioOf c s))) _ _
-      (λ _ a. let z : _≡_ {A = ℕ} 0 1 = cc in omega arith) (λ _. h)
+      (λ _. not-answered n) (λ _. h)
 
   commit-refused : (s : ℕ) (bytes : List ℕ) → Bytes.commit c m s bytes .answer ≡ refused n → Bytes.commit c m s bytes ≡ Bytes.refusedCommit c m s n
   unfolding Bytes.commit Bytes.refusedCommit
@@ -54,13 +57,14 @@ module _ (n : ℕ) (c : Control) (m : Memory) where
 
   pub call-refused : (x : Call) → Bytes.call c m x .answer ≡ refused n → ((s : ℕ) (bytes : List ℕ) → x ≡ commit s bytes → n ≡ 8 → ⊥)
       → Bytes.call c m x ≡ refusal c m (lent x) n
-  unfolding Bytes.call Bytes.preview Bytes.send Bytes.refresh Bytes.read Bytes.collect lent
+  unfolding Bytes.call Bytes.preview Bytes.send Bytes.refresh Bytes.read Bytes.collect Bytes.forward Bytes.answerFrom lent
   call-refused (commit s bytes) a u = commit-refused s bytes a ∙ other-row s (u s bytes refl)
   call-refused (preview s bytes) a u = ap (λ (a : Answer). after a c m []) a
   call-refused (send i) a u = as-it-was [] _ _ (not-done n) a
   call-refused (refresh i) a u = as-it-was [] _ _ (not-done n) a
   call-refused (read s request out) a u = as-it-was out _ _ (block-answers s _ _ _ out (not-waits n)) a
   call-refused (collect s out) a u = as-it-was out _ _ (block-answers s _ _ _ out (not-waits n)) a
+  call-refused (forward s request out) a u = as-it-was out _ _ (block-answers s _ _ _ out (not-answered n)) a
 
 -- by row 8
 pub told-leaves : (c : Control) (m : Memory) (s : ℕ) (bytes : List ℕ) → Bytes.commit c m s bytes .answer ≡ refused 8

@@ -17,7 +17,7 @@ use Rattle.carts.proofs.PartLaws.{length-over}
 use Rattle.carts.proofs.ZeroLaws.{zero-part}
 use Rattle.carts.proofs.FieldLaws.{bytes, by-fields}
 use Rattle.carts.proofs.CellLaws.{length-cell, length-cells, cell-same, cell-other}
-use Rattle.replication.specs.Memory.{Memory, sessionAt, withSession, sequenceOf, withSequence, studioOf}
+use Rattle.replication.specs.Memory.{Memory, sessionAt, withSession, sequenceOf, withSequence, withNumber, studioOf}
 use Rattle.replication.specs.Request.{nothing, numbersIn, requestOf, numbersForm, requestFields, requestForm}
 use Rattle.replication.specs.Layout.{waitingForm, sessionForm, sessionFormOf}
 use Rattle.replication.specs.Calls.{committed, withSessions}
@@ -37,7 +37,7 @@ pub record SessionBytes (x : List ℕ) : Type 0 where
 
 -- another sequence number
 module _ (n : ℕ) (x : List ℕ) (l : 16 ≤ length x) where
-  pub sequence-set : sequenceOf (withSequence n x) ≡ n
+  sequence-set : sequenceOf (withSequence n x) ≡ n
   unfolding sequenceOf withSequence u16 u16Bytes
   sequence-set = by-fields (λ x. sequenceOf (withSequence n x) ≡ n) 0 (λ h t l. omega arith) x l
 
@@ -134,7 +134,7 @@ module _ (c : Control) (memory : List ℕ) (f : SessionsFormed c memory) (s : �
 
 -- session s replaced
 module _ (c : Control) (memory : List ℕ) (k : length memory ≡ 1280) (s : ℕ) (w : KnownSession s (studioOf c s)) (n : ℕ) (x : List ℕ) (b : SessionBytes x) where
-  pub same : sessionAt (withSession memory s (withSequence n x)) s ≡ withSequence n x
+  same : sessionAt (withSession memory s (withSequence n x)) s ≡ withSequence n x
   unfolding sessionAt withSession
   same = cell-same 16 memory k s (w .low) (w .high) (withSequence n x) (length-withSequence n x (b .size))
 
@@ -187,6 +187,13 @@ session-of c m M h (suc s) = go (decLe (suc s) 16)
         let b : length (c .«session_studios») ≤ suc s - 1 = let n = h .form .sessionStudios in omega arith in
         let d : length (m .sessions) ≤ 80 * (suc s - 1) = let n = f .sessions .size in omega arith in
         rw (List·getD-eq-default (M .sessions) (session 0 0 nothing) a, List·getD-eq-default (c .«session_studios») 0 b, drop-of-length-le (m .sessions) d)
+
+-- a session in use after "the session's number becomes n"
+pub number-set : (c : Control) (m : Memory) → Formed c m → (s : ℕ) → KnownSession s (studioOf c s) → (n : ℕ) → sequenceOf (sessionAt (withNumber (m .sessions) s n) s) ≡ n
+number-set c m f s w n =
+    let own = own-bytes c (m .sessions) (f .sessions) s w in
+    let size = own .size in
+    rw (same c (m .sessions) (f .sessions .size) s w n _ own) (sequence-set n _ (omega arith))
 
 -- memory with other bytes of session s
 abbrev pub with : Memory → ℕ → ℕ → List ℕ → Memory

@@ -3,7 +3,7 @@ use mathlib.Core.Path.{_≡_, refl}
 use mathlib.Core.List.{List, [], _∷_, _++_, map}
 use Rattle.carts.specs.Transaction.{Transaction}
 use Rattle.replication.specs.Memory.{Memory}
-use Rattle.replication.specs.Call.{Call, Turn, commit, preview, send, refresh, read, collect, run, final}
+use Rattle.replication.specs.Call.{Call, Turn, commit, preview, send, refresh, read, collect, forward, run, final}
 use Rattle.replication.specs.Calls as Bytes
 use Rattle.replication.specs.Calls.{After}
 use Rattle.replication.specs.declared.control.Control.{Control}
@@ -15,7 +15,7 @@ use Rattle.refinement.specs.Represents.{OfLayout, Represents, Simulates}
 use Rattle.refinement.proofs.Represented.{machineOf, by-machine, log-length}
 use Rattle.refinement.proofs.Send.{send-keeps, send-simulates}
 use Rattle.refinement.proofs.Refresh.{refresh-keeps, refresh-simulates}
-use Rattle.refinement.proofs.Read.{read-keeps, read-simulates, collect-keeps, collect-simulates}
+use Rattle.refinement.proofs.Read.{read-keeps, read-simulates, forward-keeps, forward-simulates, collect-keeps, collect-simulates}
 use Rattle.refinement.proofs.Commit.{commit-keeps, commit-simulates}
 use Rattle.refinement.proofs.Preview.{preview-keeps, preview-simulates}
 
@@ -28,6 +28,7 @@ keeps-layout c m h (send i) = send-keeps c m i h
 keeps-layout c m h (refresh i) = refresh-keeps c m i h
 keeps-layout c m h (read s request out) = read-keeps c m s request out h
 keeps-layout c m h (collect s out) = collect-keeps c m s out h
+keeps-layout c m h (forward s request out) = forward-keeps c m s request out h
 
 pub simulates : (c : Control) (m : Memory) (M : Machine) → Represents c m M → (x : Call) → Simulates (Bytes.call c m x) (Plain.call M x)
 unfolding Bytes.call Plain.call
@@ -41,6 +42,7 @@ simulates c m M h x = by-machine c m (λ M. Simulates (Bytes.call c m x) (Plain.
     case (refresh i) = refresh-simulates c m i
     case (read s request out) = read-simulates c m s request out
     case (collect s out) = collect-simulates c m s out
+    case (forward s request out) = forward-simulates c m s request out
 
 -- a list of calls: what it leaves, and its answers and outputs
 pub layout-after : (H : List Call) (r : After) → OfLayout (r .control) (r .memory) → OfLayout (Bytes.afterCalls r H .control) (Bytes.afterCalls r H .memory)
@@ -52,6 +54,16 @@ pub simulates-after : (H : List Call) (r : After) (p : Step) → Simulates r p �
 unfolding run final
 simulates-after [] r p h = h
 simulates-after (x ∷ H) r p h = simulates-after H _ _ (simulates (r .control) (r .memory) (p .next) (h .next) x)
+
+-- a call, a list, and a call more
+pub simulates-then : (r : After) (p : Step) → Simulates r p → (x : Call) (H : List Call) (y : Call) →
+    let t = Bytes.call (r .control) (r .memory) x in
+    let q = Plain.call (p .next) x in
+    let v = Bytes.afterCalls t H in
+    Simulates t q × Simulates (Bytes.call (v .control) (v .memory) y) (Plain.call (Plain.afterCalls q H .next) y)
+simulates-then r p h x H y =
+    let one = simulates (r .control) (r .memory) (p .next) (h .next) x in
+    (one, simulates _ _ _ (simulates-after H _ _ one .next) y)
 
 pub history-joined : (H K : List Call) (r : After) → history r (H ++ K) ≡ history r H ++ history (Bytes.afterCalls r H) K
 unfolding history run final

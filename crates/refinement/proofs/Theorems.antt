@@ -3,16 +3,16 @@
 use mathlib.Core.Path.{_≡_, sym, _∙_, fun-ext, subst₂}
 use mathlib.Core.Bool.{true, false, not}
 use mathlib.Core.List.{List, [], _∷_, _++_, map}
-use Prim.Native.Nat.{ℕ, _*_, _≤_, _<_}
+use Prim.Native.Nat.{ℕ, suc, _*_, _≤_, _<_}
 use lib.ListN.{length, getD}
-use Rattle.carts.specs.Bytes.{zeros, part, u16, every}
+use Rattle.carts.specs.Bytes.{zeros, part, over, u16, every}
 use Rattle.carts.specs.Cart.{cartAt, hasTitle}
 use Rattle.carts.specs.Operation.{operationForm, writesTitle, spaced, operationsOf}
 use Rattle.carts.specs.Transaction.{L}
 use Rattle.replication.specs.Answer.{refused, done, waits, answered}
 use Rattle.replication.specs.Memory.{Memory, lengthsForm, copyAt, sessionAt, sequenceOf, withNumber, nth, studioOf}
 use Rattle.replication.specs.Log.{firstRecord}
-use Rattle.replication.specs.Request.{byNumbers, byTitle, requestOf, isWaiting}
+use Rattle.replication.specs.Request.{byNumbers, byTitle, requestOf, isWaiting, needed, foundIn, shownFrom}
 use Rattle.replication.specs.Rows.{row, stopped, memoryRows, sessionRow, sizeForm, readStop}
 use Rattle.replication.specs.Call as Call
 use Rattle.replication.specs.Call.{Call}
@@ -33,6 +33,8 @@ use Rattle.machine.specs.Table.{studioBytes, cases2to10, callsOf, Table}
 use Rattle.machine.proofs.Table.{start, started, table}
 use Rattle.machine.specs.Taken.{taking}
 use Rattle.machine.proofs.Taken as Taken
+use Rattle.machine.specs.Forwarded.{hour}
+use Rattle.machine.proofs.Forwarded as Forwarded
 use Rattle.replication.specs.Log.{transactionsFrom}
 use Rattle.refinement.specs.Represents.{OfLayout, Represents, Simulates}
 use Rattle.refinement.specs.Lent.{lent}
@@ -42,6 +44,7 @@ use Rattle.refinement.proofs.Refused as Refused
 use Rattle.refinement.proofs.Preview as Preview
 use Rattle.refinement.proofs.Simulation as Simulation
 use Rattle.refinement.proofs.Told as Told
+use Rattle.refinement.proofs.Forward as Forward
 use Rattle.refinement.proofs.Titles as Titles
 
 -- LAYOUT. Every call, accepted, waiting or refused, keeps the layout, from any control and memory of it, also where a copy is no L(n); so does every list.
@@ -109,6 +112,39 @@ module _ (c : Control) (m : Memory) (s : ℕ) (bytes : List ℕ) (told : Bytes.c
   unfolding Bytes.call
   told-waits = Told.told-waits c m s bytes told
 
+-- FORWARD (02, S-4). From any control and memory. "Where the studio's copy has reached the session's number, it answers exactly as read does": the same answer,
+-- control, memory and output. So it does where a row stops it, "with read's .. checks and order".
+module _ (c : Control) (m : Memory) (s : ℕ) (request out : List ℕ) where
+  pub forward-as-read : sequenceOf (sessionAt (m .sessions) s) ≤ nth (c .applied) (studioOf c s)
+      → Bytes.call c m (Call.forward s request out) ≡ Bytes.call c m (Call.read s request out)
+  unfolding Bytes.call
+  forward-as-read = Forward.as-read c m s request out
+
+  pub forward-stopped : (n : ℕ) → readStop c m s request (length out) ≡ suc n → Bytes.call c m (Call.forward s request out) ≡ Bytes.call c m (Call.read s request out)
+  unfolding Bytes.call
+  forward-stopped = Forward.stopped-as-read c m s request out
+
+  -- It never waits.
+  pub forward-never-waits : (n : ℕ) → Bytes.call c m (Call.forward s request out) .answer ≡ waits n → ⊥
+  unfolding Bytes.call
+  forward-never-waits = Forward.never-waits c m s request out
+
+  module _ (passes : readStop c m s request (length out) ≡ 0) (behind : nth (c .applied) (studioOf c s) < sequenceOf (sessionAt (m .sessions) s)) where
+    -- "Otherwise it answers from the head end's copy with state commits, and the session's number becomes commits": every other lent byte stays, output's later
+    -- bytes too, and no request is stored.
+    pub forward-by-primary : let copy = copyAt (m .library) 0 in
+        let q = requestOf request in
+        Bytes.call c m (Call.forward s request out)
+        ≡ after (answered (c .commits) (foundIn copy q)) c (withSessions m (withNumber (m .sessions) s (c .commits))) (over out 0 (needed q) (shownFrom copy q))
+    unfolding Bytes.call
+    forward-by-primary = Forward.by-primary c m s request out behind passes
+
+    -- A read of the session straight afterwards that no row stops waits until its studio has applied that state.
+    pub forwarded-waits : (next lent : List ℕ) → let r = Bytes.call c m (Call.forward s request out) in
+        readStop (r .control) (r .memory) s next (length lent) ≡ 0 → Bytes.call (r .control) (r .memory) (Call.read s next lent) .answer ≡ waits (c .commits)
+    unfolding Bytes.call
+    forwarded-waits = Forward.forwarded-waits c m s request out passes behind
+
 -- TITLES. "A title is kept whole or refused." From any control and memory, an accepted commit whose last operation on a cart is a new or a retitle
 -- leaves that title in the head end's copy: its length and its 64 bytes.
 pub title-kept : (c : Control) (m : Memory) (s : ℕ) (bytes op : List ℕ) (n : ℕ) → Writes bytes op → Bytes.commit c m s bytes .answer ≡ done n
@@ -170,14 +206,21 @@ module _ (before : Memory) (studios : ℕ) (bytes : List ℕ) where
       pub commits : Plain.commits (plain .next) ≡ left .control .commits
       commits = log-length _ _ _ (simulates-after .next)
 
-      -- 02, S-3. After H from a fresh system a commit is refused with 8, the list goes on with `later`, and then a read or collect of the same session is
+      -- 02, S-3. After H from a fresh system a commit is refused with 8, the list goes on with `later`, and then a read, forward or collect of that session is
       -- answered: its state has all that was committed when the session was told.
       pub shown-after : (s : ℕ) (ops : List ℕ) → let told = Bytes.call (left .control) (left .memory) (Call.commit s ops) in told .answer ≡ refused 8
           → (later : List Call) (x : Call) (k found : ℕ) → asker x ≡ s
           → let r = afterCalls told later in Bytes.call (r .control) (r .memory) x .answer ≡ answered k found → left .control .commits ≤ k
       shown-after = Told.shown-after _ _ simulates-after (after-sound H _ (setup-sound studios bytes plain-accepted))
 
-      -- TITLES. After H from a fresh system a read or collect by title is answered with state k and found 1: in L(k) one cart alone has the title, and
+      -- NEVER BACK. After H from a fresh system a read, forward or collect is answered with state k: after any further list, no read, forward or collect of that
+      -- session is answered with an earlier state.
+      pub never-back : (x : Call) (k found : ℕ) → let shown = Bytes.call (left .control) (left .memory) x in shown .answer ≡ answered k found
+          → (later : List Call) (y : Call) (j more : ℕ) → asker y ≡ asker x
+          → let r = afterCalls shown later in Bytes.call (r .control) (r .memory) y .answer ≡ answered j more → k ≤ j
+      never-back = Forward.never-back _ _ simulates-after (after-sound H _ (setup-sound studios bytes plain-accepted))
+
+      -- TITLES. After H from a fresh system a read, forward or collect by title is answered with state k and found 1: in L(k) one cart alone has the title, and
       -- that cart is shown.
       pub title-read : (x : Call) (k : ℕ) (title : List ℕ) → let shown = Bytes.call (left .control) (left .memory) x in
           shown .answer ≡ answered k 1 → asked (plain .next) x ≡ byTitle title → ShowsTheOne title (L (plain .next .log) k) (shown .output)
@@ -188,7 +231,7 @@ module _ (before : Memory) (studios : ℕ) (bytes : List ℕ) where
       pub no-spaced-title : (i : ℕ) → i ≤ 4 → (c : ℕ) → 1 ≤ c → c ≤ 128 → spaced (cartAt (copyAt (left .memory .library) i) c) ≡ false
       no-spaced-title = Titles.no-spaced-title _ _ simulates-after (after-sound H _ (setup-sound studios bytes plain-accepted)) (after-unspaced H _ (setup-unspaced studios bytes plain-accepted))
 
-      -- After H from a fresh system a commit with number n writes a title, the list goes on with `later`, and then a read or collect is answered at
+      -- After H from a fresh system a commit with number n writes a title, the list goes on with `later`, and then a read, forward or collect is answered at
       -- state k. Each place that asks for the cart shows that title, unless one of the transactions n + 1 to k has an operation on the cart.
       module _ (s : ℕ) (ops op : List ℕ) (n : ℕ) (writes : Writes ops op) (later : List Call) (x : Call) (k found : ℕ) (cs : List ℕ) (i : ℕ) where
         abbrev committed : After
@@ -230,3 +273,8 @@ twelve before lengths =
 pub told-then-shown : (before : Memory) → lengthsForm before ≡ true → history (setup before 2 studioBytes) (callsOf taking) ≡ taking
 unfolding start plainHistory
 told-then-shown before lengths = answers before 2 studioBytes (setup-answer before 2 studioBytes lengths ∙ started) (callsOf taking) ∙ Taken.told-then-shown
+
+-- 02, S-4. The story of the request on bytes, likewise: forwards that the head end answers and forwards that the studio answers, reads and collects.
+pub forwarded : (before : Memory) → lengthsForm before ≡ true → history (setup before 2 studioBytes) (callsOf hour) ≡ hour
+unfolding start plainHistory
+forwarded before lengths = answers before 2 studioBytes (setup-answer before 2 studioBytes lengths ∙ started) (callsOf hour) ∙ Forwarded.forwarded

@@ -38,7 +38,7 @@ use Rattle.machine.proofs.TitleReads as Reads
 use Rattle.machine.proofs.Sort.{All}
 use Rattle.machine.proofs.Spaces.{L-unspaced}
 use Rattle.refinement.specs.Represents.{Simulates}
-use Rattle.refinement.proofs.Simulation.{simulates, simulates-after}
+use Rattle.refinement.proofs.Simulation.{simulates, simulates-then}
 
 -- an accepted commit, from any control and memory
 pub primary-title : (c : Control) (m : Memory) (s : ℕ) (bytes op : List ℕ) (n : ℕ) → Writes bytes op → Bytes.commit c m s bytes .answer ≡ done n
@@ -101,16 +101,14 @@ pub title-shown : (r : After) (p : Step) → Simulates r p → Sound (p .next) �
 unfolding Plain.call
 title-shown r p h f s bytes op n w accepted H x k found shown u v cs i q g e =
     let x0 : Call = Call.commit s bytes in
-    let one = simulates (r .control) (r .memory) (p .next) (h .next) x0 in
+    let (one, last) = simulates-then r p h x0 H x in
     let p2 : Step = Plain.call (p .next) x0 in
-    let more = simulates-after H _ p2 one in
     let M = Plain.afterCalls p2 H .next in
-    let last = simulates _ _ M (more .next) x in
     let written = commit-writes (p .next) f s bytes op n w (sym (one .answer) ∙ accepted) in
     rw (last .output)
     (Machine.title-shown op n k M (p2 .next .log) (after-sound H p2 (keeps (p .next) f x0)) written (after-grows H p2) u v x found (sym (last .answer) ∙ shown) cs i q g e)
 
--- a read or collect by title that found 1
+-- a read, forward or collect by title that found 1
 pub title-read : (r : After) (p : Step) → Simulates r p → Sound (p .next) → (x : Call) (k : ℕ) (title : List ℕ)
     → let u = Bytes.call (r .control) (r .memory) x in
     u .answer ≡ answered k 1 → asked (p .next) x ≡ byTitle title → ShowsTheOne title (L (p .next .log) k) (u .output)

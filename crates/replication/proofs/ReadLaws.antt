@@ -1,4 +1,4 @@
--- Laws of read and collect: rows 4, 12, 13 and 14, what is known where no row stops the call, and the ways of an accepted one.
+-- Laws of read, forward and collect: rows 4, 12, 13 and 14, what is known where no row stops the call, and the ways of an accepted one.
 use Prim.Native.Nat.{ℕ, _-_, _*_, _<_, _≤_}
 use mathlib.Core.Path.{_≡_, sym, _∙_}
 use mathlib.Core.Bool.{true, false}
@@ -12,13 +12,16 @@ use Rattle.replication.specs.Answer.{Answer, refused, waits}
 use Rattle.replication.specs.Memory.{Memory, sessionAt, withSession, withSequence, sequenceOf, studioOf}
 use Rattle.replication.specs.Request.{Request, requestOf, requestForm, isWaiting, needed}
 use Rattle.replication.specs.Rows.{stopped, requestRows, waitingRows, readStop, collectStop}
-use Rattle.replication.specs.Calls.{After, after, withSessions, block, read, collect}
+use Rattle.replication.specs.Calls.{After, after, withSessions, block, reading, read, collect, forward}
+use Rattle.replication.specs.Values.{dueOf, forwardSource, answerBy}
 use Rattle.replication.specs.declared.control.Control.{Control}
+use Rattle.replication.specs.declared.block.Due.{Due}
+use Rattle.replication.specs.declared.source.Source.{Source}
 use Rattle.replication.proofs.RowLaws.{unless-stopped, unless-accepted}
 use Rattle.replication.proofs.DecideLaws.{accepted}
 use Rattle.replication.proofs.Accepted.{read-passed, collect-passed}
 use Rattle.replication.proofs.SessionLaws.{Caller, caller, Asked, request-parts, waiting-fields, session-fields}
-use Rattle.replication.proofs.BlockLaws.{waitsIn, step-answered, step-waits}
+use Rattle.replication.proofs.BlockLaws.{waitsIn, block-forward, step-answered, step-waits}
 
 -- the rows of a read after row 3
 module _ (waiting : Request) (request : List ℕ) (room : ℕ) where
@@ -52,11 +55,18 @@ module _ (waiting : Request) (room : ℕ) where
   unfolding stopped
   may-collect w n e h = rw (w, e, le-ltb room n h)
 
--- a whole read
+-- a whole read, or forward
 module _ (c : Control) (m : Memory) (s : ℕ) (request out : List ℕ) (v : ℕ) (e : v ≡ readStop c m s request (length out)) where
+  pub reading-refused : (v ≡ 0 → ⊥) → (behind : After) → after (refused v) c m out ≡ reading c m s request behind out
+  reading-refused n behind = rw e (unless-stopped _ _ _ (λ z. n (e ∙ z)))
+
   pub read-refused : (v ≡ 0 → ⊥) → after (refused v) c m out ≡ read c m s request out
   unfolding read
-  read-refused n = rw e (unless-stopped _ _ _ (λ z. n (e ∙ z)))
+  read-refused n = reading-refused n _
+
+  pub forward-refused : (v ≡ 0 → ⊥) → after (refused v) c m out ≡ forward c m s request out
+  unfolding forward
+  forward-refused n = reading-refused n _
 
   module _ (z : v ≡ 0) where
     pub read-known : Caller c m s × Asked request (length out)
@@ -83,6 +93,12 @@ module _ (c : Control) (m : Memory) (s : ℕ) (request out : List ℕ) (v : ℕ)
           let g = step-waits c m s (requestOf request) (sessionAt (m .sessions) s)
           (after (waits (sequenceOf (sessionAt (m .sessions) s))) c (withSessions m (withSession (m .sessions) s (withSequence (sequenceOf (sessionAt (m .sessions) s)) request))) out) out sessions new n (rw (o, w) at f) in
           rw (q, g .1 .0, g .1 .1 .0, g .1 .1 .1) (g .0 ∙ unless-accepted _ _ _ (sym e ∙ z))
+
+    -- what a forward gives, from its source
+    pub forward-answers : (due : Due) → due ≡ dueOf c (m .sessions) s → (own : List ℕ) → own ≡ sessionAt (m .sessions) s → (w : Source) → w ≡ forwardSource c due
+        → (r : After) → r ≡ answerBy w (requestOf request) c m s own out → r ≡ forward c m s request out
+    unfolding forward
+    forward-answers due d own o w k r f = block-forward c m s due d (requestOf request) (sessionAt (m .sessions) s) out w k r (rw o at f) ∙ unless-accepted _ _ _ (sym e ∙ z)
 
 -- a whole collect
 module _ (c : Control) (m : Memory) (s : ℕ) (out : List ℕ) (v : ℕ) (e : v ≡ collectStop c m s (length out)) where

@@ -39,6 +39,7 @@ pub record Caller (c : Control) (m : Memory) (s : ℕ) : Type 0 where
   pub place : (length (m .sessions) ≡ 1280) × ((1 ≤ s) × (s ≤ 16))
   pub studio : (1 ≤ studioOf c s) × (studioOf c s ≤ 4)
   pub state : nth (c .applied) (studioOf c s) < 65536
+  pub commits : c .commits < 65536
 
 -- an element of a list that passes, or the default
 every-default : (p : ℕ → Bool) (l : List ℕ) (d i : ℕ) → p d ≡ true → every p l ≡ true → p (getD l i d) ≡ true
@@ -61,7 +62,7 @@ caller c m s f w =
     let high : i ≤ 4 = omega arith in
     let applied : nth (c .applied) i ≤ c .commits = applied-known c i (f .counts i low high) in
     let commits : c .commits ≤ 512 = few-commits c m f in
-    record { library = f .library .size; place = session-placed c m s (studioOf c s) f w; studio = (low, high); state = omega arith }
+    record { library = f .library .size; place = session-placed c m s (studioOf c s) f w; studio = (low, high); state = omega arith; commits = omega arith }
 
 -- a read of its form, with room for what it asks
 pub record Asked (x : List ℕ) (room : ℕ) : Type 0 where

@@ -124,13 +124,16 @@ block c m s q x behind out =
     let n = sequenceOf (sessionAt (m .sessions) s) in
     cond (leb n state) (answerFrom state (copyAt (m .library) i) q c m s (numberAfter n state) x out) behind
 
+-- a reading call that brings its request: read's rows, then the block step, which leaves the session's bytes as they are
+abbrev pub reading : Control → Memory → ℕ → List ℕ → After → List ℕ → After
+reading c m s request behind out =
+    unless (readStop c m s request (length out)) (refusal c m out) (block c m s (requestOf request) (sessionAt (m .sessions) s) behind out)
+
 -- "Read (session, request): .. else the request is stored and the answer is waits, with the session's number"
 unfoldable pub read : Control → Memory → ℕ → List ℕ → List ℕ → After
 read c m s request out =
-    let x = sessionAt (m .sessions) s in
-    let n = sequenceOf x in
-    let behind = after (waits n) c (withSessions m (withSession (m .sessions) s (withSequence n request))) out in
-    unless (readStop c m s request (length out)) (refusal c m out) (block c m s (requestOf request) x behind out)
+    let n = sequenceOf (sessionAt (m .sessions) s) in
+    reading c m s request (after (waits n) c (withSessions m (withSession (m .sessions) s (withSequence n request))) out) out
 
 -- "Collect (session): the same test on the stored request; answered clears it and keeps bytes 2–3", else "waits, with the session's number"
 unfoldable pub collect : Control → Memory → ℕ → List ℕ → After
@@ -139,6 +142,13 @@ collect c m s out =
     let behind = after (waits (sequenceOf x)) c m out in
     unless (collectStop c m s (length out)) (refusal c m out) (block c m s (requestOf x) (zeros sessionSize) behind out)
 
+-- 02, S-4, "the Forward method .. with read's requests, outputs, checks and order. Where the studio's copy has reached the session's number, it answers
+-- exactly as read does. Otherwise it answers from the head end's copy with state commits, and the session's number becomes commits."
+unfoldable pub forward : Control → Memory → ℕ → List ℕ → List ℕ → After
+forward c m s request out =
+    let x = sessionAt (m .sessions) s in
+    reading c m s request (answerFrom (c .commits) (copyAt (m .library) 0) (requestOf request) c m s (c .commits) x out) out
+
 unfoldable pub call : Control → Memory → Call.Call → After
 call c m (Call.commit s bytes) = commit c m s bytes
 call c m (Call.preview s bytes) = preview c m s bytes
@@ -146,6 +156,7 @@ call c m (Call.send i) = send c m i
 call c m (Call.refresh i) = refresh c m i
 call c m (Call.read s request out) = read c m s request out
 call c m (Call.collect s out) = collect c m s out
+call c m (Call.forward s request out) = forward c m s request out
 
 -- a list of calls, each given what the call before it left and handed back, and what the list leaves
 abbrev pub run : After → List Call.Call → List (Call.Turn After)

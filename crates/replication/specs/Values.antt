@@ -1,4 +1,4 @@
--- What the code's parts give, by the definitions: a session's value; a record's links; one transaction of the chain.
+-- What the code's parts give, by the definitions: a session's value; a record's links; one transaction of the chain; what a reading call goes by.
 use mathlib.Core.Bool.{Bool, true, false, cond, _&&_}
 use mathlib.Core.List.{List, [], _∷_}
 use Prim.Native.Nat.{ℕ, zero, suc, _+_, _*_}
@@ -7,12 +7,15 @@ use lib.Dec.{leb, eqb}
 use Rattle.carts.specs.Bytes.{byte, u16, within, all, pairwise}
 use Rattle.carts.specs.Cart.{cartSize, cartCount}
 use Rattle.replication.specs.Log.{nextOperation, nextTransaction, recordsOf, ownForm, upFrom}
-use Rattle.replication.specs.Memory.{recordCount, recordAt, sessionAt, sequenceOf, nth, studioOf}
+use Rattle.replication.specs.Memory.{Memory, recordCount, copyAt, recordAt, sessionAt, sequenceOf, nth, studioOf}
+use Rattle.replication.specs.Request.{Request}
+use Rattle.replication.specs.Calls.{After, numberAfter, answerFrom}
 use Rattle.replication.specs.declared.session.Session.{Session}
 use Rattle.replication.specs.declared.session.Waiting.{Waiting}
 use Rattle.replication.specs.declared.session.Waiting.the-variants.{Nothing, Numbers, Title}
 use Rattle.replication.specs.declared.record.Record.{Record}
 use Rattle.replication.specs.declared.block.Due.{Due}
+use Rattle.replication.specs.declared.source.Source.{Source}
 use Rattle.replication.specs.declared.control.Control.{Control}
 
 -- a session's waiting read, or a request, as the code's case: by byte 0, with byte 1
@@ -54,3 +57,18 @@ walkable (suc n) log r = let rest = walkable n log (nextTransaction log r) in wi
 -- what an accepted read goes by: the session's number, its studio, and what that has applied
 abbrev pub dueOf : Control → List ℕ → ℕ → Due
 dueOf c sessions s = record { number = sequenceOf (sessionAt sessions s); studio = studioOf c s; state = nth (c .applied) (studioOf c s) }
+
+-- what it is answered from: a copy, with its state, and the session's next number. The studio's copy; the head end's
+abbrev pub studioSource : Due → Source
+studioSource d = record { copy = d .studio; state = d .state; next = numberAfter (d .number) (d .state) }
+
+abbrev pub primarySource : Control → Source
+primarySource c = record { copy = 0; state = c .commits; next = c .commits }
+
+-- S-4: the studio's copy where it has reached the session's number, otherwise the head end's
+unfoldable pub forwardSource : Control → Due → Source
+forwardSource c d = cond (leb (d .number) (d .state)) (studioSource d) (primarySource c)
+
+-- and the answer
+abbrev pub answerBy : Source → Request → Control → Memory → ℕ → List ℕ → List ℕ → After
+answerBy v q c m s x out = answerFrom (v .state) (copyAt (m .library) (v .copy)) q c m s (v .next) x out

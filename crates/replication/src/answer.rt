@@ -13,7 +13,7 @@ pub enum CountAnswer {
     Refused(u32),
 }
 
-// Read and collect: state and found; waits, with the session's number; or refused.
+// Read, collect and forward: state and found; waits, with the session's number (never from forward); or refused.
 pub enum ReadAnswer {
     Answered { state: u32, found: u32 },
     Waits(u32),

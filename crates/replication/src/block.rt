@@ -1,9 +1,10 @@
-// The Block step of read and collect: answered where the copy of the session's studio has reached the session's number.
+// The Block step of read and collect: answered where the copy of the session's studio has reached the session's number. What it goes by is forward's too.
 use crate::answer::ReadAnswer;
 use crate::control::Control;
-use crate::output;
 use crate::session;
 use crate::session::Session;
+use crate::source;
+use crate::source::Source;
 ghost use mathlib.Core.Path.{_≡_};
 ghost use mathlib.Core.Bool.{true};
 ghost use mathlib.Core.List.{List};
@@ -13,7 +14,7 @@ ghost use Rattle.replication.specs.Answer.{readAnswer, waits};
 ghost use Rattle.replication.specs.Memory.{memory, librarySize, sessionsSize, sessionSize, sessionCount, studioCount, sessionAt, sequenceOf, nth, studioOf};
 ghost use Rattle.replication.specs.Request.{requestOf, requestFields, needed};
 ghost use Rattle.replication.specs.Calls.{after, numberAfter, block};
-ghost use Rattle.replication.specs.Values.{dueOf};
+ghost use Rattle.replication.specs.Values.{dueOf, studioSource};
 
 // A session's number, its studio, and the state that the studio's copy has reached.
 pub struct Due {
@@ -35,6 +36,19 @@ impl Due {
             number: own.number,
             studio,
             state,
+        }
+    }
+
+    // The studio's copy: what answers where it has reached the session's number.
+    pub fn source(self) -> Source
+        requires { ⌜ (self .number < 65536) × (self .state < 65536) ⌝ }
+        ensures { λ r. ⌜ (r ≡ studioSource self) × (r .next < 65536) ⌝ }
+    {
+        let next = number_after(self.number, self.state);
+        Source {
+            copy: self.studio,
+            state: self.state,
+            next,
         }
     }
 }
@@ -70,11 +84,6 @@ pub fn block(
     if due.state < due.number {
         return ReadAnswer::Waits(due.number);
     }
-    let found = output::answer(library, due.studio, asked, output);
-    let next = number_after(due.number, due.state);
-    session::store(sessions, session, left, next);
-    ReadAnswer::Answered {
-        state: due.state,
-        found,
-    }
+    let source = due.source();
+    source::answer_from(source, library, sessions, session, asked, left, output)
 }

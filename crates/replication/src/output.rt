@@ -85,14 +85,14 @@ fn show(copy: &[u8], request: &[u8], waiting: Waiting, output: &mut [u8]) -> u32
     }
 }
 
-// A read answered from the copy of a studio: found, and what is shown.
-pub fn answer(library: &[u8], studio: u32, request: &[u8], output: &mut [u8]) -> u32
-    requires { ⌜ (length (now library) ≡ librarySize) × ((studio ≤ studioCount) × (length (now request) ≡ sessionSize)) ⌝ }
+// A read answered from a copy: found, and what is shown.
+pub fn answer(library: &[u8], copy: u32, request: &[u8], output: &mut [u8]) -> u32
+    requires { ⌜ (length (now library) ≡ librarySize) × ((copy ≤ studioCount) × (length (now request) ≡ sessionSize)) ⌝ }
     requires { ⌜ (requestFields (now request) ≡ true) × (needed (requestOf (now request)) ≤ length (now output)) ⌝ }
-    ensures { λ r. ⌜ (r ≡ foundIn (copyAt (now (library .entry)) studio) (requestOf (now (request .entry))))
-        × (now (output .exit) ≡ over (now (output .entry)) 0 (needed (requestOf (now (request .entry)))) (shownFrom (copyAt (now (library .entry)) studio) (requestOf (now (request .entry))))) ⌝ }
+    ensures { λ r. ⌜ (r ≡ foundIn (copyAt (now (library .entry)) copy) (requestOf (now (request .entry))))
+        × (now (output .exit) ≡ over (now (output .entry)) 0 (needed (requestOf (now (request .entry)))) (shownFrom (copyAt (now (library .entry)) copy) (requestOf (now (request .entry))))) ⌝ }
 {
-    let start = Cart::COPY_SIZE * (studio as usize);
+    let start = Cart::COPY_SIZE * (copy as usize);
     let end = start + Cart::COPY_SIZE;
     let read = Session::from_bytes(request);
     let waiting = read.waiting;

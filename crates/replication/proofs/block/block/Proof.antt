@@ -1,6 +1,6 @@
 use Prim.Native.Nat.{_<_, _≤_}
 use Rattle.replication.specs.Memory.{memory}
-use Rattle.replication.proofs.BlockLaws.{due-known, wait-small, answered-waits, block-waits, block-answers}
+use Rattle.replication.proofs.BlockLaws.{due-known, source-copy, wait-small, source-answers, block-waits, block-answers}
 use borrow.Author.Needs.{needs}
 use Rattle.replication.proofs.block.block.Statement.{statement}
 use Rattle.replication.proofs.block.block.Tie as tie
@@ -22,18 +22,14 @@ returns c = let a = c .before .before in
 few : (c : tie.After-at) → (c .at .result .studio ≤ 4) × (c .at .result .state < 65536)
 few c = let s = start c in due-known (s .args .control) (s .args .sessions .now) (s .args .session) _ (c .at .ensures .0) (s .pre .1 .0 .0 .1) (s .pre .1 .0 .1)
 
-answer-requires : tie.Need-answer-requires
-answer-requires c κs = let a = c .before .before .before in
+source-requires : tie.Need-source-requires
+source-requires c κs = let a = c .before .before in (a .at .ensures .1, few a .1)
+
+answer-from-requires : tie.Need-answer-from-requires
+answer-from-requires c κs = let s = c .before .before in
+    let a = s .before .before .before in
     let p = start a .pre in
-    ((p .0 .0, (few a .0, p .1 .1 .0 .0)), p .1 .1 .0 .1)
-
-number-after-requires : tie.Need-number-after-requires
-number-after-requires c κs = let e = c .before .before .before .before in
-    let a = e .before .before in
-    (a .at .ensures .1, few a .1)
-
-store-requires : tie.Need-store-requires
-store-requires c κs = search needs
+    (p .0, ((source-copy _ _ (s .source .ensures .0) (few a .0), s .source .ensures .1), p .1 .1))
 
 same-length-2 : tie.Need-same-length-2
 same-length-2 c = search needs
@@ -42,14 +38,13 @@ same-length-3 : tie.Need-same-length-3
 same-length-3 c = search needs
 
 returns-2 : tie.Need-returns-2
-returns-2 c = let y = c .before .before in
-    let n = y .before .before in
-    let w = n .before .before .before in
-    let e = w .before .before in
+returns-2 c = let y = c .before .before .before .before in
+    let s = y .before .before .before in
+    let e = s .before in
     let a = e .before .before in
     let g = start a .args in (
-      λ log. block-answers (g .control) (memory (g .library .now) log (g .sessions .now)) (g .session) _ (a .at .ensures .0) _ _ (g .output .now) (e .if1 .left) _ _ (w .answer .ensures) _ (n .number-after .ensures .0) _ (y .store .ensures),
-      λ n e. absurd (answered-waits _ _ n e),
+      λ log. block-answers (g .control) (memory (g .library .now) log (g .sessions .now)) (g .session) _ (a .at .ensures .0) _ _ (g .output .now) (e .if1 .left) _ (s .source .ensures .0) _ (y .answer-from .ensures (g .control) log),
+      λ n w. absurd (source-answers _ _ (g .control) (memory (g .library .now) (g .library .now) (g .sessions .now)) _ _ _ _ _ _ (y .answer-from .ensures (g .control) (g .library .now)) n w),
     )
 
 pub block-spec : {M : Type 1} → statement M
@@ -59,9 +54,8 @@ block-spec =
     at-requires
     same-length
     returns
-    answer-requires
-    number-after-requires
-    store-requires
+    source-requires
+    answer-from-requires
     same-length-2
     same-length-3
     returns-2)

@@ -29,7 +29,7 @@ start c = c .before .before .before .before
 show-requires : tie.Need-show-requires
 show-requires c κs = let b = c .before .before in
     let s = start b in
-    ((length-lent 10240 (s .args .studio) (s .args .library .now) (omega arith), (s .pre .0 .1 .1, value-waiting _ _ (b .from-bytes .ensures .0))), s .pre .1)
+    ((length-lent 10240 (s .args .copy) (s .args .library .now) (omega arith), (s .pre .0 .1 .1, value-waiting _ _ (b .from-bytes .ensures .0))), s .pre .1)
 
 same-length : tie.Need-same-length
 same-length c = search needs
@@ -37,7 +37,7 @@ same-length c = search needs
 returns : tie.Need-returns
 returns c = let y = c .before .before in
     let s = start (y .before .before .before) in
-    shown-lent (s .args .library .now) (s .args .studio) _ (s .args .output .now) _ _ (y .show .ensures)
+    shown-lent (s .args .library .now) (s .args .copy) _ (s .args .output .now) _ _ (y .show .ensures)
 
 pub answer-spec : {M : Type 1} → statement M
 answer-spec =
