@@ -4,6 +4,7 @@ use crate::words::Words;
 use replication::collect;
 use replication::commit;
 use replication::control::Control;
+use replication::forward;
 use replication::preview;
 use replication::read;
 use replication::refresh;
@@ -13,7 +14,7 @@ use replication::setup;
 ghost use mathlib.Core.Path.{_≡_};
 ghost use mathlib.Core.List.{[]};
 ghost use Rattle.replication.specs.Memory.{memory};
-ghost use Rattle.replication.specs.Calls.{setup, commit, preview, send, refresh, read, collect};
+ghost use Rattle.replication.specs.Calls.{setup, commit, preview, send, refresh, read, collect, forward};
 ghost use Rattle.sulyobak.specs.Words.{left, leftBy, layoutWords, version};
 
 pub mod words;
@@ -134,6 +135,23 @@ pub extern "C" fn sulyobak_collect(
         ≡ leftBy (collect control (memory (now (library .entry)) (now (log .entry)) (now (sessions .entry))) session (now (output .entry))) ⌝ }
 {
     Words::of_read(collect::collect(control, library, log, sessions, session, output))
+}
+
+// Forward: read, but answered by the head end where read would wait. Library and log are only read.
+#[no_mangle]
+pub extern "C" fn sulyobak_forward(
+    library: &[u8],
+    log: &[u8],
+    sessions: &mut [u8],
+    control: Control,
+    session: u32,
+    request: &[u8],
+    output: &mut [u8],
+) -> Words
+    ensures { λ r. ⌜ left r (memory (now (library .entry)) (now (log .entry)) (now (sessions .exit))) (now (output .exit))
+        ≡ leftBy (forward control (memory (now (library .entry)) (now (log .entry)) (now (sessions .entry))) session (now (request .entry)) (now (output .entry))) ⌝ }
+{
+    Words::of_read(forward::forward(control, library, log, sessions, session, request, output))
 }
 
 // The test of lengths and layout alone, which every call but setup begins with. Memory is only read.

@@ -19,7 +19,7 @@ pub struct Words {
 }
 
 impl Words {
-    pub const VERSION: u32 = 4;
+    pub const VERSION: u32 = 5;
 
     pub const REFUSED: u32 = 0;
 
@@ -65,7 +65,7 @@ impl Words {
         }
     }
 
-    // The answer of read and collect.
+    // The answer of read, collect and forward.
     pub fn of_read(result: ReadResult) -> Words
         ensures { λ r. ⌜ r ≡ wordsOf (readAnswer (result .answer)) (result .control) ⌝ }
     {
