@@ -73,22 +73,11 @@ pub fn refresh(system: &mut System, studio: u32) -> Ended {
 }
 
 pub fn read(system: &mut System, session: u32, request: &[u8], output: &mut [u8]) -> Ended {
-    let place = used_session(system, session)?;
-    if session_at(system, place).waiting.is_some() {
-        return Err(4);
-    }
-    let request = Request::handed_in(request).ok_or(12u32)?;
-    if output.len() < request.output_bytes() {
-        return Err(13);
-    }
-    match caught_up(system, place) {
-        Some(studio) => Ok(answer(studio, &request, output)),
-        None => {
-            let session = session_at_mut(system, place);
-            session.waiting = Some(request);
-            Ok(Outcome::Waits(session.number))
-        }
-    }
+    reading(system, session, request, output, wait)
+}
+
+pub fn forward(system: &mut System, session: u32, request: &[u8], output: &mut [u8]) -> Ended {
+    reading(system, session, request, output, answer_at_head_end)
 }
 
 pub fn collect(system: &mut System, session: u32, output: &mut [u8]) -> Ended {
@@ -99,12 +88,47 @@ pub fn collect(system: &mut System, session: u32, output: &mut [u8]) -> Ended {
     }
     match caught_up(system, place) {
         Some(studio) => {
-            let answered = answer(studio, &request, output);
+            let answered = answer(&studio.copy, studio.applied, &request, output);
             session_at_mut(system, place).waiting = None;
             Ok(answered)
         }
         None => Ok(Outcome::Waits(session_at(system, place).number)),
     }
+}
+
+/// What a reading call does where the studio's copy is behind the session's number.
+type Behind = fn(&mut System, usize, Request, &mut [u8]) -> Outcome;
+
+/// A reading call. S-4: forward has "read's requests, outputs, checks and order", and
+/// answers "exactly as read does" where the studio's copy has reached the number.
+fn reading(system: &mut System, session: u32, request: &[u8], output: &mut [u8], behind: Behind) -> Ended {
+    let place = used_session(system, session)?;
+    if session_at(system, place).waiting.is_some() {
+        return Err(4);
+    }
+    let request = Request::handed_in(request).ok_or(12u32)?;
+    if output.len() < request.output_bytes() {
+        return Err(13);
+    }
+    match caught_up(system, place) {
+        Some(studio) => Ok(answer(&studio.copy, studio.applied, &request, output)),
+        None => Ok(behind(system, place, request, output)),
+    }
+}
+
+/// 01, read: "the request is stored and the answer is waits". Output is left alone.
+fn wait(system: &mut System, place: usize, request: Request, _output: &mut [u8]) -> Outcome {
+    let session = session_at_mut(system, place);
+    session.waiting = Some(request);
+    Outcome::Waits(session.number)
+}
+
+/// S-4: "from the head end's copy with state commits, and the session's number becomes
+/// commits". The request is not stored.
+fn answer_at_head_end(system: &mut System, place: usize, request: Request, output: &mut [u8]) -> Outcome {
+    let commits = system.commits();
+    session_at_mut(system, place).number = commits;
+    answer(&system.head_end, commits, &request, output)
 }
 
 /// The copy that a transaction makes, or `None` where an operation meets its
@@ -127,29 +151,26 @@ fn caught_up(system: &System, place: usize) -> Option<&Studio> {
     (studio.applied >= session.number).then_some(studio)
 }
 
-/// Answers a request from a studio's copy, from output's start.
-fn answer(studio: &Studio, request: &Request, output: &mut [u8]) -> Outcome {
+/// Answers a request from a copy of that state, from output's start.
+fn answer(copy: &Copy, state: u32, request: &Request, output: &mut [u8]) -> Outcome {
     let found = match request {
         Request::Numbers(numbers) => {
             for (number, unit) in numbers.iter().zip(output.chunks_exact_mut(UNIT)) {
-                put_cart(&studio.copy, *number, unit);
+                put_cart(copy, *number, unit);
             }
-            numbers.iter().filter(|number| studio.copy[usize::from(**number) - 1].is_some()).count()
+            numbers.iter().filter(|number| copy[usize::from(**number) - 1].is_some()).count()
         }
         Request::Title(title) => {
-            let titled: Vec<u16> = (1..)
-                .zip(&studio.copy)
-                .filter(|(_, cart)| cart.is_some_and(|cart| cart.title == *title))
-                .map(|(number, _)| number)
-                .collect();
+            let titled: Vec<u16> =
+                (1..).zip(copy).filter(|(_, cart)| cart.is_some_and(|cart| cart.title == *title)).map(|(number, _)| number).collect();
             match titled[..] {
-                [number] => put_cart(&studio.copy, number, &mut output[..UNIT]),
+                [number] => put_cart(copy, number, &mut output[..UNIT]),
                 _ => output[..UNIT].fill(0),
             }
             titled.len()
         }
     };
-    Outcome::Answered { state: studio.applied, found: u32::try_from(found).expect("at most 128") }
+    Outcome::Answered { state, found: u32::try_from(found).expect("at most 128") }
 }
 
 fn put_cart(copy: &Copy, number: u16, unit: &mut [u8]) {

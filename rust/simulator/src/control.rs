@@ -24,7 +24,7 @@ pub struct Control {
 pub const REFUSED: u32 = 0;
 /// The kind of an accepted setup, commit, preview, send or refresh.
 pub const DONE: u32 = 1;
-/// The kind of an answered read.
+/// The kind of an answered read, collect or forward.
 pub const ANSWERED: u32 = 2;
 /// The kind of a read that waits.
 pub const WAITS: u32 = 3;
@@ -50,9 +50,9 @@ pub enum Outcome {
     Refused(u32),
     /// The count returned, 0 for setup.
     Done(u32),
-    /// A read is answered.
+    /// A read, collect or forward is answered.
     Answered {
-        /// Applied of the session's studio.
+        /// Applied of the session's studio, or commits where the head end's copy answered.
         state: u32,
         /// How many were found.
         found: u32,

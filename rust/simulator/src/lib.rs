@@ -1,4 +1,4 @@
-//! The cart wall of document 01, with requests S-1 to S-3 of document 02, by
+//! The cart wall of document 01, with requests S-1 to S-4 of document 02, by
 //! another hand.
 //!
 //! Every call decodes the lent memory and the control into a value, acts on
@@ -79,6 +79,20 @@ pub fn read(
 /// Collect.
 pub fn collect(library: &mut [u8], log: &mut [u8], sessions: &mut [u8], control: Control, session: u32, output: &mut [u8]) -> Answer {
     play(library, log, sessions, control, |system| calls::collect(system, session, output))
+}
+
+/// Forward: a read that does not wait. Where its studio's copy is behind the session's
+/// number, the head end's copy answers and the number becomes commits.
+pub fn forward(
+    library: &mut [u8],
+    log: &mut [u8],
+    sessions: &mut [u8],
+    control: Control,
+    session: u32,
+    request: &[u8],
+    output: &mut [u8],
+) -> Answer {
+    play(library, log, sessions, control, |system| calls::forward(system, session, request, output))
 }
 
 /// Whether control and memory are of the layout, all three lengths being right.

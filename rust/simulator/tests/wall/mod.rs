@@ -54,7 +54,7 @@ impl Wall {
         u32::from(u16::from_le_bytes([self.sessions[at], self.sessions[at + 1]]))
     }
 
-    fn put_number(&mut self, session: u32, number: u32) {
+    pub fn put_number(&mut self, session: u32, number: u32) {
         let (at, number) = (number_at(session), u16::try_from(number).unwrap());
         self.sessions[at..at + 2].copy_from_slice(&number.to_le_bytes());
     }
@@ -122,6 +122,15 @@ impl Wall {
         let (library, log) = (&mut self.library, &mut self.log);
         let sessions = &mut self.sessions;
         let answer = simulator::collect(library, log, sessions, self.control, session, output);
+        self.keep(before, answer)
+    }
+
+    pub fn forward(&mut self, session: u32, request: &[u8], output: &mut [u8]) -> Words {
+        let before = self.clone();
+        let (library, log) = (&mut self.library, &mut self.log);
+        let sessions = &mut self.sessions;
+        let control = self.control;
+        let answer = simulator::forward(library, log, sessions, control, session, request, output);
         self.keep(before, answer)
     }
 }
