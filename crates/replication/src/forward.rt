@@ -22,11 +22,12 @@ fn source_of(control: Control, due: Due) -> Source
     requires { ⌜ due .studio ≤ studioCount ⌝ }
     ensures { λ r. ⌜ (r ≡ forwardSource control due) × ((r .copy ≤ studioCount) × (r .next < 65536)) ⌝ }
 {
+    let commits = control.commits;
     if due.state < due.number {
         return Source {
             copy: 0,
-            state: control.commits,
-            next: control.commits,
+            state: commits,
+            next: commits,
         };
     }
     due.source()
