@@ -5,7 +5,7 @@
 pub mod sizes;
 
 /// The version of the interface that these declarations are for: `SULYOBAK_VERSION`.
-pub const VERSION: u32 = 4;
+pub const VERSION: u32 = 5;
 
 /// The counts of a system. The engine is passed them and hands them back; any value may stand in any field, and each has its answer.
 ///
@@ -48,7 +48,7 @@ const _: () = assert!(core::mem::size_of::<Control>() == 27 * 4 && core::mem::si
 pub const REFUSED: u32 = 0;
 /// Done.
 pub const DONE: u32 = 1;
-/// The read is answered; the carts are in output.
+/// The read or forward is answered; the carts are in output.
 pub const ANSWERED: u32 = 2;
 /// The read is kept in the session.
 pub const WAITS: u32 = 3;
@@ -148,6 +148,22 @@ extern "C" {
         sessions_len: usize,
         control: Control,
         session: u32,
+        output: *mut u8,
+        output_len: usize,
+    ) -> Answer;
+
+    /// Reads carts from the copy of the session's studio, or from the head end's where the studio's is behind; never waits.
+    pub fn sulyobak_forward(
+        library: *const u8,
+        library_len: usize,
+        log: *const u8,
+        log_len: usize,
+        sessions: *mut u8,
+        sessions_len: usize,
+        control: Control,
+        session: u32,
+        request: *const u8,
+        request_len: usize,
         output: *mut u8,
         output_len: usize,
     ) -> Answer;

@@ -191,6 +191,35 @@ impl Found {
     }
 }
 
+/// What forward answers. It never waits.
+#[derive(Clone, Debug, PartialEq, Eq, Hash)]
+pub struct Forwarded {
+    /// How many transactions the copy that answered had taken: the studio's where that has reached the session's number, else the head
+    /// end's, which has taken every commit.
+    pub state: u32,
+    /// How many of the places asked hold a cart, or how many carts have the title.
+    pub found: u32,
+    /// A cart for each number asked, in order, or none where it is empty. For a title one place: the cart, if exactly one has it.
+    pub carts: Vec<Option<Cart>>,
+}
+
+/// What forward answers where the caller lends the output ([`Memory::forward_into`](crate::Memory::forward_into)): the carts' bytes stand
+/// at output's start.
+#[derive(Clone, Copy, Debug, PartialEq, Eq, Hash)]
+pub struct ForwardFound {
+    /// How many transactions the copy that answered had taken, as in [`Forwarded`].
+    pub state: u32,
+    /// How many of the places asked hold a cart, or how many carts have the title.
+    pub found: u32,
+}
+
+impl ForwardFound {
+    // With the carts of the output.
+    pub(crate) fn with_carts(self, output: &[u8]) -> Forwarded {
+        Forwarded { state: self.state, found: self.found, carts: Cart::all(output) }
+    }
+}
+
 #[cfg(test)]
 mod tests {
     use super::Refusal;

@@ -2,9 +2,10 @@
 //!
 //! One head end commits edits to its copy of the library and to a log. Up to four studios are sent the committed transactions and
 //! apply them, in order, to copies of their own. A session belongs to one studio and reads that studio's copy. Its read is answered
-//! once the copy has reached the session's number, and waits until then. The number is that of the session's last commit, or the count
-//! of commits at which it was refused one because of a cart's state ([`Refusal::WrongState`]), whichever came later. So nobody is
-//! handed an old cut that they have just replaced, or told that a cart is taken and then shown a copy from before it was.
+//! once the copy has reached the session's number, and waits until then; who cannot wait has the read forwarded to the head end
+//! ([`Library::forward`]). The number is that of the session's last commit, or the count of commits at which the head end refused it one
+//! because of a cart's state ([`Refusal::WrongState`]) or answered it, whichever came later. So nobody is handed an old cut that they have
+//! just replaced, or told or shown what the head end has and then shown a copy from before.
 //!
 //! The engine is written in Rattle and linked as a static library; each of its functions is proved to answer, and to leave in
 //! memory, exactly what its specification gives. This crate is a safe wrapper around it, with no dependency but the
@@ -13,7 +14,8 @@
 //!
 //! - [`Library`] owns its memory: the usual choice.
 //! - [`Memory`] borrows memory that lies elsewhere, such as a mapped file.
-//! - [`Operation`], [`Request`] and [`Title`] are what goes in; [`Read`], [`Cart`] and [`Refusal`] what comes out.
+//! - [`Operation`], [`Request`] and [`Title`] are what goes in; [`Read`], [`Forwarded`], [`Cart`] and [`Refusal`] what comes
+//!   out.
 //!
 //! **One chair is one session.** The wait goes by the session's own number, so whoever edits must read in the session that committed.
 //! With two sessions in one chair, an edit committed in the first does not raise the second's number: a read in the second is answered at
@@ -61,7 +63,7 @@ mod title;
 mod version;
 mod view;
 
-pub use answer::{Found, Read, Refusal};
+pub use answer::{ForwardFound, Forwarded, Found, Read, Refusal};
 pub use cart::Cart;
 pub use library::{Library, Parts};
 pub use memory::Memory;

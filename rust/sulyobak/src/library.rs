@@ -1,4 +1,4 @@
-use crate::answer::{Read, Refusal};
+use crate::answer::{Forwarded, Read, Refusal};
 use crate::memory::{self, Memory};
 use crate::operation::{self, Operation};
 use crate::request::Request;
@@ -188,7 +188,8 @@ impl Library {
         self.memory().refresh(studio)
     }
 
-    /// Reads from the copy of the session's studio, or waits until that copy has reached the session's number.
+    /// Reads from the copy of the session's studio, or waits until that copy has reached the session's number. Who cannot wait calls
+    /// [`forward`](Library::forward).
     pub fn read(&mut self, session: u32, request: &Request) -> Result<Read, Refusal> {
         self.memory().read(session, request)
     }
@@ -196,6 +197,39 @@ impl Library {
     /// Collects the read that the session has waiting, if its studio's copy has caught up; else it waits on.
     pub fn collect(&mut self, session: u32) -> Result<Read, Refusal> {
         self.memory().collect(session)
+    }
+
+    /// Reads now, for who cannot wait. Where the copy of the session's studio has reached the session's number, it answers exactly what
+    /// [`read`](Library::read) would. Else it answers from the head end's copy, and the session's number becomes the count of commits: so
+    /// the session's later reads wait until its studio's copy has all that was committed by then, and none shows a copy from before.
+    ///
+    /// It never waits and keeps no request. A session that has a read waiting is refused ([`Refusal::ReadWaiting`]), and that read waits
+    /// on. An answer is the head end's exactly where its state is not what the session's studio has applied.
+    ///
+    /// Ten seconds before the hour:
+    ///
+    /// ```
+    /// use sulyobak::{Library, Operation, Read, Request, Title};
+    ///
+    /// # fn main() -> Result<(), Box<dyn std::error::Error>> {
+    /// let mut library = Library::new(1, &[1, 1])?;
+    /// let top = Operation::New { cart: 7, title: Title::new("Top hour A")?, audio: 501, milliseconds: 8_000 };
+    /// assert_eq!(library.commit(1, &[top])?, 1);
+    /// assert_eq!(library.commit(2, &[Operation::Retitle { cart: 7, title: Title::new("Top hour B")? }])?, 2);
+    ///
+    /// // Session 1 would wait for its commit; the head end shows the cart as it stands after 2.
+    /// let shown = library.forward(1, &Request::cart(7))?;
+    /// assert_eq!((shown.state, shown.found), (2, 1));
+    /// assert_eq!(shown.carts[0].map(|cart| cart.title), Some(Title::new("Top hour B")?));
+    /// assert_eq!(library.control().applied[0], 0, "the studio's copy has taken nothing yet");
+    ///
+    /// // A read then waits for these 2 commits.
+    /// assert_eq!(library.read(1, &Request::cart(7))?, Read::Waits { number: 2 });
+    /// # Ok(())
+    /// # }
+    /// ```
+    pub fn forward(&mut self, session: u32, request: &Request) -> Result<Forwarded, Refusal> {
+        self.memory().forward(session, request)
     }
 }
 

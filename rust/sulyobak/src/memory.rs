@@ -1,4 +1,4 @@
-use crate::answer::{Found, Read, Refusal};
+use crate::answer::{ForwardFound, Forwarded, Found, Read, Refusal};
 use crate::call::{call, counted, other_version};
 use crate::operation::{self, Operation};
 use crate::request::Request;
@@ -35,6 +35,15 @@ pub struct Memory<'a> {
     pub sessions: &'a mut [u8],
     /// The counts; each call leaves here what the engine hands back.
     pub control: &'a mut Control,
+}
+
+// The answer of a function that is passed a request and an output: read or forward.
+macro_rules! ask {
+    ($function:ident, $self:ident, $session:ident, $request:ident, $output:ident) => {{
+        let (asked, places) = ($request.len(), $output.len());
+        let answer = call!(as_mut_ptr, $function, $self, *$self.control, $session, $request.as_ptr(), asked, $output.as_mut_ptr(), places);
+        $self.answered(answer)
+    }};
 }
 
 impl Memory<'_> {
@@ -100,18 +109,7 @@ impl Memory<'_> {
 
     /// The same with the request's bytes as they are, into output that the caller lends: 80 bytes for each number asked, or for a title.
     pub fn read_into(&mut self, session: u32, request: &[u8], output: &mut [u8]) -> Result<Found, Refusal> {
-        let answer = call!(
-            as_mut_ptr,
-            sulyobak_read,
-            self,
-            *self.control,
-            session,
-            request.as_ptr(),
-            request.len(),
-            output.as_mut_ptr(),
-            output.len()
-        );
-        self.answered(answer)
+        ask!(sulyobak_read, self, session, request, output)
     }
 
     /// Collects the read that the session has waiting, if its studio's copy has caught up; else it waits on.
@@ -126,6 +124,23 @@ impl Memory<'_> {
     pub fn collect_into(&mut self, session: u32, output: &mut [u8]) -> Result<Found, Refusal> {
         let answer = call!(as_mut_ptr, sulyobak_collect, self, *self.control, session, output.as_mut_ptr(), output.len());
         self.answered(answer)
+    }
+
+    /// Reads now: from the copy of the session's studio, as [`read`](Memory::read) does, where that has reached the session's number, else
+    /// from the head end's copy. [`Library::forward`](crate::Library::forward) tells what the head end's answer leaves, with an example.
+    pub fn forward(&mut self, session: u32, request: &Request) -> Result<Forwarded, Refusal> {
+        let mut output = [0; sizes::OUTPUT_MOST];
+        let output = &mut output[..sizes::CART * request.places()];
+        let found = self.forward_into(session, &request.to_bytes(), output)?;
+        Ok(found.with_carts(output))
+    }
+
+    /// The same with the request's bytes as they are, into output that the caller lends: 80 bytes for each number asked, or for a title.
+    pub fn forward_into(&mut self, session: u32, request: &[u8], output: &mut [u8]) -> Result<ForwardFound, Refusal> {
+        match ask!(sulyobak_forward, self, session, request, output)? {
+            Found::Answered { state, found } => Ok(ForwardFound { state, found }),
+            Found::Waits { .. } => other_version(sys::WAITS),
+        }
     }
 
     fn view(&self) -> View<'_> {
@@ -145,7 +160,7 @@ impl Memory<'_> {
         counted(&answer)
     }
 
-    // The answer of read or collect.
+    // The answer of read, collect or forward.
     fn answered(&mut self, answer: sys::Answer) -> Result<Found, Refusal> {
         *self.control = answer.control;
         match answer.kind {

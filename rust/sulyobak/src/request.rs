@@ -3,7 +3,7 @@ use std::error::Error;
 use std::fmt;
 use sulyobak_sys::sizes;
 
-/// What a read asks for: carts by their numbers, or the cart with a title.
+/// What a read or forward asks for: carts by their numbers, or the cart with a title.
 #[derive(Clone, Copy, Debug, PartialEq, Eq, Hash)]
 pub enum Request {
     /// Carts by their numbers; the answer has a place for each.
