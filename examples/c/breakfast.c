@@ -6,7 +6,9 @@
  * copy is two edits behind. The read waits, and is collected with the new cut. One chair is one session: a second session in the
  * producer's chair has edited nothing, so its read is answered at once with the old cut. Part three: the producer tries an edit of two
  * steps before making it, is told what is wrong with it, mends it and commits it. Part four: the presenter is told that the cart of that
- * edit is taken. The studio's copy still has it empty, so the presenter's read of it waits, and is collected with what is there.
+ * edit is taken. The studio's copy still has it empty, so the presenter's read of it waits, and is collected with what is there. Part
+ * five: ten seconds before the hour the presenter re-cuts the news bed and cannot wait for the studio. The read is forwarded, and the head
+ * end shows the new cut. A plain read then waits until the studio's copy has all that the head end had shown.
  */
 #include "sulyobak_util.h"
 
@@ -99,6 +101,14 @@ static void read_numbers(const char *what, uint32_t session, const uint32_t *car
     say(what, sulyobak_read(MEMORY, control, session, request, sizeof request, output, sizeof output));
 }
 
+/* A read that does not wait: where the studio's copy is behind the session's number, the head end answers. */
+static void forward_numbers(const char *what, uint32_t session, const uint32_t *carts, size_t count)
+{
+    uint8_t request[SULYOBAK_REQUEST_SIZE];
+    made(sulyobak_request_numbers(request, carts, count));
+    say(what, sulyobak_forward(MEMORY, control, session, request, sizeof request, output, sizeof output));
+}
+
 static void catch_up(void)
 {
     say("  the line sends one transaction to the studio", sulyobak_send(MEMORY, control, STUDIO));
@@ -187,6 +197,29 @@ static void the_taken_cart(void)
     catch_up();
     say("the presenter collects", sulyobak_collect(MEMORY, control, PRESENTER, output, sizeof output));
     show(0);
+}
+
+static void ten_seconds_before_the_hour(void)
+{
+    static const uint32_t news[1] = {NEWS};
+    uint8_t operation[SULYOBAK_OPERATION_SIZE];
+
+    printf("\nTen seconds before the hour\n");
+    made(sulyobak_operation_recut(operation, NEWS, 404, 58000));
+    commit("the presenter re-cuts the news bed", PRESENTER, operation, 1);
+    made(sulyobak_operation_retitle(operation, NEWS, "News bed at the hour"));
+    commit("the manager retitles it", MANAGER, operation, 1);
+    forward_numbers("the presenter cannot wait, and the head end answers", PRESENTER, news, 1);
+    show(0);
+    printf("commits %u, the studio's copy has taken %u\n", (unsigned)control.commits, (unsigned)control.applied[STUDIO - 1]);
+    read_numbers("a plain read waits for what the head end has shown", PRESENTER, news, 1);
+    forward_numbers("the presenter forwards again, with a read waiting", PRESENTER, news, 1);
+    catch_up();
+    say("the presenter collects", sulyobak_collect(MEMORY, control, PRESENTER, output, sizeof output));
+    catch_up();
+    say("the presenter collects", sulyobak_collect(MEMORY, control, PRESENTER, output, sizeof output));
+    show(0);
+    forward_numbers("the studio has caught up, and answers a forward itself", PRESENTER, news, 1);
     say("control and memory are of the layout", sulyobak_layout(MEMORY, control));
 }
 
@@ -202,5 +235,6 @@ int main(void)
     the_sponsors_jingle();
     the_weather_bed();
     the_taken_cart();
+    ten_seconds_before_the_hour();
     return 0;
 }

@@ -20,4 +20,5 @@ sulyobak_answer (*const of_a_send[])(READ, READ, READ, sulyobak_control, uint32_
 sulyobak_answer (*const of_a_refresh[])(WRITTEN, READ, READ, sulyobak_control, uint32_t) = {sulyobak_refresh};
 sulyobak_answer (*const of_a_read[])(READ, READ, WRITTEN, sulyobak_control, uint32_t, READ, WRITTEN) = {sulyobak_read};
 sulyobak_answer (*const of_a_collect[])(READ, READ, WRITTEN, sulyobak_control, uint32_t, WRITTEN) = {sulyobak_collect};
+sulyobak_answer (*const of_a_forward[])(READ, READ, WRITTEN, sulyobak_control, uint32_t, READ, WRITTEN) = {sulyobak_forward};
 sulyobak_answer (*const of_the_layout[])(READ, READ, READ, sulyobak_control) = {sulyobak_layout};

@@ -40,6 +40,12 @@ static sulyobak_answer read_as(uint32_t session)
 static sulyobak_answer read(void) { return read_as(READER); }
 static sulyobak_answer read_own(void) { return read_as(EDITOR); }
 static sulyobak_answer collect(void) { return sulyobak_collect(MEMORY, answer.control, EDITOR, output, sizeof output); }
+static sulyobak_answer forward_as(uint32_t session)
+{
+    return sulyobak_forward(MEMORY, answer.control, session, request, sizeof request, output, sizeof output);
+}
+static sulyobak_answer forward(void) { return forward_as(READER); }
+static sulyobak_answer forward_own(void) { return forward_as(EDITOR); }
 static sulyobak_answer layout(void) { return sulyobak_layout(MEMORY, answer.control); }
 
 static void fail(const char *what)
@@ -82,6 +88,13 @@ static long taken(call *played)
     while (clean < STACK && stack[clean] == PAINT)
         clean++;
     return STACK - clean;
+}
+
+/* The editor's studio is behind: the head end is who answers the editor's forwards. */
+static void be_behind(void)
+{
+    if (sulyobak_session_number(sulyobak_session_at(session_memory, EDITOR)) <= answer.control.applied[0])
+        fail("the studio is not behind");
 }
 
 static void measure(const char *what, call *played)
@@ -128,8 +141,13 @@ int main(void)
     measure("refresh", refresh);
     sulyobak_request_numbers(request, carts, SULYOBAK_NUMBERS);
     measure("read of 32 numbers", read);
+    measure("forward of 32 numbers", forward);
+    be_behind();
+    measure("the same, by the head end", forward_own);
     sulyobak_request_title(request, "0123456789012345678901234567890123456789012345678901234567890123");
     measure("read of a title", read);
+    measure("forward of a title", forward);
+    measure("the same, by the head end", forward_own);
     measure("read that waits", read_own);
     measure("collect that waits", collect);
     accept(send, "send");

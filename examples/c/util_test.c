@@ -155,6 +155,22 @@ static void test_taken(void)
     HOLD(sulyobak_session_number(session) == 3 && sulyobak_session_waiting(session) == 0);
 }
 
+/* A forward that the head end answers leaves its session's number at the count of commits, and nothing waiting. */
+static void test_forward(void)
+{
+    uint8_t operation[80], request[80], output[SULYOBAK_OUTPUT_MOST];
+    static const uint32_t carts[1] = {1};
+    const uint8_t *session = sulyobak_session_at(session_memory, 2);
+    sulyobak_answer answer;
+    HOLD(sulyobak_operation_new(operation, 1, "A", 1, 1) == SULYOBAK_MADE);
+    HOLD(keep(sulyobak_commit(MEMORY, control, 2, operation, sizeof operation)).value == 4);
+    HOLD(control.applied[0] < 4 && sulyobak_request_numbers(request, carts, 1) == SULYOBAK_MADE);
+    answer = keep(sulyobak_forward(MEMORY, control, 2, request, 80, output, 80));
+    HOLD(answer.kind == SULYOBAK_ANSWERED && answer.value == 4 && answer.found == 1);
+    HOLD(sulyobak_cart_is_held(sulyobak_cart_at(output, 0)) && sulyobak_cart_number(output) == 1);
+    HOLD(sulyobak_session_number(session) == 4 && sulyobak_session_waiting(session) == 0);
+}
+
 /* Every number has a sentence of its own. */
 static void test_sentences(void)
 {
@@ -177,6 +193,7 @@ int main(void)
     test_spaces();
     test_sessions();
     test_taken();
+    test_forward();
     test_sentences();
     printf("util_test: everything held\n");
     return 0;

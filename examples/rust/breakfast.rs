@@ -4,10 +4,12 @@
 //! same carts. Then a producer re-cuts the sponsor's jingle and reads it in the same chair while the studio's copy is two edits
 //! behind: the read waits, and is collected with the new cut. One chair is one session: a second session in the producer's chair has
 //! edited nothing, so its read is answered at once with the old cut. Then the producer tries an edit of two steps before making it, is
-//! told what is wrong with it, mends it and commits it. Last the presenter is told that the cart of that edit is taken: the studio's copy
-//! still has it empty, so the presenter's read of it waits, and is collected with what is there.
+//! told what is wrong with it, mends it and commits it. Then the presenter is told that the cart of that edit is taken: the studio's copy
+//! still has it empty, so the presenter's read of it waits, and is collected with what is there. Last, ten seconds before the hour, the
+//! presenter re-cuts the news bed and cannot wait for the studio: the read is forwarded, and the head end shows the new cut. A plain read
+//! then waits until the studio's copy has all that the head end had shown.
 use std::error::Error;
-use sulyobak::{Library, Operation, Read, Refusal, Request, Title};
+use sulyobak::{Cart, Forwarded, Library, Operation, Read, Refusal, Request, Title};
 
 // Sessions, and the studio that all of them sit in.
 const MANAGER: u32 = 1;
@@ -32,6 +34,8 @@ fn main() -> Result<(), Box<dyn Error>> {
     the_weather_bed(&mut wall)?;
     println!();
     the_taken_cart(&mut wall)?;
+    println!();
+    ten_seconds_before_the_hour(&mut wall)?;
     Ok(())
 }
 
@@ -115,6 +119,30 @@ fn the_taken_cart(wall: &mut Library) -> Result<(), Box<dyn Error>> {
     Ok(())
 }
 
+fn ten_seconds_before_the_hour(wall: &mut Library) -> Result<(), Box<dyn Error>> {
+    println!("Ten seconds before the hour");
+    let recut = Operation::Recut { cart: NEWS, audio: 404, milliseconds: 58_000 };
+    println!("commit {}: the presenter re-cuts the news bed", wall.commit(PRESENTER, &[recut])?);
+    let retitle = Operation::Retitle { cart: NEWS, title: Title::new("News bed at the hour")? };
+    println!("commit {}: the manager retitles it", wall.commit(MANAGER, &[retitle])?);
+
+    let request = Request::cart(NEWS);
+    let shown = wall.forward(PRESENTER, &request)?;
+    show_forwarded("the presenter cannot wait", wall, &shown);
+    show("a plain read waits for what the head end has shown", &wall.read(PRESENTER, &request)?);
+    match wall.forward(PRESENTER, &request) {
+        Ok(shown) => show_forwarded("the presenter forwards again", wall, &shown),
+        Err(refusal) => println!("the presenter forwards again, with a read waiting: {refusal}"),
+    }
+    catch_up(wall)?;
+    show("the presenter collects", &wall.collect(PRESENTER)?);
+    catch_up(wall)?;
+    show("the presenter collects", &wall.collect(PRESENTER)?);
+    let shown = wall.forward(PRESENTER, &request)?;
+    show_forwarded("the presenter forwards once more", wall, &shown);
+    Ok(())
+}
+
 // The line sends one transaction, and the studio's copy takes it.
 fn catch_up(wall: &mut Library) -> Result<(), Refusal> {
     let sent = wall.send(STUDIO)?;
@@ -128,12 +156,24 @@ fn show(what: &str, read: &Read) {
         Read::Waits { number } => println!("{what}: waits for {number}"),
         Read::Answered { state, found, carts } => {
             println!("{what}: state {state}, found {found}");
-            for cart in carts {
-                match cart {
-                    Some(cart) => println!("    {cart}"),
-                    None => println!("    empty"),
-                }
-            }
+            show_carts(carts);
+        }
+    }
+}
+
+// The head end has answered where the state is not what the session's studio has applied.
+fn show_forwarded(what: &str, wall: &Library, answer: &Forwarded) {
+    let applied = wall.control().applied[STUDIO as usize - 1];
+    let who = if answer.state == applied { "the studio" } else { "the head end" };
+    println!("{what}: {who} answers, state {}, found {}; the studio's copy has taken {applied}", answer.state, answer.found);
+    show_carts(&answer.carts);
+}
+
+fn show_carts(carts: &[Option<Cart>]) {
+    for cart in carts {
+        match cart {
+            Some(cart) => println!("    {cart}"),
+            None => println!("    empty"),
         }
     }
 }
