@@ -78,6 +78,21 @@ pub fn collect(library: &mut [u8], log: &mut [u8], sessions: &mut [u8], control:
     call!(sulyobak_collect, library, log, sessions, passed(control), session, output.as_mut_ptr(), output.len())
 }
 
+/// Forward.
+#[inline]
+pub fn forward(
+    library: &mut [u8],
+    log: &mut [u8],
+    sessions: &mut [u8],
+    control: Control,
+    session: u32,
+    request: &[u8],
+    output: &mut [u8],
+) -> Answer {
+    let (asked, shown) = ((request.as_ptr(), request.len()), (output.as_mut_ptr(), output.len()));
+    call!(sulyobak_forward, library, log, sessions, passed(control), session, asked.0, asked.1, shown.0, shown.1)
+}
+
 /// The layout test alone.
 #[inline]
 pub fn layout(library: &mut [u8], log: &mut [u8], sessions: &mut [u8], control: Control) -> Answer {
