@@ -68,36 +68,42 @@ impl SingleLibrary {
 
     /// State, found, and the bytes that the answer writes.
     pub fn read(&self, request: &[u8]) -> (u32, u32, Vec<u8>) {
-        if request[0] == 1 { self.read_numbers(request) } else { self.read_title(request) }
-    }
-
-    fn read_numbers(&self, request: &[u8]) -> (u32, u32, Vec<u8>) {
-        let mut written = Vec::new();
-        let mut found = 0;
-        for i in 0..usize::from(request[1]) {
-            let asked = usize::from(request[16 + 2 * i]) | usize::from(request[17 + 2 * i]) << 8;
-            let cart = &self.carts[UNIT * (asked - 1)..UNIT * asked];
-            found += u32::from(cart[0] == 1);
-            written.extend_from_slice(cart);
-        }
+        let (found, written) = read(&self.carts, request);
         (self.count, found, written)
     }
+}
 
-    fn read_title(&self, request: &[u8]) -> (u32, u32, Vec<u8>) {
-        let length = usize::from(request[1]);
-        let wanted = &request[16..16 + length];
-        let mut found = 0;
-        let mut written = vec![0; UNIT];
-        for cart in self.carts.chunks_exact(UNIT) {
-            let titled = cart[0] == 1 && usize::from(cart[1]) == length;
-            if titled && cart[16..16 + length] == *wanted {
-                found += 1;
-                written.copy_from_slice(cart);
-            }
-        }
-        if found != 1 {
-            written.fill(0);
-        }
-        (self.count, found, written)
+/// What a request in form finds in a copy, and the bytes that the answer writes.
+pub fn read(copy: &[u8], request: &[u8]) -> (u32, Vec<u8>) {
+    if request[0] == 1 { read_numbers(copy, request) } else { read_title(copy, request) }
+}
+
+fn read_numbers(copy: &[u8], request: &[u8]) -> (u32, Vec<u8>) {
+    let mut written = Vec::new();
+    let mut found = 0;
+    for i in 0..usize::from(request[1]) {
+        let asked = usize::from(request[16 + 2 * i]) | usize::from(request[17 + 2 * i]) << 8;
+        let cart = &copy[UNIT * (asked - 1)..UNIT * asked];
+        found += u32::from(cart[0] == 1);
+        written.extend_from_slice(cart);
     }
+    (found, written)
+}
+
+fn read_title(copy: &[u8], request: &[u8]) -> (u32, Vec<u8>) {
+    let length = usize::from(request[1]);
+    let wanted = &request[16..16 + length];
+    let mut found = 0;
+    let mut written = vec![0; UNIT];
+    for cart in copy.chunks_exact(UNIT) {
+        let titled = cart[0] == 1 && usize::from(cart[1]) == length;
+        if titled && cart[16..16 + length] == *wanted {
+            found += 1;
+            written.copy_from_slice(cart);
+        }
+    }
+    if found != 1 {
+        written.fill(0);
+    }
+    (found, written)
 }
