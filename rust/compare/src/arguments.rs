@@ -7,13 +7,14 @@ use crate::rows;
 use crate::wall::Wall;
 
 /// The kinds of call that have a weight, by their places among the weights.
-pub const CALLS: usize = 6;
+pub const CALLS: usize = 7;
 const COMMIT: usize = 0;
 const SEND: usize = 1;
 const REFRESH: usize = 2;
 pub const READ: usize = 3;
 const COLLECT: usize = 4;
 pub const PREVIEW: usize = 5;
+pub const FORWARD: usize = 6;
 
 /// The weights by which one kind alone is chosen.
 pub fn only(kind: usize) -> [usize; CALLS] {
@@ -25,7 +26,7 @@ pub fn only(kind: usize) -> [usize; CALLS] {
 /// How a list chooses its arguments.
 #[derive(Clone, Copy)]
 pub struct Taste {
-    /// Weights of commit, send, refresh, read, collect and preview.
+    /// Weights of commit, send, refresh, read, collect, preview and forward.
     pub weights: [usize; CALLS],
     /// Operations of a commit or a preview, from and to.
     pub sizes: (usize, usize),
@@ -43,7 +44,7 @@ pub fn call(random: &mut Random, maker: &Maker, taste: &Taste, wall: &Wall) -> C
         return commit.clone();
     }
     let mut kind = random.weighted(&taste.weights);
-    if matches!(kind, COMMIT | READ | PREVIEW) && all_waiting(wall) && random.percent(90) {
+    if matches!(kind, COMMIT | READ | PREVIEW | FORWARD) && all_waiting(wall) && random.percent(90) {
         kind = *random.pick(&[SEND, REFRESH, REFRESH, COLLECT]);
     }
     match kind {
@@ -58,6 +59,7 @@ pub fn call(random: &mut Random, maker: &Maker, taste: &Taste, wall: &Wall) -> C
         SEND => Call::Send { studio: studio(random, taste, wall) },
         REFRESH => Call::Refresh { studio: studio(random, taste, wall) },
         READ => read(random, maker, taste, wall),
+        FORWARD => forward(random, maker, taste, wall),
         _ => collect(random, taste, wall),
     }
 }
@@ -114,20 +116,37 @@ fn unsettle(random: &mut Random, maker: &Maker, operations: &mut Vec<u8>) {
     }
 }
 
-/// A read; often by a session that has not read since a refusal 8 raised its number.
+/// A read; often by a session that has not read since the head end told or showed it something.
 fn read(random: &mut Random, maker: &Maker, taste: &Taste, wall: &Wall) -> Call {
-    let told = wall.told.refused();
-    let session = match told.is_empty() || random.percent(50) {
+    let session = one_of(random, taste, wall, &wall.told.unread());
+    let (request, output) = request(random, maker, taste);
+    Call::Read { session, request, output }
+}
+
+/// A forward; often by a session whose studio is behind, so that the head end answers.
+fn forward(random: &mut Random, maker: &Maker, taste: &Taste, wall: &Wall) -> Call {
+    let session = one_of(random, taste, wall, &wall.behind());
+    let (request, output) = request(random, maker, taste);
+    Call::Forward { session, request, output }
+}
+
+/// One of these sessions, if there are any, as often as one that has nothing waiting.
+fn one_of(random: &mut Random, taste: &Taste, wall: &Wall, sessions: &[u32]) -> u32 {
+    match sessions.is_empty() || random.percent(50) {
         true => session(random, taste, wall, false),
-        false => *random.pick(&told),
-    };
+        false => *random.pick(sessions),
+    }
+}
+
+/// A request, and how long the output for it is.
+fn request(random: &mut Random, maker: &Maker, taste: &Taste) -> (Vec<u8>, usize) {
     let mut request = maker.request(random).to_vec();
     let asked = rows::output_asked(&request);
     if !random.percent(taste.fitting) {
         spoil_request(random, &mut request);
     }
     let output = output_near(random, taste, asked);
-    Call::Read { session, request, output }
+    (request, output)
 }
 
 fn collect(random: &mut Random, taste: &Taste, wall: &Wall) -> Call {

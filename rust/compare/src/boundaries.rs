@@ -1,6 +1,8 @@
 //! The boundaries that a run must have met, with how their calls ended.
 
-use crate::keys::{APPLIED, COLLECT_SPACES, COMMIT, DONE, Edit, Key, PREVIEW, READ, READ_SPACES, Reading, SENT_OVER, WAITED};
+use crate::keys::{APPLIED, Asked, COLLECT_SPACES, COMMIT, DONE, Edit, Key, PREVIEW, READ, READ_ASKED, READ_SPACES, Reading, SENT_OVER};
+use crate::keys::{FORWARD_ASKED, FORWARD_COMMITS, FORWARD_HIGH, FORWARD_IN_LIST, FORWARD_NUMBER, FORWARD_RAISED, FORWARD_SPACES};
+use crate::keys::{FORWARD_STUDIO, FORWARD_UNMADE, HEAD_END, WAITED};
 use crate::keys::{RAISED_BEHIND, RAISED_FROM, RAISED_HIGH, REFUSED_AT, REFUSED_IN_LIST};
 
 /// −1 as it is kept in a key.
@@ -8,8 +10,64 @@ const LESS: u32 = u32::MAX;
 const HUGE: u32 = u32::MAX;
 
 pub fn all() -> Vec<Key> {
-    let spaces = [reading(&READ_SPACES), reading(&COLLECT_SPACES)].concat();
-    [edit(&COMMIT), edit(&PREVIEW), taken(), spaces, OTHERS.to_vec()].concat()
+    let spaces = [reading(&READ_SPACES, WAITED), reading(&COLLECT_SPACES, WAITED), reading(&FORWARD_SPACES, HEAD_END)].concat();
+    let asked = [asked(&READ_ASKED, WAITED), asked(&FORWARD_ASKED, HEAD_END)].concat();
+    [edit(&COMMIT), edit(&PREVIEW), taken(), asked, forward(), spaces, OTHERS.to_vec()].concat()
+}
+
+/// Those of a read or of a forward; `behind` is how it ends where the studio has not reached the session's number.
+fn asked(of: &Asked, behind: u32) -> Vec<Key> {
+    let ends = [READ, behind].map(|end| {
+        numbered(&[
+            (of.session, &[1, 16], end),
+            (of.numbers, &[1, 32], end),
+            (of.cart, &[1, 128], end),
+            (of.title_length, &[1, 64], end),
+            (of.spare, &[0, 1], end),
+            (of.room, &[2_560], end),
+            (of.title_room, &[80], end),
+        ])
+    });
+    let others = numbered(&[
+        (of.session, &[0, 17, 257, 65_537, HUGE], 3),
+        (of.size, &[0, 79, 81], 12),
+        (of.numbers, &[0, 33], 12),
+        (of.cart, &[0, 129], 12),
+        (of.title_length, &[0, 65], 12),
+        (of.spare, &[LESS], 13),
+        (of.room, &[2_559], 13),
+        (of.title_room, &[79], 13),
+        (of.behind, &[0, LESS], READ),
+        (of.behind, &[1], behind),
+        (of.behind, &[0, 1], 4),
+        (of.behind, &[0, 1], 12),
+        (of.behind, &[0, 1], 13),
+        (of.found_by_numbers, &[0, 1, 32], READ),
+        (of.found_by_title, &[0, 1, 2, 3], READ),
+    ]);
+    [ends.concat(), others].concat()
+}
+
+/// Those of a forward alone.
+fn forward() -> Vec<Key> {
+    let ends = [READ, HEAD_END].map(|end| {
+        numbered(&[
+            (FORWARD_NUMBER, &[1, 512], end),
+            (FORWARD_COMMITS, &[1, 512], end),
+            (FORWARD_STUDIO, &[1, 2, 3, 4], end),
+            (FORWARD_UNMADE, &[1, 2], end),
+            (FORWARD_IN_LIST, &[1, 2], end),
+        ])
+    });
+    let others = numbered(&[
+        (FORWARD_NUMBER, &[0], READ),
+        (FORWARD_COMMITS, &[0], READ),
+        (FORWARD_RAISED, &[0, 1, 2], HEAD_END),
+        (FORWARD_HIGH, &[0, 1, 2], HEAD_END),
+        (FORWARD_ASKED.found_by_numbers, &[0, 1, 32], HEAD_END),
+        (FORWARD_ASKED.found_by_title, &[0, 1, 2, 3], HEAD_END),
+    ]);
+    [ends.concat(), others].concat()
 }
 
 /// Those of a commit refused with 8. Its commits are at most 511, since the last operation has to fit the log.
@@ -23,9 +81,13 @@ fn taken() -> Vec<Key> {
     ])
 }
 
-/// Those of a read or of a collect that have to do with spaced titles.
-fn reading(of: &Reading) -> Vec<Key> {
-    numbered(&[(of.asked, &[1, 64], READ), (of.asked, &[1, 64], WAITED), (of.found, &[0, 1, 2], READ), (of.shown, &[0, 1, 32], READ)])
+/// Those of a read, of a collect or of a forward that have to do with spaced titles; `behind` as above.
+fn reading(of: &Reading, behind: u32) -> Vec<Key> {
+    let ends = [READ, behind].map(|end| match end {
+        WAITED => numbered(&[(of.asked, &[1, 64], end)]),
+        _ => numbered(&[(of.asked, &[1, 64], end), (of.found, &[0, 1, 2], end), (of.shown, &[0, 1, 32], end)]),
+    });
+    ends.concat()
 }
 
 /// A key for each number.
@@ -117,39 +179,6 @@ const OTHERS: &[Key] = &[
     ("refresh, studio − S", 1, 3),
     (APPLIED, 1, DONE),
     (APPLIED, 2, DONE),
-    ("read, session", 0, 3),
-    ("read, session", 1, READ),
-    ("read, session", 16, READ),
-    ("read, session", 17, 3),
-    ("read, session", HUGE, 3),
-    ("read, request bytes", 0, 12),
-    ("read, request bytes", 79, 12),
-    ("read, request bytes", 81, 12),
-    ("request, numbers asked", 0, 12),
-    ("request, numbers asked", 1, READ),
-    ("request, numbers asked", 1, WAITED),
-    ("request, numbers asked", 32, READ),
-    ("request, numbers asked", 32, WAITED),
-    ("request, numbers asked", 33, 12),
-    ("request, cart", 0, 12),
-    ("request, cart", 1, READ),
-    ("request, cart", 128, READ),
-    ("request, cart", 129, 12),
-    ("request, title length", 0, 12),
-    ("request, title length", 1, READ),
-    ("request, title length", 1, WAITED),
-    ("request, title length", 64, READ),
-    ("request, title length", 64, WAITED),
-    ("request, title length", 65, 12),
-    ("read, output − asked", LESS, 13),
-    ("read, output − asked", 0, READ),
-    ("read, output − asked", 0, WAITED),
-    ("read, output − asked", 1, READ),
-    ("output for 32 numbers", 2_559, 13),
-    ("output for 32 numbers", 2_560, READ),
-    ("read, session number − applied", 1, WAITED),
-    ("read, session number − applied", 0, READ),
-    ("read, session number − applied", LESS, READ),
     ("read or collect, session number", 0, READ),
     ("read or collect, session number", 1, READ),
     ("read or collect, session number", 1, WAITED),
@@ -159,13 +188,6 @@ const OTHERS: &[Key] = &[
     ("read or collect, studio", 2, READ),
     ("read or collect, studio", 3, READ),
     ("read or collect, studio", 4, READ),
-    ("found by numbers", 0, READ),
-    ("found by numbers", 1, READ),
-    ("found by numbers", 32, READ),
-    ("found by title", 0, READ),
-    ("found by title", 1, READ),
-    ("found by title", 2, READ),
-    ("found by title", 3, READ),
     ("collect, session", 0, 3),
     ("collect, session", 1, READ),
     ("collect, session", 16, READ),

@@ -11,6 +11,7 @@ pub enum Call {
     Refresh { studio: u32 },
     Read { session: u32, request: Vec<u8>, output: usize },
     Collect { session: u32, output: usize },
+    Forward { session: u32, request: Vec<u8>, output: usize },
 }
 
 impl Call {
@@ -23,6 +24,7 @@ impl Call {
             Call::Refresh { .. } => "refresh",
             Call::Read { .. } => "read",
             Call::Collect { .. } => "collect",
+            Call::Forward { .. } => "forward",
         }
     }
 
@@ -33,7 +35,7 @@ impl Call {
             Call::Commit { .. } | Call::Preview { .. } => &[1, 2, 3, 4, 5, 6, 16, 7, 8],
             Call::Send { .. } => &[1, 2, 3, 9, 10],
             Call::Refresh { .. } => &[1, 2, 3, 11],
-            Call::Read { .. } => &[1, 2, 3, 4, 12, 13],
+            Call::Read { .. } | Call::Forward { .. } => &[1, 2, 3, 4, 12, 13],
             Call::Collect { .. } => &[1, 2, 3, 14, 13],
         }
     }
@@ -43,7 +45,7 @@ impl Call {
         match self {
             Call::Setup { session_studios, .. } => session_studios,
             Call::Commit { operations, .. } | Call::Preview { operations, .. } => operations,
-            Call::Read { request, .. } => request,
+            Call::Read { request, .. } | Call::Forward { request, .. } => request,
             _ => &[],
         }
     }
@@ -59,7 +61,7 @@ impl Call {
     /// The output's length.
     pub fn output(&self) -> usize {
         match self {
-            Call::Read { output, .. } | Call::Collect { output, .. } => *output,
+            Call::Read { output, .. } | Call::Collect { output, .. } | Call::Forward { output, .. } => *output,
             _ => 0,
         }
     }
@@ -77,9 +79,9 @@ impl fmt::Display for Call {
             }
             Call::Send { studio } => write!(f, "send studio={studio}"),
             Call::Refresh { studio } => write!(f, "refresh studio={studio}"),
-            Call::Read { session, request, output } => {
-                let (size, text) = (request.len(), hex(request));
-                write!(f, "read session={session} output={output} request of {size} bytes:\n    {text}")
+            Call::Read { session, request, output } | Call::Forward { session, request, output } => {
+                let (name, size, text) = (self.name(), request.len(), hex(request));
+                write!(f, "{name} session={session} output={output} request of {size} bytes:\n    {text}")
             }
             Call::Collect { session, output } => {
                 write!(f, "collect session={session} output={output}")

@@ -1,8 +1,9 @@
 //! What was met: refusals, pairs of rows, boundaries, each counted.
 
 use crate::call::Call;
-use crate::keys::{COMMIT, DONE, Edit, Key, LENGTHS, PREVIEW, READ, WAITED};
+use crate::keys::{Asked, COMMIT, DONE, Edit, FORWARD_ASKED, HEAD_END, Key, LENGTHS, MIXED, PREVIEW, READ, READ_ASKED, WAITED};
 use crate::lent::Lent;
+use crate::one_copy::History;
 use crate::rows;
 use simulator::{ANSWERED, Answer, Control, LIBRARY, LOG, REFUSED, SESSION_MEMORY, WAITS};
 use std::collections::BTreeMap;
@@ -22,8 +23,9 @@ pub struct Coverage {
     pairs: BTreeMap<Key, u64>,
     pub orders: u64,
     pub entries: u64,
-    /// Entries that are commits refused with 8.
+    /// Entries that are commits refused with 8, and that are forwards.
     pub refusals: u64,
+    pub forwards: u64,
 }
 
 impl Coverage {
@@ -40,15 +42,19 @@ impl Coverage {
         *self.counts.entry(key).or_default() += 1;
     }
 
-    pub fn count_order(&mut self, entries: usize, refusals: usize) {
+    pub fn count_order(&mut self, history: &History) {
         self.orders += 1;
-        self.entries += entries as u64;
-        self.refusals += refusals as u64;
+        self.entries += history.len() as u64;
+        self.refusals += history.refusals() as u64;
+        self.forwards += history.forwards() as u64;
+        if history.is_mixed() {
+            self.count((MIXED, 0, DONE));
+        }
     }
 
     pub fn note(&mut self, call: &Call, control: &Control, holding: &[u32], before: &Before, after: &Lent, answer: &Answer) {
-        let end = outcome(answer);
-        self.count_end(call.name(), answer);
+        let end = end_of(call, before, answer);
+        self.count((call.name(), 0, end));
         for (i, row) in holding.iter().enumerate() {
             for other in &holding[i + 1..] {
                 let pair = (call.name(), *row.min(other), *row.max(other));
@@ -64,7 +70,7 @@ impl Coverage {
     }
 
     fn note_arguments(&mut self, call: &Call, control: &Control, before: &Before, answer: &Answer) {
-        let end = outcome(answer);
+        let end = end_of(call, before, answer);
         match call {
             Call::Setup { studios, session_studios } => {
                 self.note_setup(*studios, session_studios, end);
@@ -84,20 +90,18 @@ impl Coverage {
                 self.count(("refresh, studio", *studio, end));
                 self.count(("refresh, studio − S", studio.wrapping_sub(control.studios), end));
             }
-            Call::Read { session, request, output } => {
-                self.count(("read, session", *session, end));
-                self.count(("read, request bytes", request.len() as u32, end));
-                self.note_request(request, end);
-                self.note_read("read, output − asked", request, *output, end);
-                self.note_test("read, session number − applied", call, control, before, end);
-                self.note_found(request, answer, end);
+            Call::Read { .. } => {
+                self.note_asked(&READ_ASKED, call, control, before, answer);
+                self.note_number(call, control, before, end);
             }
             Call::Collect { session, output } => {
                 self.count(("collect, session", *session, end));
-                self.note_read("collect, output − asked", &before.session, *output, end);
-                self.note_test("collect, session number − applied", call, control, before, end);
+                self.note_spare("collect, output − asked", &before.session, *output, end);
+                self.note_behind("collect, session number − applied", call, control, before, end);
+                self.note_number(call, control, before, end);
                 self.count(("collect, kind of read", u32::from(before.session[0]), end));
             }
+            Call::Forward { .. } => self.note_asked(&FORWARD_ASKED, call, control, before, answer),
         }
     }
 
@@ -174,48 +178,60 @@ impl Coverage {
         }
     }
 
-    fn note_request(&mut self, request: &[u8], end: u32) {
-        if request.len() != 80 || !matches!(end, READ | WAITED | 12) {
+    /// The arguments of a read or a forward, and what it found.
+    fn note_asked(&mut self, of: &Asked, call: &Call, control: &Control, before: &Before, answer: &Answer) {
+        let (request, output, end) = (call.input(), call.output(), end_of(call, before, answer));
+        self.count((of.session, rows::session_of(call).unwrap_or(0), end));
+        self.count((of.size, request.len() as u32, end));
+        self.note_request(of, request, end);
+        self.note_spare(of.spare, request, output, end);
+        self.note_behind(of.behind, call, control, before, end);
+        match request {
+            [1, 32, ..] => self.count((of.room, output as u32, end)),
+            [2, ..] => self.count((of.title_room, output as u32, end)),
+            _ => {}
+        }
+        if answer.kind == ANSWERED {
+            let subject = if request[0] == 2 { of.found_by_title } else { of.found_by_numbers };
+            self.count((subject, answer.found, end));
+        }
+    }
+
+    fn note_request(&mut self, of: &Asked, request: &[u8], end: u32) {
+        if request.len() != 80 || !matches!(end, READ | WAITED | HEAD_END | 12) {
             return;
         }
         let length = u32::from(request[1]);
         if request[0] == 1 {
-            self.count(("request, numbers asked", length, end));
+            self.count((of.numbers, length, end));
             for place in request[16..].chunks_exact(2).take(length.min(32) as usize) {
                 let cart = u32::from(place[0]) | u32::from(place[1]) << 8;
-                self.count(("request, cart", cart, end));
+                self.count((of.cart, cart, end));
             }
         } else {
-            self.count(("request, title length", length, end));
+            self.count((of.title_length, length, end));
         }
     }
 
-    fn note_read(&mut self, subject: &'static str, request: &[u8], output: usize, end: u32) {
-        if matches!(end, READ | WAITED | 13) {
+    fn note_spare(&mut self, subject: &'static str, request: &[u8], output: usize, end: u32) {
+        if matches!(end, READ | WAITED | HEAD_END | 13) {
             let spare = output as i64 - rows::output_asked(request) as i64;
             self.count((subject, spare.clamp(-2, 2) as u32, end));
-            if rows::output_asked(request) == 2_560 {
-                self.count(("output for 32 numbers", output as u32, end));
-            }
         }
     }
 
-    fn note_test(&mut self, subject: &'static str, call: &Call, control: &Control, before: &Before, end: u32) {
-        let studio = rows::session_studio(call, control);
-        if matches!(end, READ | WAITED) {
-            let number = rows::session_number(&before.session);
-            let behind = i64::from(number) - i64::from(control.applied[studio as usize - 1]);
+    /// Of a session in use, in memory of the layout.
+    fn note_behind(&mut self, subject: &'static str, call: &Call, control: &Control, before: &Before, end: u32) {
+        if let (false, Some(applied)) = (matches!(end, 1..=3), rows::applied(call, control)) {
+            let behind = i64::from(rows::session_number(&before.session)) - i64::from(applied);
             self.count((subject, behind.clamp(-2, 2) as u32, end));
-            self.count(("read or collect, session number", number, end));
-            self.count(("read or collect, studio", studio, end));
         }
     }
 
-    fn note_found(&mut self, request: &[u8], answer: &Answer, end: u32) {
-        if end == READ {
-            let by_title = request[0] == 2;
-            let subject = if by_title { "found by title" } else { "found by numbers" };
-            self.count((subject, answer.found, end));
+    fn note_number(&mut self, call: &Call, control: &Control, before: &Before, end: u32) {
+        if matches!(end, READ | WAITED) {
+            self.count(("read or collect, session number", rows::session_number(&before.session), end));
+            self.count(("read or collect, studio", rows::session_studio(call, control), end));
         }
     }
 
@@ -239,6 +255,7 @@ impl Coverage {
         self.orders += other.orders;
         self.entries += other.entries;
         self.refusals += other.refusals;
+        self.forwards += other.forwards;
     }
 }
 
@@ -251,6 +268,14 @@ pub fn outcome(answer: &Answer) -> u32 {
     }
 }
 
+/// How a call ended; of an answered forward also whether the head end is who answered.
+pub fn end_of(call: &Call, before: &Before, answer: &Answer) -> u32 {
+    match rows::by_head_end(call, rows::session_number(&before.session), answer) {
+        true => HEAD_END,
+        false => outcome(answer),
+    }
+}
+
 fn call_place(call: &Call) -> usize {
     match call {
         Call::Setup { .. } => 0,
@@ -260,5 +285,6 @@ fn call_place(call: &Call) -> usize {
         Call::Read { .. } => 4,
         Call::Collect { .. } => 5,
         Call::Preview { .. } => 6,
+        Call::Forward { .. } => 7,
     }
 }

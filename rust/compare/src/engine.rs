@@ -23,6 +23,7 @@ macro_rules! play {
             Call::Refresh { studio } => $by::refresh(library, log, sessions, $control, studio),
             Call::Read { session, .. } => $by::read(library, log, sessions, $control, session, input, output),
             Call::Collect { session, .. } => $by::collect(library, log, sessions, $control, session, output),
+            Call::Forward { session, .. } => $by::forward(library, log, sessions, $control, session, input, output),
         }
     }};
 }

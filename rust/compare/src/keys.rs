@@ -4,6 +4,8 @@
 pub const DONE: u32 = 100;
 pub const READ: u32 = 101;
 pub const WAITED: u32 = 102;
+/// A forward that the head end answered; one that the studio answered is a [`READ`].
+pub const HEAD_END: u32 = 103;
 
 /// Subject, the number met, and how the call ended.
 pub type Key = (&'static str, u32, u32);
@@ -27,6 +29,69 @@ pub const READ_TOLD_ALONE: &str = "next read after a refusal 8 that raised a num
 pub const COLLECT_TOLD: &str = "collect of the next read after a refusal 8";
 /// A number raised by a refusal 8 in lists from memory that no list reaches.
 pub const RAISED_UNREACHED: &str = "list from unreached memory with a number raised by a refusal 8";
+
+/// Of a forward whose session is in use: the session's number, commits, and the number of its studio.
+pub const FORWARD_NUMBER: &str = "forward, session number";
+pub const FORWARD_COMMITS: &str = "forward, commits";
+pub const FORWARD_STUDIO: &str = "forward, studio";
+/// Of a forward by the head end: how far it raises the session's number, 2 standing for more too, and the high byte of a raised number.
+pub const FORWARD_RAISED: &str = "forward, commits − session number";
+pub const FORWARD_HIGH: &str = "number raised by a forward, high byte";
+/// The kind of request of a forward while the head end's copy is not what the log makes; and of one that is an entry of a list's order.
+pub const FORWARD_UNMADE: &str = "forward where the head end's copy is no L(n), kind of request";
+pub const FORWARD_IN_LIST: &str = "forward in a list, kind of request";
+/// The session's next read after a forward by the head end: any, the very next call, and one that waits only because of the forward. Then
+/// the collect of that read.
+pub const READ_FORWARDED: &str = "next read after a forward by the head end";
+pub const READ_STRAIGHT: &str = "read straight after a forward by the head end";
+pub const READ_FORWARDED_ALONE: &str = "next read after a forward by the head end that raised a number now reached";
+pub const COLLECT_FORWARDED: &str = "collect of the next read after a forward by the head end";
+/// The session's next forward: any, and one that the head end answers only because of the first. Then one after a refusal 8.
+pub const FORWARD_AGAIN: &str = "next forward after a forward by the head end";
+pub const FORWARD_AGAIN_ALONE: &str = "next forward after a forward by the head end that raised a number now reached";
+pub const FORWARD_TOLD: &str = "next forward after a refusal 8 that raised the number";
+/// The collect of a read because of which a forward was refused with 4.
+pub const COLLECT_KEPT: &str = "collect of a read that turned a forward away";
+/// A list whose order has entries of reads, of collects and of forwards.
+pub const MIXED: &str = "list with reads, collects and forwards in its order";
+
+/// The subjects of a call that is handed a request and an output: read or forward.
+pub struct Asked {
+    pub session: &'static str,
+    pub size: &'static str,
+    pub numbers: &'static str,
+    pub cart: &'static str,
+    pub title_length: &'static str,
+    /// Output less what is asked, and its length where 32 numbers or a title are asked.
+    pub spare: &'static str,
+    pub room: &'static str,
+    pub title_room: &'static str,
+    /// The session's number less what its studio has applied, between −2 and 2.
+    pub behind: &'static str,
+    pub found_by_numbers: &'static str,
+    pub found_by_title: &'static str,
+}
+
+macro_rules! asked {
+    ($call:literal) => {
+        Asked {
+            session: concat!($call, ", session"),
+            size: concat!($call, ", request bytes"),
+            numbers: concat!($call, ", numbers asked"),
+            cart: concat!($call, ", cart asked"),
+            title_length: concat!($call, ", title length"),
+            spare: concat!($call, ", output − asked"),
+            room: concat!($call, ", output for 32 numbers"),
+            title_room: concat!($call, ", output for a title"),
+            behind: concat!($call, ", session number − applied"),
+            found_by_numbers: concat!($call, ", found by numbers"),
+            found_by_title: concat!($call, ", found by title"),
+        }
+    };
+}
+
+pub const READ_ASKED: Asked = asked!("read");
+pub const FORWARD_ASKED: Asked = asked!("forward");
 
 /// The subjects of a commit or of a preview, which have the same arguments.
 pub struct Edit {
@@ -84,7 +149,7 @@ macro_rules! edit {
 pub const COMMIT: Edit = edit!("commit");
 pub const PREVIEW: Edit = edit!("preview");
 
-/// The subjects of a read or of a collect that have to do with spaced titles.
+/// The subjects of a read, a collect or a forward that have to do with spaced titles.
 pub struct Reading {
     /// The length of a spaced title asked for.
     pub asked: &'static str,
@@ -106,14 +171,15 @@ macro_rules! reading {
 
 pub const READ_SPACES: Reading = reading!("read");
 pub const COLLECT_SPACES: Reading = reading!("collect");
+pub const FORWARD_SPACES: Reading = reading!("forward");
 
 /// A studio's number, of a send over carts and records with spaced titles.
 pub const SENT_OVER: &str = "send over spaced titles, studio";
 /// The kind of a record with a spaced title that a refresh has applied.
 pub const APPLIED: &str = "refresh, record with a spaced title, kind";
 
-/// The subjects for the length of each memory, call by call: setup, commit, send, refresh, read, collect, preview.
-pub const LENGTHS: [[&str; 3]; 7] = [
+/// The subjects for the length of each memory, call by call: setup, commit, send, refresh, read, collect, preview, forward.
+pub const LENGTHS: [[&str; 3]; 8] = [
     ["setup, library bytes", "setup, log bytes", "setup, session bytes"],
     ["commit, library bytes", "commit, log bytes", "commit, session bytes"],
     ["send, library bytes", "send, log bytes", "send, session bytes"],
@@ -121,4 +187,5 @@ pub const LENGTHS: [[&str; 3]; 7] = [
     ["read, library bytes", "read, log bytes", "read, session bytes"],
     ["collect, library bytes", "collect, log bytes", "collect, session bytes"],
     ["preview, library bytes", "preview, log bytes", "preview, session bytes"],
+    ["forward, library bytes", "forward, log bytes", "forward, session bytes"],
 ];

@@ -11,7 +11,7 @@ use crate::player::{Mismatch, Player};
 use crate::random::Random;
 use crate::sweep;
 
-const KINDS: [&str; 19] = [
+const KINDS: [&str; 20] = [
     "mixed",
     "direct",
     "waits",
@@ -31,6 +31,7 @@ const KINDS: [&str; 19] = [
     "chaos",
     "older",
     "taken",
+    "forwards",
 ];
 
 pub fn kind(seed: u64) -> &'static str {
@@ -50,6 +51,7 @@ pub fn play(player: &mut Player<'_>, seed: u64) -> Result<(), Mismatch> {
         "ones" => guided::play(player, seed, Aim::Ones),
         "older" => guided::play(player, seed, Aim::Older),
         "taken" => guided::play(player, seed, Aim::Taken),
+        "forwards" => guided::play(player, seed, Aim::Forwards),
         "direct" => unreached(player, seed),
         "damage" => damage(player, seed),
         "memory sweep" => sweep::memory(player, seed, turn),
@@ -63,14 +65,14 @@ pub fn play(player: &mut Player<'_>, seed: u64) -> Result<(), Mismatch> {
 /// Only lists from fresh systems, for the one-copy order alone.
 pub fn play_fresh(player: &mut Player<'_>, seed: u64) -> Result<(), Mismatch> {
     player.begin_list(seed);
-    let aims = [Aim::Waits, Aim::Titles, Aim::Mixed, Aim::Window, Aim::Older, Aim::Taken];
+    let aims = [Aim::Waits, Aim::Titles, Aim::Mixed, Aim::Window, Aim::Older, Aim::Taken, Aim::Forwards];
     guided::play(player, seed, aims[seed as usize % aims.len()])
 }
 
 /// Lists from memory of the layout that no list reaches.
 fn unreached(player: &mut Player<'_>, seed: u64) -> Result<(), Mismatch> {
     let mut random = Random::new(seed);
-    let taste = Taste { weights: [25, 15, 30, 18, 12, 12], sizes: (1, 8), fitting: 92, misfits: 8 };
+    let taste = Taste { weights: [25, 15, 30, 18, 12, 12, 16], sizes: (1, 8), fitting: 92, misfits: 8 };
     let raised = player.coverage.met(&RAISED);
     for _ in 0..8 {
         let maker = Maker::new(&mut random, 6);

@@ -10,6 +10,7 @@ mod damage;
 mod differ;
 mod direct;
 mod engine;
+mod forwards;
 mod guided;
 mod keys;
 mod left;

@@ -1,6 +1,6 @@
 //! 01's one-copy order: the list's accepted commits, its commits refused with 8
-//! (02's S-3) and its answered reads, put into one order and played on the
-//! single library.
+//! (02's S-3) and its answered reads, forwards (02's S-4) among them, put into
+//! one order and played on the single library.
 
 use crate::call::Call;
 use crate::single::SingleLibrary;
@@ -17,11 +17,20 @@ enum What {
         commits: u32,
     },
     Read {
+        by: Reading,
         request: Vec<u8>,
         state: u32,
         found: u32,
         written: Vec<u8>,
     },
+}
+
+/// The call that a read was answered by.
+#[derive(Clone, Copy, PartialEq, Eq)]
+enum Reading {
+    Read,
+    Collect,
+    Forward,
 }
 
 struct Entry {
@@ -31,7 +40,7 @@ struct Entry {
 }
 
 impl Entry {
-    /// Commit n stands at 2n, a read at state k and a refusal 8 at k commits at 2k + 1.
+    /// Commit n stands at 2n, a read or forward at state k and a refusal 8 at k commits at 2k + 1.
     fn place(&self) -> u64 {
         match self.what {
             What::Commit { number, .. } => 2 * u64::from(number),
@@ -65,23 +74,26 @@ impl History {
                 self.entries.push(Entry { call: number, session: *session, what });
             }
             (Call::Read { session, request, .. }, ANSWERED) => {
-                self.push_read(number, *session, request.clone(), answer, output);
+                self.push_read(number, *session, (Reading::Read, request.clone()), answer, output);
+            }
+            (Call::Forward { session, request, .. }, ANSWERED) => {
+                self.push_read(number, *session, (Reading::Forward, request.clone()), answer, output);
             }
             (Call::Read { session, request, .. }, WAITS) => {
                 self.waited[*session as usize].clone_from(request);
             }
             (Call::Collect { session, .. }, ANSWERED) => {
                 let request = self.waited[*session as usize].clone();
-                self.push_read(number, *session, request, answer, output);
+                self.push_read(number, *session, (Reading::Collect, request), answer, output);
             }
             _ => {}
         }
     }
 
-    fn push_read(&mut self, call: u64, session: u32, request: Vec<u8>, answer: &Answer, output: &[u8]) {
+    fn push_read(&mut self, call: u64, session: u32, (by, request): (Reading, Vec<u8>), answer: &Answer, output: &[u8]) {
         let numbers = if request[0] == 1 { usize::from(request[1]) } else { 1 };
         let written = output[..output.len().min(80 * numbers)].to_vec();
-        let what = What::Read { request, state: answer.value, found: answer.found, written };
+        let what = What::Read { by, request, state: answer.value, found: answer.found, written };
         self.entries.push(Entry { call, session, what });
     }
 
@@ -106,6 +118,20 @@ impl History {
     /// How many entries are commits refused with 8.
     pub fn refusals(&self) -> usize {
         self.entries.iter().filter(|entry| matches!(entry.what, What::Refused { .. })).count()
+    }
+
+    /// How many entries are forwards.
+    pub fn forwards(&self) -> usize {
+        self.reads(Reading::Forward)
+    }
+
+    /// Whether reads, collects and forwards all have entries.
+    pub fn is_mixed(&self) -> bool {
+        [Reading::Read, Reading::Collect, Reading::Forward].into_iter().all(|by| self.reads(by) > 0)
+    }
+
+    fn reads(&self, reading: Reading) -> usize {
+        self.entries.iter().filter(|entry| matches!(entry.what, What::Read { by, .. } if by == reading)).count()
     }
 
     /// Builds the order, checks each session's order in it, and replays it.
@@ -142,7 +168,7 @@ fn replay(library: &mut SingleLibrary, entry: &Entry) -> Result<(), String> {
             Err(count) => Err(format!("one-copy order: refusal 8 at {commits} commits is the library's at {count}")),
             Ok(count) => Err(format!("one-copy order: refusal 8 at {commits} commits is the library's commit {count}")),
         },
-        What::Read { request, state, found, written } => {
+        What::Read { request, state, found, written, .. } => {
             let (count, held, carts) = library.read(request);
             if (count, held) != (*state, *found) {
                 let right = format!("the library's state {count} found {held}");
@@ -263,6 +289,38 @@ mod tests {
         history.note(4, &preview, &answer(REFUSED, 8, 0), &[]);
         history.note(5, &read_cart_1(1), &answer(ANSWERED, 1, 1), &new_cart_1());
         assert_eq!((history.len(), history.check()), (3, Ok(())));
+    }
+
+    fn forward_cart_1(session: u32) -> Call {
+        let Call::Read { session, request, output } = read_cart_1(session) else { unreachable!("a read") };
+        Call::Forward { session, request, output }
+    }
+
+    #[test]
+    fn a_forward_stands_among_the_reads_of_its_state() {
+        let mut history = history(answer(WAITS, 1, 0), &[]);
+        history.note(3, &forward_cart_1(2), &answer(ANSWERED, 0, 0), &[0; 80]);
+        history.note(4, &forward_cart_1(2), &answer(ANSWERED, 1, 1), &new_cart_1());
+        history.note(5, &forward_cart_1(1), &answer(REFUSED, 4, 0), &[]);
+        assert!(!history.is_mixed());
+        history.note(6, &Call::Collect { session: 1, output: 80 }, &answer(ANSWERED, 1, 1), &new_cart_1());
+        history.note(7, &read_cart_1(2), &answer(ANSWERED, 1, 1), &new_cart_1());
+        assert_eq!((history.len(), history.forwards(), history.is_mixed(), history.check()), (5, 2, true, Ok(())));
+    }
+
+    #[test]
+    fn a_read_from_before_a_forward_does_not_stand_after_it() {
+        let mut history = history(answer(WAITS, 1, 0), &[]);
+        history.note(3, &forward_cart_1(2), &answer(ANSWERED, 1, 1), &new_cart_1());
+        history.note(4, &read_cart_1(2), &answer(ANSWERED, 0, 0), &[0; 80]);
+        assert!(history.check().unwrap_err().1.contains("session 2 out of its order"));
+    }
+
+    #[test]
+    fn a_forward_with_another_state_than_that_of_its_carts_does_not_stand() {
+        let mut history = history(answer(WAITS, 1, 0), &[]);
+        history.note(3, &forward_cart_1(2), &answer(ANSWERED, 0, 1), &new_cart_1());
+        assert!(history.check().unwrap_err().1.contains("read state 0 found 1 is the library's state 0 found 0"));
     }
 
     #[test]

@@ -4,7 +4,7 @@ use crate::call::Call;
 use crate::coverage::Coverage;
 use crate::differ::{answer_text, first_difference};
 use crate::engine::{Engine, simulate};
-use crate::keys::{PREVIEWED, PREVIEWED_IN_LIST, REFUSED_IN_LIST};
+use crate::keys::{FORWARD_IN_LIST, HEAD_END, PREVIEWED, PREVIEWED_IN_LIST, READ, REFUSED_IN_LIST};
 use crate::left;
 use crate::lent::Lent;
 use crate::one_copy::History;
@@ -82,12 +82,15 @@ impl<'e> Player<'e> {
         self.check_preview(wall, call, &answer)?;
         self.coverage.note(call, &control, &holding, &before, &wall.simulated, &answer);
         self.coverage.note_told(call, wall.told.of(call), &control, &before, &answer);
+        self.coverage.note_forward(call, &control, &before, &wall.simulated, &answer);
+        self.coverage.note_after_forward(call, &wall.told, &control, &before, &answer);
         Ok(answer)
     }
 
     /// Plays a call of H and takes it into the history.
     pub fn play_in(&mut self, history: &mut History, wall: &mut Wall, call: &Call) -> Result<Answer, Mismatch> {
         let previewed = wall.answer_previewed(call);
+        let number = rows::session_number(&rows::stored(call, &wall.played));
         let answer = self.play(wall, call)?;
         if previewed.is_some() {
             self.coverage.count_end(PREVIEWED_IN_LIST, &answer);
@@ -96,6 +99,10 @@ impl<'e> Player<'e> {
         history.note(self.call_number, call, &answer, wall.played.output.lent());
         if answer.kind == REFUSED && history.len() > entries {
             self.coverage.count((REFUSED_IN_LIST, answer.control.commits, answer.value));
+        }
+        if let (Call::Forward { request, .. }, true) = (call, history.len() > entries) {
+            let end = if rows::by_head_end(call, number, &answer) { HEAD_END } else { READ };
+            self.coverage.count((FORWARD_IN_LIST, u32::from(request[0]), end));
         }
         Ok(answer)
     }
@@ -120,7 +127,7 @@ impl<'e> Player<'e> {
 
     /// Checks the one-copy order of a whole list.
     pub fn check_order(&mut self, history: &History) -> Result<(), Mismatch> {
-        self.coverage.count_order(history.len(), history.refusals());
+        self.coverage.count_order(history);
         history.check().map_err(|(call_number, words)| Mismatch { call_number, call: "(the whole list)".to_string(), words })
     }
 
@@ -151,14 +158,15 @@ impl<'e> Player<'e> {
         Err(self.mismatch(call.to_string(), words))
     }
 
-    /// A refused call leaves what `left.rs` says, apart from the simulator.
+    /// A refused call and a forward leave what `left.rs` says, apart from the simulator.
     fn check_left(&mut self, call: &Call, control: Control, answer: &Answer, played: &Lent) -> Result<(), Mismatch> {
-        if answer.kind != REFUSED {
-            return Ok(());
-        }
-        let right = left::by_refusal(answer.value, call, control, &mut self.before);
+        let right = match call {
+            _ if answer.kind == REFUSED => left::by_refusal(answer.value, call, control, &mut self.before),
+            Call::Forward { session, request, .. } => left::by_forward(*session, request, control, &mut self.before),
+            _ => return Ok(()),
+        };
         match first_difference("left.rs", (&right, &self.before), (answer, played)) {
-            Some(words) => Err(self.mismatch(call.to_string(), format!("what a refused call leaves, {words}"))),
+            Some(words) => Err(self.mismatch(call.to_string(), format!("what the call leaves, {words}"))),
             None => Ok(()),
         }
     }
@@ -212,5 +220,36 @@ mod tests {
             assert_eq!(passes(call, value, &raised), raises, "{call} refused {value}");
             assert_eq!(passes(call, value, &Lent::zeros()), !raises, "{call} refused {value}");
         }
+    }
+
+    #[test]
+    fn a_forward_must_answer_and_leave_what_02_says() {
+        // Studio 1 has applied 1 of 3 commits; cart 1 is held at the head end alone.
+        let control = Control { session_studios: [1; 16], commits: 3, applied: [1, 0, 0, 0], ..Control::default() };
+        let mut request = vec![0; 80];
+        (request[0], request[1], request[16]) = (1, 1, 1);
+        let call = Call::Forward { session: 1, request, output: 81 };
+        let left = |number: u8, held: u8| {
+            let mut lent = Lent::zeros();
+            (lent.library.lent_mut()[0], lent.sessions.lent_mut()[2]) = (1, number);
+            lent.output.set(&[9; 81]);
+            lent.output.lent_mut()[..80].fill(0);
+            lent.output.lent_mut()[0] = held;
+            lent
+        };
+        let passes = |number: u8, value: u32, found: u32, played: &Lent| {
+            let mut engine = Simulated;
+            let mut player = Player::new(&mut engine, true);
+            player.before = left(number, 9);
+            let answer = Answer { kind: simulator::ANSWERED, value, found, control };
+            player.check_left(&call, control, &answer, played).is_ok()
+        };
+        assert!(passes(2, 3, 1, &left(3, 1)), "the head end answers, with the number raised");
+        assert!(!passes(2, 3, 1, &left(2, 1)), "the number is not raised");
+        assert!(!passes(2, 1, 1, &left(3, 1)), "the state is what the studio has applied");
+        assert!(!passes(2, 3, 0, &left(3, 0)), "the carts are the studio's");
+        assert!(passes(1, 1, 0, &left(1, 0)), "the studio answers, and the number stays");
+        assert!(!passes(1, 1, 0, &left(3, 0)), "the number is raised");
+        assert!(!passes(1, 3, 1, &left(3, 1)), "the head end answers though the studio has caught up");
     }
 }

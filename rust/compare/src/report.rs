@@ -20,8 +20,8 @@ pub fn print(coverage: &Coverage) -> usize {
     for (call, row, other, reason) in required::EXCLUDED {
         println!("{:>9}  {call}: rows {row} and {other} at once: {reason}", "-");
     }
-    let Coverage { orders, entries, refusals, .. } = coverage;
-    println!("one-copy orders: {orders}, entries in them: {entries}, of these refusals 8: {refusals}");
+    let Coverage { orders, entries, refusals, forwards, .. } = coverage;
+    println!("one-copy orders: {orders}, entries in them: {entries}, of these refusals 8: {refusals}, forwards: {forwards}");
     println!("required lines: {}, not met: {missing}", lines.len());
     missing
 }

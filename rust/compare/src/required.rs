@@ -2,8 +2,10 @@
 
 use crate::boundaries;
 use crate::damage;
+use crate::keys::{COLLECT_FORWARDED, COLLECT_KEPT, FORWARD_AGAIN, FORWARD_AGAIN_ALONE, FORWARD_TOLD, MIXED};
 use crate::keys::{COLLECT_TOLD, RAISED, RAISED_UNREACHED, READ_TOLD, READ_TOLD_ALONE};
-use crate::keys::{DONE, Key, LENGTHS, PREVIEWED, PREVIEWED_IN_LIST, READ, WAITED};
+use crate::keys::{DONE, HEAD_END, Key, LENGTHS, PREVIEWED, PREVIEWED_IN_LIST, READ, WAITED};
+use crate::keys::{READ_FORWARDED, READ_FORWARDED_ALONE, READ_STRAIGHT};
 use crate::older;
 use crate::places;
 use crate::sweep;
@@ -38,6 +40,7 @@ fn end_text(end: u32) -> String {
         DONE => "done".to_string(),
         READ => "answered".to_string(),
         WAITED => "waits".to_string(),
+        HEAD_END => "answered by the head end".to_string(),
         row => format!("refused {row}"),
     }
 }
@@ -45,17 +48,18 @@ fn end_text(end: u32) -> String {
 const UNUSED: &str = "an unused session is all zero, so a read waiting there is row 2";
 
 /// Pairs of rows that cannot hold at once, each with its reason.
-pub const EXCLUDED: [(&str, u32, u32, &str); 4] = [
+pub const EXCLUDED: [(&str, u32, u32, &str); 5] = [
     ("commit", 3, 4, UNUSED),
     ("preview", 3, 4, UNUSED),
     ("read", 3, 4, UNUSED),
+    ("forward", 3, 4, UNUSED),
     ("send", 3, 10, "a studio above S has both counts at 0, so 32 apart is row 2"),
 ];
 
 /// The rows of commit and of preview, by their numbers.
 const EDIT_ROWS: &[u32] = &[1, 2, 3, 4, 5, 6, 7, 8, 16];
 
-const CALLS: [(&str, &[u32], &[u32]); 7] = [
+const CALLS: [(&str, &[u32], &[u32]); 8] = [
     ("setup", &[1, 15], &[DONE]),
     ("commit", EDIT_ROWS, &[DONE]),
     ("preview", EDIT_ROWS, &[DONE]),
@@ -63,6 +67,7 @@ const CALLS: [(&str, &[u32], &[u32]); 7] = [
     ("refresh", &[1, 2, 3, 11], &[DONE]),
     ("read", &[1, 2, 3, 4, 12, 13], &[READ, WAITED]),
     ("collect", &[1, 2, 3, 13, 14], &[READ, WAITED]),
+    ("forward", &[1, 2, 3, 4, 12, 13], &[READ, HEAD_END]),
 ];
 
 /// Every line a run must have met.
@@ -90,6 +95,7 @@ pub fn lines() -> Vec<Line> {
     lines.extend(damage::names().map(|name| Line::Ended((name, 0, 2))));
     lines.push(Line::Ended((older::NAME, 0, DONE)));
     lines.extend(told().map(Line::Ended));
+    lines.extend(forwarded().map(Line::Ended));
     lines
 }
 
@@ -103,6 +109,25 @@ fn told() -> [Key; 7] {
         (READ_TOLD_ALONE, 0, WAITED),
         (COLLECT_TOLD, 0, READ),
         (COLLECT_TOLD, 0, WAITED),
+    ]
+}
+
+/// The reads, collects and forwards after a forward by the head end, and the lists that mix them.
+fn forwarded() -> [Key; 13] {
+    [
+        (READ_FORWARDED, 0, READ),
+        (READ_FORWARDED, 0, WAITED),
+        (READ_STRAIGHT, 0, WAITED),
+        (READ_FORWARDED_ALONE, 0, WAITED),
+        (COLLECT_FORWARDED, 0, READ),
+        (COLLECT_FORWARDED, 0, WAITED),
+        (FORWARD_AGAIN, 0, READ),
+        (FORWARD_AGAIN, 0, HEAD_END),
+        (FORWARD_AGAIN_ALONE, 0, HEAD_END),
+        (FORWARD_TOLD, 0, READ),
+        (FORWARD_TOLD, 0, HEAD_END),
+        (COLLECT_KEPT, 0, READ),
+        (MIXED, 0, DONE),
     ]
 }
 

@@ -8,7 +8,7 @@
 use crate::call::Call;
 use crate::lent::{Lent, Part};
 use crate::single;
-use simulator::{COPY, Control, LIBRARY, LOG, SESSION_MEMORY, UNIT};
+use simulator::{ANSWERED, Answer, COPY, Control, LIBRARY, LOG, SESSION_MEMORY, UNIT};
 
 /// The rows of this call that hold before it, row 2 apart.
 pub fn holding(call: &Call, control: &Control, lent: &Lent) -> Vec<u32> {
@@ -40,8 +40,8 @@ fn row_holds(row: u32, call: &Call, control: &Control, lent: &Lent) -> bool {
         (14, _) => !waiting(call, lent),
         (5..=8 | 16, Call::Commit { operations, .. } | Call::Preview { operations, .. }) => edit_row_holds(row, operations, control, lent),
         (9..=11, Call::Send { studio } | Call::Refresh { studio }) => studio_row_holds(row, *studio, control),
-        (12, Call::Read { request, .. }) => !simulator::request_in_form(request),
-        (13, Call::Read { request, output, .. }) => *output < output_asked(request),
+        (12, Call::Read { request, .. } | Call::Forward { request, .. }) => !simulator::request_in_form(request),
+        (13, Call::Read { request, output, .. } | Call::Forward { request, output, .. }) => *output < output_asked(request),
         (13, Call::Collect { output, .. }) => *output < output_asked(&stored(call, lent)),
         (15, Call::Setup { studios, session_studios }) => {
             let above = session_studios.iter().any(|studio| u32::from(*studio) > *studios);
@@ -55,7 +55,7 @@ fn row_holds(row: u32, call: &Call, control: &Control, lent: &Lent) -> bool {
 pub fn session_of(call: &Call) -> Option<u32> {
     match call {
         Call::Commit { session, .. } | Call::Preview { session, .. } => Some(*session),
-        Call::Read { session, .. } | Call::Collect { session, .. } => Some(*session),
+        Call::Read { session, .. } | Call::Collect { session, .. } | Call::Forward { session, .. } => Some(*session),
         _ => None,
     }
 }
@@ -82,6 +82,18 @@ pub fn stored(call: &Call, lent: &Lent) -> Vec<u8> {
 /// The number that a session's 80 bytes have.
 pub fn session_number(unit: &[u8]) -> u32 {
     u32::from(unit[2]) | u32::from(unit[3]) << 8
+}
+
+/// What the studio of the call's session has applied, if it has one.
+pub fn applied(call: &Call, control: &Control) -> Option<u32> {
+    let place = (session_studio(call, control) as usize).checked_sub(1)?;
+    control.applied.get(place).copied()
+}
+
+/// Whether an answered forward is the head end's to answer, by 02's words (S-4): the studio has not reached the session's number.
+pub fn by_head_end(call: &Call, number: u32, answer: &Answer) -> bool {
+    let forwarded = matches!(call, Call::Forward { .. }) && answer.kind == ANSWERED;
+    forwarded && applied(call, &answer.control).is_some_and(|applied| applied < number)
 }
 
 fn waiting(call: &Call, lent: &Lent) -> bool {

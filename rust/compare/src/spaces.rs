@@ -2,8 +2,8 @@
 //! and requests that may have them.
 
 use crate::call::Call;
-use crate::coverage::{Before, Coverage, outcome};
-use crate::keys::{APPLIED, COLLECT_SPACES, COMMIT, DONE, Edit, PREVIEW, READ, READ_SPACES, Reading, SENT_OVER, WAITED};
+use crate::coverage::{Before, Coverage, end_of, outcome};
+use crate::keys::{APPLIED, COLLECT_SPACES, COMMIT, DONE, Edit, FORWARD_SPACES, PREVIEW, READ, READ_SPACES, Reading, SENT_OVER, WAITED};
 use crate::lent::{Lent, Part};
 use crate::log;
 use crate::rows::{self, title, title_spaced};
@@ -19,8 +19,13 @@ impl Coverage {
                 self.count((SENT_OVER, *studio, DONE));
             }
             (Call::Refresh { studio }, DONE) => self.note_spaced_records(*studio, after, answer),
-            (Call::Read { request, .. }, READ | WAITED) => self.note_spaced_reading(&READ_SPACES, request, after, answer),
-            (Call::Collect { .. }, READ | WAITED) => self.note_spaced_reading(&COLLECT_SPACES, &before.session, after, answer),
+            (Call::Read { request, .. }, end @ (READ | WAITED)) => self.note_spaced_reading(&READ_SPACES, request, after, answer, end),
+            (Call::Collect { .. }, end @ (READ | WAITED)) => {
+                self.note_spaced_reading(&COLLECT_SPACES, &before.session, after, answer, end);
+            }
+            (Call::Forward { request, .. }, READ) => {
+                self.note_spaced_reading(&FORWARD_SPACES, request, after, answer, end_of(call, before, answer));
+            }
             _ => {}
         }
     }
@@ -76,13 +81,12 @@ impl Coverage {
         }
     }
 
-    fn note_spaced_reading(&mut self, of: &Reading, request: &[u8], after: &Lent, answer: &Answer) {
-        let end = outcome(answer);
+    fn note_spaced_reading(&mut self, of: &Reading, request: &[u8], after: &Lent, answer: &Answer, end: u32) {
         if request[0] == 2 && title_spaced(request) {
             self.count((of.asked, u32::from(request[1]), end));
             self.count((of.found, answer.found, end));
         }
-        if request[0] == 1 && end == READ {
+        if request[0] == 1 && end != WAITED {
             let places = after.output.lent()[..rows::output_asked(request)].chunks_exact(UNIT);
             let shown = places.filter(|unit| title_spaced(unit)).count();
             self.count((of.shown, shown as u32, end));

@@ -1,7 +1,7 @@
 //! Sweeps: every byte of one unit, every control word, every byte of an
 //! input, and every memory's length, each with a row of values.
 
-use crate::arguments::{self, CALLS, PREVIEW, READ, Taste};
+use crate::arguments::{self, CALLS, FORWARD, PREVIEW, READ, Taste};
 use crate::asides::{self, WORDS};
 use crate::call::Call;
 use crate::direct;
@@ -67,14 +67,16 @@ pub fn control(player: &mut Player<'_>, seed: u64) -> Result<(), Mismatch> {
     Ok(())
 }
 
-/// The inputs that are swept: four kinds of operation, two of request.
-pub const INPUTS: [&str; 6] = [
+/// The inputs that are swept: four kinds of operation, two of request, by read and by forward.
+pub const INPUTS: [&str; 8] = [
     "sweep of a new",
     "sweep of a retitle",
     "sweep of a re-cut",
     "sweep of a withdraw",
     "sweep of a request by numbers",
     "sweep of a request by title",
+    "sweep of a forward's request by numbers",
+    "sweep of a forward's request by title",
 ];
 
 /// Every byte of an operation or of a request; `turn` says of which kind. Operations are previewed, and then committed.
@@ -103,24 +105,28 @@ pub fn input(player: &mut Player<'_>, seed: u64, turn: usize) -> Result<(), Mism
 }
 
 fn input_call(random: &mut Random, maker: &Maker, wall: &Wall, kind: usize) -> Call {
-    let weights = arguments::only(if kind < 4 { PREVIEW } else { READ });
-    let taste = Taste { weights, sizes: (1, 3), fitting: 100, misfits: 0 };
+    let call = match kind {
+        0..=3 => PREVIEW,
+        4..=5 => READ,
+        _ => FORWARD,
+    };
+    let taste = Taste { weights: arguments::only(call), sizes: (1, 3), fitting: 100, misfits: 0 };
     arguments::call(random, maker, &taste, wall)
 }
 
 /// The unit of the call's input that is of the kind asked for.
 fn unit_of_kind(call: &Call, kind: usize) -> Option<usize> {
-    let wanted = if kind < 4 { kind + 1 } else { kind - 3 };
+    let wanted = if kind < 4 { kind + 1 } else { kind % 2 + 1 };
     call.input().chunks_exact(UNIT).position(|unit| usize::from(unit[0]) == wanted)
 }
 
 fn with_input_byte(call: &Call, at: usize, value: u8) -> Call {
     let mut call = call.clone();
     match &mut call {
-        Call::Preview { operations: input, .. } | Call::Read { request: input, .. } => {
+        Call::Preview { operations: input, .. } | Call::Read { request: input, .. } | Call::Forward { request: input, .. } => {
             input[at] = value;
         }
-        _ => unreachable!("only previews and reads are swept"),
+        _ => unreachable!("only previews, reads and forwards are swept"),
     }
     call
 }

@@ -39,7 +39,7 @@ impl Coverage {
                     self.count_end(READ_TOLD_ALONE, answer);
                 }
             }
-            (Call::Collect { .. }, READ | WAITED, Told::Waits) => self.count_end(COLLECT_TOLD, answer),
+            (Call::Collect { .. }, READ | WAITED, Told::RefusedWaits) => self.count_end(COLLECT_TOLD, answer),
             _ => {}
         }
     }

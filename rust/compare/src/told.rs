@@ -1,44 +1,86 @@
-//! The sessions whose number a commit refused with 8 has raised (02's S-3), until they are answered or commit.
+//! The sessions that the head end has told or shown something, until they are answered by their studio or commit: by a commit refused with
+//! 8 that raised the number (02's S-3), or by a forward that it answered (02's S-4).
 
 use crate::call::Call;
 use crate::rows;
 use simulator::{ANSWERED, Answer, DONE, REFUSED, WAITS};
 
-/// What a session was told by refusal 8, and has not seen yet.
+/// What a session has from the head end, and has not seen at its studio yet.
 #[derive(Clone, Copy, Default, PartialEq, Eq, Debug)]
 pub enum Told {
     #[default]
     Nothing,
-    /// Its number was raised; before it was this.
+    /// A refusal 8 raised its number; before it was this.
     Refused(u32),
-    /// Its first read since then waits.
-    Waits,
+    /// Its first read since the refusal waits.
+    RefusedWaits,
+    /// A forward was answered by the head end; before it the number was this.
+    Forwarded(u32),
+    /// Its first read since the forward waits.
+    ForwardedWaits,
 }
 
-/// What each session from 1 to 16 was told; place 0 is for calls without such a session.
+/// What each session from 1 to 16 has; place 0 is for calls without such a session.
 #[derive(Clone, Default)]
-pub struct Sessions([Told; 17]);
+pub struct Sessions {
+    told: [Told; 17],
+    /// Whether a forward was refused with 4 because of the read that waits.
+    turned_away: [bool; 17],
+    /// The place of the latest call's session, if that was a forward that the head end answered.
+    latest: Option<usize>,
+}
 
 impl Sessions {
     /// Takes in a call; `number` is its session's before it.
     pub fn follow(&mut self, call: &Call, number: u32, answer: &Answer) {
-        let told = &mut self.0[place(call)];
+        let place = place(call);
+        let forwarded = rows::by_head_end(call, number, answer);
+        self.latest = forwarded.then_some(place);
+        let told = &mut self.told[place];
         match (call, answer.kind) {
             (Call::Commit { .. }, REFUSED) if answer.value == 8 && number < answer.control.commits => *told = Told::Refused(number),
+            (Call::Forward { .. }, ANSWERED) if forwarded => *told = Told::Forwarded(number),
             (Call::Commit { .. }, DONE) | (_, ANSWERED) => *told = Told::Nothing,
-            (Call::Read { .. }, WAITS) if *told != Told::Nothing => *told = Told::Waits,
+            (Call::Read { .. }, WAITS) => *told = told.waiting(),
+            _ => {}
+        }
+        match (call, answer.kind) {
+            (Call::Forward { .. }, REFUSED) if answer.value == 4 => self.turned_away[place] = true,
+            (Call::Collect { .. }, ANSWERED) => self.turned_away[place] = false,
             _ => {}
         }
     }
 
-    /// What the session of a call was told.
+    /// What the session of a call has.
     pub fn of(&self, call: &Call) -> Told {
-        self.0[place(call)]
+        self.told[place(call)]
     }
 
-    /// The sessions that have not read since their number was raised.
-    pub fn refused(&self) -> Vec<u32> {
-        (1..=16).filter(|session| matches!(self.0[*session as usize], Told::Refused(_))).collect()
+    /// Whether a forward of the call's session was refused because of the read that waits.
+    pub fn turned_away(&self, call: &Call) -> bool {
+        self.turned_away[place(call)]
+    }
+
+    /// Whether the latest call was a forward of this call's session, answered by the head end.
+    pub fn straight_after(&self, call: &Call) -> bool {
+        self.latest == Some(place(call))
+    }
+
+    /// The sessions that have not read since then.
+    pub fn unread(&self) -> Vec<u32> {
+        let unread = |session: &u32| matches!(self.told[*session as usize], Told::Refused(_) | Told::Forwarded(_));
+        (1..=16).filter(unread).collect()
+    }
+}
+
+impl Told {
+    /// After a read that waits.
+    fn waiting(self) -> Told {
+        match self {
+            Told::Refused(_) => Told::RefusedWaits,
+            Told::Forwarded(_) => Told::ForwardedWaits,
+            other => other,
+        }
     }
 }
 

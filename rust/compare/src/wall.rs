@@ -2,6 +2,7 @@
 
 use crate::call::Call;
 use crate::lent::Lent;
+use crate::rows;
 use crate::told::Sessions;
 use simulator::{Answer, Control};
 
@@ -58,6 +59,17 @@ impl Wall {
     /// Whether a read of session 1 to 16 is waiting.
     pub fn waiting(&self, session: u32) -> bool {
         self.played.sessions.byte(80 * (session as usize - 1)) != 0
+    }
+
+    /// The sessions that have nothing waiting and whose studio has not reached their number.
+    pub fn behind(&self) -> Vec<u32> {
+        let behind = |session: &u32| {
+            let unit = 80 * (*session as usize - 1);
+            let number = rows::session_number(&self.played.sessions.lent()[unit..unit + 80]);
+            let studio = self.control.session_studios[*session as usize - 1] as usize;
+            !self.waiting(*session) && self.control.applied.get(studio - 1).is_some_and(|applied| *applied < number)
+        };
+        self.used_sessions().into_iter().filter(behind).collect()
     }
 
     pub fn used_sessions(&self) -> Vec<u32> {
