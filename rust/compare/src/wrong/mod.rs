@@ -3,6 +3,7 @@
 
 mod bounds;
 mod commits;
+mod forwards;
 mod layouts;
 mod mistake;
 mod previews;
@@ -27,6 +28,7 @@ pub fn all() -> Vec<Mistake> {
         spaces::MISTAKES,
         studios::MISTAKES,
         reads::MISTAKES,
+        forwards::MISTAKES,
         layouts::MISTAKES,
         setups::MISTAKES,
         bounds::MISTAKES,
