@@ -28,6 +28,11 @@ pub fn on_call(name: &str, call: &Call, wall: &Wall) {
         && one.memory.sessions == other.memory.sessions
         && shown == expected;
     assert!(same, "{name}: memory or output differ");
+    if let Call::Forward { session, .. } = call {
+        let studio = wall.control.session_studios[*session as usize - 1] as usize;
+        let by_head_end = by_engine.value != wall.control.applied[studio - 1];
+        assert_eq!(by_head_end, name.contains("head end"), "{name}: the other copy answered");
+    }
 }
 
 /// The three agree on a wall, and on it with one byte or one word of control damaged, for many of these. Returns how many.

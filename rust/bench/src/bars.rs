@@ -41,7 +41,7 @@ impl Bar {
 
 pub struct Bars {
     pub layout: Bar,
-    pub calls: [(Kind, Bar); 4],
+    pub calls: [(Kind, Bar); 6],
     pub setup: Bar,
 }
 
@@ -54,6 +54,8 @@ impl Bars {
                 (Kind::Write, Bar::new("commit, refresh / layout test", 1.3)),
                 (Kind::Preview, Bar::new("preview / layout test, full memory", 1.1).only_on(FULL)),
                 (Kind::Title, Bar::new("read, collect by title / layout test", 1.3)),
+                (Kind::Forward, Bar::new("forward by numbers / layout test", 1.1)),
+                (Kind::ForwardTitle, Bar::new("forward by title / layout test", 1.3)),
             ],
             setup: Bar::new("setup / memset of 93,440 bytes", 1.5),
         }

@@ -12,6 +12,7 @@ pub enum Call {
     Refresh { studio: u32 },
     Read { session: u32, request: [u8; UNIT] },
     Collect { session: u32 },
+    Forward { session: u32, request: [u8; UNIT] },
 }
 
 /// Plays a call by one of the two crates that have a function for each, or the layout test by `$layout`.
@@ -28,6 +29,7 @@ macro_rules! play {
             Call::Refresh { studio } => $by::refresh(library, log, sessions, control, *studio),
             Call::Read { session, request } => $by::read(library, log, sessions, control, *session, request, $output),
             Call::Collect { session } => $by::collect(library, log, sessions, control, *session, $output),
+            Call::Forward { session, request } => $by::forward(library, log, sessions, control, *session, request, $output),
         }
     }};
 }

@@ -24,6 +24,9 @@ pub enum Kind {
     Preview,
     /// Reads and collects by title.
     Title,
+    /// Forwards by numbers.
+    Forward,
+    ForwardTitle,
     /// Every other call that begins with the layout test.
     Other,
 }
@@ -37,24 +40,30 @@ fn calls(letters: &[u8], operations: Vec<u8>, is_empty: bool) -> Vec<(&'static s
     let session = wall::READER;
     let first = operations[..UNIT].to_vec();
     let read = |request| Call::Read { session, request };
+    let (title, thirty_two) = (units::by_title(letters), units::by_numbers(32));
     let mut calls = vec![
         ("commit, 1 operation", Kind::Write, Call::Commit { session, operations: first.clone() }),
         ("commit, 8 operations", Kind::Write, Call::Commit { session, operations: operations.clone() }),
         ("preview, 1 operation", Kind::Preview, Call::Preview { session, operations: first }),
         ("preview, 8 operations", Kind::Preview, Call::Preview { session, operations }),
         ("read, 1 number", Kind::Other, read(units::by_numbers(1))),
-        ("read, 32 numbers", Kind::Other, read(units::by_numbers(32))),
-        ("read, title", Kind::Title, read(units::by_title(letters))),
+        ("read, 32 numbers", Kind::Other, read(thirty_two)),
+        ("read, title", Kind::Title, read(title)),
         ("collect, 32 numbers", Kind::Other, Call::Collect { session: wall::NUMBERS_COLLECTOR }),
         ("collect, title", Kind::Title, Call::Collect { session: wall::TITLE_COLLECTOR }),
+        ("forward, studio, 32", Kind::Forward, Call::Forward { session, request: thirty_two }),
+        ("forward, studio, title", Kind::ForwardTitle, Call::Forward { session, request: title }),
     ];
     if !is_empty {
-        let request = units::by_numbers(32);
+        let by_head_end = |request| Call::Forward { session: wall::WAITING_READER, request };
         calls.extend([
             ("send", Kind::Other, Call::Send { studio: wall::SENT }),
             ("refresh", Kind::Write, Call::Refresh { studio: wall::REFRESHED }),
-            ("read, waits", Kind::Other, Call::Read { session: wall::WAITING_READER, request }),
+            ("read, waits", Kind::Other, Call::Read { session: wall::WAITING_READER, request: thirty_two }),
             ("collect, waits", Kind::Other, Call::Collect { session: wall::WAITING_COLLECTOR }),
+            ("forward, head end, 1", Kind::Forward, by_head_end(units::by_numbers(1))),
+            ("forward, head end, 32", Kind::Forward, by_head_end(thirty_two)),
+            ("forward, head end, title", Kind::ForwardTitle, by_head_end(title)),
         ]);
     }
     calls.into_iter().map(|(name, kind, call)| (name, kind, Rc::new(call))).collect()

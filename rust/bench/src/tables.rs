@@ -24,12 +24,12 @@ pub fn layout(race: &Race, name: &str, layout: &Layout) -> f64 {
 
 pub fn calls(race: &Race, state: &State, measured: &Measured, bars: &mut Bars) {
     println!("\nCalls, {}: {}", state.name, state.what);
-    println!("                          engine   calls/s  x layout  beyond  simulator  x engine");
+    println!("                            engine   calls/s  x layout  beyond  simulator  x engine");
     let layout = measured.layout.both.engine.time(race);
     for ((name, kind, _), both) in state.calls.iter().zip(&measured.calls) {
         let (engine, simulator) = (both.engine.time(race), both.simulator.time(race));
         println!(
-            "  {name:<22} {engine:>7.0} {:>9.0} {:>9.3} {:>7.0} {simulator:>10.0} {:>9.1}",
+            "  {name:<24} {engine:>7.0} {:>9.0} {:>9.3} {:>7.0} {simulator:>10.0} {:>9.1}",
             1e9 / engine,
             engine / layout,
             engine - layout,

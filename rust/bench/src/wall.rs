@@ -11,7 +11,8 @@ pub struct Wall {
     pub control: Control,
 }
 
-/// Sessions by what they are measured for. All sit in studio 1, but for the two that wait, in studio 2.
+/// Sessions by what they are measured for. All sit in studio 1, but for the two that wait, in studio 2: there the reader's forwards are
+/// answered by the head end.
 pub const READER: u32 = 1;
 pub const NUMBERS_COLLECTOR: u32 = 2;
 pub const TITLE_COLLECTOR: u32 = 3;
