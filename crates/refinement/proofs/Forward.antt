@@ -1,5 +1,5 @@
 -- 02, S-4, on bytes: where forward is read, what it leaves otherwise, and the reads of its session afterwards.
-use mathlib.Core.Path.{_≡_, sym, ap, _∙_}
+use mathlib.Core.Path.{_≡_, sym, _∙_}
 use mathlib.Core.List.{List}
 use Prim.Native.Nat.{ℕ, suc, _≤_, _<_}
 use native.Mathlib.Omega.{arith}
@@ -8,9 +8,9 @@ use lib.ListN.{length}
 use borrow.Author.Tests.{le-leb, lt-leb}
 use Rattle.carts.specs.Bytes.{over}
 use Rattle.carts.proofs.TestLaws.{by-cond}
-use Rattle.replication.specs.Answer.{Answer, waits, answered}
+use Rattle.replication.specs.Answer.{waits, answered}
 use Rattle.replication.specs.Memory.{Memory, copyAt, sessionAt, sequenceOf, withNumber, nth, studioOf}
-use Rattle.replication.specs.Request.{Request, requestOf, needed, foundIn, shownFrom}
+use Rattle.replication.specs.Request.{requestOf, needed, foundIn, shownFrom}
 use Rattle.replication.specs.Rows.{unless, readStop}
 use Rattle.replication.specs.Call.{Call}
 use Rattle.replication.specs.Calls as Bytes
