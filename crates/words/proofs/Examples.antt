@@ -5,7 +5,7 @@ use Rattle.carts.specs.Bytes.{within}
 use Rattle.carts.specs.Cart.{printable}
 use Rattle.lines.specs.Words.{bytesOf}
 use Rattle.words.specs.Page.{digitsOf, decimal, countOf, hexDigit, shownByte, shownTo, shown}
-use Rattle.words.specs.Answers.{freshText, previewedText, sentText, behindText, answeredText}
+use Rattle.words.specs.Answers.{freshText, previewedText, sentText, behindText, answeredText, headEndText}
 
 pub record Numbers : Type 0 where
   zero : decimal 0 ≡ bytesOf "0"
@@ -34,15 +34,17 @@ pub record Answers : Type 0 where
   sent : sentText 3 1 ≡ bytesOf "  edit 3 is sent to studio 1\n"
   answered : answeredText 2 0 1 ≡ bytesOf "  answered at edit 2, level with the head end, found 1:\n"
   answered-behind : answeredText 1 2 0 ≡ bytesOf "  answered at edit 1, 2 behind the head end, found 0:\n"
+  by-head-end : headEndText 5 1 ≡ bytesOf "  answered by the head end at edit 5, found 1:\n"
   bytes-shown : shown (99 ∷ 9 ∷ 195 ∷ 10 ∷ []) ≡ bytesOf "c\t\\xC3\\x0A"
 
 pub answers : Answers
-unfolding within printable digitsOf decimal countOf hexDigit shownByte shownTo shown freshText previewedText sentText behindText answeredText
+unfolding within printable digitsOf decimal countOf hexDigit shownByte shownTo shown freshText previewedText sentText behindText answeredText headEndText
 answers = record {
   fresh = refl;
   previewed = refl;
   sent = refl;
   answered = refl;
   answered-behind = refl;
+  by-head-end = refl;
   bytes-shown = refl;
 }

@@ -35,10 +35,15 @@ appliedText n studio = numbered "  edit " n ++ numbered " is applied by studio "
 unfoldable pub behindText : ℕ → List ℕ
 behindText edits = cond (eqb edits 0) (bytesOf ", level with the head end") (numbered ", " edits ++ bytesOf " behind the head end")
 
--- a read was answered at an edit; it waits for an edit
+-- a read was answered at an edit
 unfoldable pub answeredText : ℕ → ℕ → ℕ → List ℕ
 answeredText state behind found = numbered "  answered at edit " state ++ behindText behind ++ numbered ", found " found ++ bytesOf ":\n"
 
+-- a forward was answered "from the head end's copy" (02, S-4), at an edit; that copy is behind nothing
+unfoldable pub headEndText : ℕ → ℕ → List ℕ
+headEndText state found = numbered "  answered by the head end at edit " state ++ numbered ", found " found ++ bytesOf ":\n"
+
+-- a read waits for an edit
 unfoldable pub waitsText : ℕ → List ℕ
 waitsText n = numbered "  waits for edit " n ++ bytesOf "\n"
 

@@ -6,7 +6,7 @@ ghost use lib.ListN.{length};
 ghost use mathlib.Core.List.{_++_};
 ghost use Rattle.lines.specs.Words.{bytesOf};
 ghost use Rattle.words.specs.Page.{pageSize, Put, Told, decimal, numbered};
-ghost use Rattle.words.specs.Answers.{freshText, endedText, goesOnText, committedText, previewedText, sentText, appliedText, behindText, answeredText, waitsText, untitledText, severalText};
+ghost use Rattle.words.specs.Answers.{freshText, endedText, goesOnText, committedText, previewedText, sentText, appliedText, behindText, answeredText, headEndText, waitsText, untitledText, severalText};
 
 // A setup was accepted.
 pub fn fresh(out: &mut [u8], studios: u32) -> usize
@@ -103,6 +103,15 @@ pub fn answered(out: &mut [u8], state: u32, behind: u32, found: u32) -> usize
     let a = page::put_numbered(out, 0, b"  answered at edit ", state);
     let b = put_behind(out, a, behind);
     page::put_between(out, b, b", found ", found, b":\n")
+}
+
+// A forward was answered by the head end at an edit, with so many carts found.
+pub fn by_head_end(out: &mut [u8], state: u32, found: u32) -> usize
+    requires { ⌜ length (now out) ≡ pageSize ⌝ }
+    ensures { λ r. ⌜ Told (headEndText state found) (now (out .entry)) (now (out .exit)) r ⌝ }
+{
+    let a = page::put_numbered(out, 0, b"  answered by the head end at edit ", state);
+    page::put_between(out, a, b", found ", found, b":\n")
 }
 
 // A read waits for an edit.
