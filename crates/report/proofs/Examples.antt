@@ -2,12 +2,17 @@
 use mathlib.Core.Path.{_≡_, refl}
 use mathlib.Core.List.{[], _∷_, _++_}
 use mathlib.Core.Bool.{true}
-use Rattle.carts.specs.Bytes.{zeros, u16, u32, u16Bytes}
+use Rattle.carts.specs.Bytes.{zeros, u16, u32, u16Bytes, within}
 use Rattle.carts.specs.Cart.{held, cartFields}
 use Rattle.lines.specs.Build.{u32Bytes, titleField, operationBytes, u16List, numbersBytes}
 use Rattle.lines.specs.Words.{bytesOf}
+use Rattle.replication.specs.Memory.{studioOf}
+use Rattle.replication.specs.Calls.{control}
+use Rattle.replication.specs.declared.control.Control.{Control}
+use Rattle.words.specs.Answers.{behindText, answeredText, headEndText}
 use Rattle.words.specs.Page.{digitsOf, decimal, countOf, quoted}
 use Rattle.words.specs.Request.{askedNumbers}
+use Rattle.report.specs.Answered.{appliedFor, answerText}
 use Rattle.report.specs.Lines.{recordingText, cartText, headText, untilText, waitingText, sessionText, cutText, tallyText, summaryText}
 
 -- a held cart has the bytes of the operation that made it
@@ -31,3 +36,16 @@ lines = record {
   cut = refl;
   summary = refl;
 }
+
+-- five edits, of which studio 1 has applied four and studio 2 all; sessions 1 and 2 at studio 1, session 3 at studio 2
+abbrev five : Control
+five = control 2 (1 ∷ 1 ∷ 2 ∷ zeros 13) 5 5 (5 ∷ 5 ∷ 0 ∷ 0 ∷ []) (4 ∷ 5 ∷ 0 ∷ 0 ∷ [])
+
+pub record Answers : Type 0 where
+  by-studio : answerText five 2 4 1 ≡ bytesOf "  answered at edit 4, 1 behind the head end, found 1:\n"
+  by-head-end : answerText five 2 5 1 ≡ bytesOf "  answered by the head end at edit 5, found 1:\n"
+  by-level-studio : answerText five 3 5 1 ≡ bytesOf "  answered at edit 5, level with the head end, found 1:\n"
+
+pub answers : Answers
+unfolding zeros within studioOf digitsOf decimal behindText answeredText headEndText appliedFor answerText
+answers = record { by-studio = refl; by-head-end = refl; by-level-studio = refl }

@@ -1,2 +1,3 @@
--- Worked examples.
+-- Who answered, and worked examples.
+pub mod AnsweredLaws
 pub mod Examples

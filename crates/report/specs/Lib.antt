@@ -1,2 +1,3 @@
 -- What the contracts of reports cite.
+pub mod Answered
 pub mod Lines

@@ -1,4 +1,5 @@
 // What came of a line; carts, the state and the whole transcript: in words, and printed.
+pub mod answered;
 pub mod cart;
 pub mod show;
 pub mod state;

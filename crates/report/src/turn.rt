@@ -5,8 +5,8 @@ use replication::answer::ReadAnswer;
 use replication::answer::SetupAnswer;
 use replication::control::Control;
 
-// The answer of a call and what the call named, the studios, the session and how many operations, the
-// studio and whether it is a send, or the session; a line that shows the state, that cannot be read, or that is no call.
+// The answer of a call and what the call named, the studios, the session and how many operations, the studio and whether it
+// is a send, or the session of a read, collect or forward; a line that shows the state, that cannot be read, or that is no call.
 pub enum Came {
     Setup(SetupAnswer, u32),
     Commit(CountAnswer, u32, u32),
