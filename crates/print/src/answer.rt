@@ -9,6 +9,7 @@ use one_copy::fault;
 use replication::answer::CountAnswer;
 use replication::answer::ReadAnswer;
 use replication::answer::SetupAnswer;
+use replication::control::Control;
 use report::cart;
 use report::show;
 use words::line;
@@ -168,10 +169,10 @@ fn found_by_title(block: &[u8], found: u32) {
     line::told(&page, n);
 }
 
-// An answered read: its request stands at the start of the block, its output after it.
-fn answered(block: &[u8], state: u32, behind: u32, found: u32) {
+// An answered read of a session: its request stands at the start of the block, its output after it.
+fn answered(control: Control, session: u32, block: &[u8], state: u32, found: u32) {
     let mut page = io::buffer();
-    let n = words::answer::answered(&mut page, state, behind, found);
+    let n = report::answered::answered(&mut page, control, session, state, found);
     line::told(&page, n);
     if text::letter(block, 0) == 2 {
         found_by_title(block, found);
@@ -186,12 +187,10 @@ fn waits(edit: u32) {
     line::told(&page, n);
 }
 
-// What a read or a collect of a session answered, with so many edits at the head end.
-pub fn read(answer: ReadAnswer, commits: u32, session: u32, block: &[u8]) {
+// What a read, a collect or a forward of a session answered; none of them changes control.
+pub fn read(answer: ReadAnswer, control: Control, session: u32, block: &[u8]) {
     match answer {
-        ReadAnswer::Answered { state, found } => {
-            answered(block, state, words::answer::behind(commits, state), found)
-        }
+        ReadAnswer::Answered { state, found } => { answered(control, session, block, state, found) }
         ReadAnswer::Waits(edit) => waits(edit),
         ReadAnswer::Refused(row) => refusals::print::refusal_of_session(false, row, session),
     }

@@ -38,11 +38,11 @@ fn tell_edit(
     answer::edited(previews, answer, library, session, ops);
 }
 
-// A read or a collect was answered, a line shows the state or cannot be read.
+// A read, a collect or a forward was answered, a line shows the state or cannot be read.
 fn tell_other(before: Progress, came: Came, library: &[u8], sessions: &[u8], block: &[u8]) {
     let control = before.control;
     match came {
-        Came::Read(answer, session) => { answer::read(answer, control.commits, session, block) }
+        Came::Read(answer, session) => answer::read(answer, control, session, block),
         Came::Show => show::show(control, library, sessions),
         Came::Unreadable(mistake, at) => refusals::print::unreadable(before.line, mistake, at),
         _ => {}
