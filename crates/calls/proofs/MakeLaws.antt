@@ -1,11 +1,12 @@
 -- Laws of what a line leaves.
 use mathlib.Core.Path.{_≡_, refl, sym, ap, _∙_}
+use mathlib.Core.Bool.{Bool}
 use mathlib.Core.List.{List, []}
 use Prim.Native.Nat.{ℕ, _*_, _-_}
 use Rattle.carts.specs.Bytes.{over}
 use Rattle.replication.specs.Answer.{Answer, refused, done, waits, answered}
 use Rattle.replication.specs.Memory.{Memory}
-use Rattle.replication.specs.Calls.{After, after, read, collect}
+use Rattle.replication.specs.Calls.{After, after, collect}
 use Rattle.replication.specs.declared.control.Control.{Control}
 use Rattle.replication.specs.declared.answer.SetupAnswer.{SetupAnswer}
 use Rattle.replication.specs.declared.answer.SetupAnswer.the-variants as Setup
@@ -18,7 +19,7 @@ use Rattle.report.specs.declared.turn.Came.the-variants as Came
 use Rattle.lines.specs.Text.{partIn}
 use Rattle.journal.specs.Progress.{requestIn}
 use Rattle.lines.specs.declared.parse.Call.{Call}
-use Rattle.calls.specs.Make.{Told, setUp, committed, previewed, moved, looked, shown, unread, nothing, told, Made, made, leaves, outputIn, leavesIn, askLeaves, readLeaves, collectLeaves, lineLeaves}
+use Rattle.calls.specs.Make.{Told, setUp, committed, previewed, moved, looked, shown, unread, nothing, told, Made, made, leaves, outputIn, leavesIn, askLeaves, readOrForward, readLeaves, collectLeaves, lineLeaves}
 
 -- the code's case for an answer that it can give
 setupBy : Answer → SetupAnswer
@@ -96,10 +97,10 @@ module _ (s : ℕ) {a : Answer} {c′ : Control} {m′ : Memory} {out : List ℕ
       ap (λ (x : After). leavesIn (λ y. looked y s) x asked) e ∙ ap (λ (b : List ℕ). leavesIn (λ y. looked y s) (does (outputIn b)) b) p
 
   module _ (c : Control) (m : Memory) where
-    pub read-leaves : (asks block : List ℕ) {request asked : List ℕ} → request ≡ asks → asked ≡ requestIn block request → after a c′ m′ out ≡ read c m s request (outputIn asked)
-        → made (looked a s) c′ m′ (over asked 80 2560 out) ≡ readLeaves c m s asks block
+    pub read-leaves : (forwards : Bool) (asks block : List ℕ) {request asked : List ℕ} → request ≡ asks → asked ≡ requestIn block request → after a c′ m′ out ≡ readOrForward forwards c m s request (outputIn asked)
+        → made (looked a s) c′ m′ (over asked 80 2560 out) ≡ readLeaves c m s forwards asks block
     unfolding readLeaves
-    read-leaves asks block {request} k p e = ask-leaves (read c m s request) request block p e ∙ ap (λ (q : List ℕ). askLeaves s (read c m s q) q block) k
+    read-leaves forwards asks block {request} k p e = ask-leaves (readOrForward forwards c m s request) request block p e ∙ ap (λ (q : List ℕ). askLeaves s (readOrForward forwards c m s q) q block) k
 
     pub collect-leaves : (store block : List ℕ) {kept asked : List ℕ} → kept ≡ partIn store (80 * (s - 1)) 80 → asked ≡ requestIn block kept → after a c′ m′ out ≡ collect c m s (outputIn asked)
         → made (looked a s) c′ m′ (over asked 80 2560 out) ≡ collectLeaves c m s store block

@@ -1,12 +1,12 @@
 -- What a line of a transcript leaves: the engine's call that it asks for, on the bytes that belong to the line. The calls
 -- are documents 01's and 02's, by crates/replication/specs/Calls.antt.
-use mathlib.Core.Bool.{Bool, true, false}
+use mathlib.Core.Bool.{Bool, true, false, cond}
 use mathlib.Core.List.{List}
 use Prim.Native.Nat.{ℕ, _*_, _-_}
 use Rattle.carts.specs.Bytes.{part, over}
 use Rattle.replication.specs.Answer.{Answer, setupAnswer, countAnswer, readAnswer}
 use Rattle.replication.specs.Memory.{Memory, sessionCount, sessionSize, recordSize}
-use Rattle.replication.specs.Calls.{After, setup, commit, preview, send, refresh, read, collect}
+use Rattle.replication.specs.Calls.{After, setup, commit, preview, send, refresh, read, collect, forward}
 use Rattle.replication.specs.declared.control.Control.{Control}
 use Rattle.lines.specs.Text.{partIn}
 use Rattle.lines.specs.declared.cursor.Mistake.{Mistake}
@@ -62,15 +62,18 @@ outputIn block = part block slotSize (mostBytes - slotSize)
 abbrev pub leavesIn : (Answer → Told) → After → List ℕ → Made
 leavesIn tells a block = leaves tells a (over block slotSize (mostBytes - slotSize) (a .output))
 
--- what a read or a collect of session s leaves: the request at the start of the block, the output in the rest of it
+-- what a read, a collect or a forward of session s leaves: the request at the start of the block, the output in the rest of it
 unfoldable pub askLeaves : ℕ → (List ℕ → After) → List ℕ → List ℕ → Made
 askLeaves s does request block =
     let asked = requestIn block request in
     leavesIn (λ a. looked a s) (does (outputIn asked)) asked
 
--- "Read (session, request)"
-unfoldable pub readLeaves : Control → Memory → ℕ → List ℕ → List ℕ → Made
-readLeaves c m s request block = askLeaves s (read c m s request) request block
+-- "Read (session, request)", or "the Forward method of source document 004 as a second reading call" (02, S-4)
+unfoldable pub readOrForward : Bool → Control → Memory → ℕ → List ℕ → List ℕ → After
+readOrForward forwards c m s request output = cond forwards (forward c m s request output) (read c m s request output)
+
+unfoldable pub readLeaves : Control → Memory → ℕ → Bool → List ℕ → List ℕ → Made
+readLeaves c m s forwards request block = askLeaves s (readOrForward forwards c m s request) request block
 
 -- "Collect (session)", with the request that was kept for the session
 unfoldable pub collectLeaves : Control → Memory → ℕ → List ℕ → List ℕ → Made
@@ -83,7 +86,7 @@ lineLeaves c m store (Call.Commit s n) payload block = leaves (λ a. committed a
 lineLeaves c m store (Call.Preview s n) payload block = leaves (λ a. previewed a s n) (preview c m s (partIn payload 0 (recordSize * n))) block
 lineLeaves c m store (Call.Send i) payload block = leaves (λ a. moved a i true) (send c m i) block
 lineLeaves c m store (Call.Refresh i) payload block = leaves (λ a. moved a i false) (refresh c m i) block
-lineLeaves c m store (Call.Read s) payload block = readLeaves c m s (partIn payload 0 sessionSize) block
+lineLeaves c m store (Call.Read s forwards) payload block = readLeaves c m s forwards (partIn payload 0 sessionSize) block
 lineLeaves c m store (Call.Collect s) payload block = collectLeaves c m s store block
 lineLeaves c m store Call.Show payload block = made shown c m block
 lineLeaves c m store (Call.Unreadable mistake at) payload block = made (unread mistake at) c m block

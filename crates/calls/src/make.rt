@@ -4,9 +4,11 @@ use journal::history::Entry;
 use journal::progress;
 use lines::parse::Call;
 use lines::text;
+use replication::answer::ReadResult;
 use replication::collect::collect;
 use replication::commit::commit;
 use replication::control::Control;
+use replication::forward::forward;
 use replication::preview::preview;
 use replication::read::read;
 use replication::record::Record;
@@ -22,10 +24,11 @@ ghost use mathlib.Core.List.{[]};
 ghost use Prim.Native.Nat.{_*_};
 ghost use lib.ListN.{length};
 ghost use Rattle.replication.specs.Memory.{memory, sessionCount, sessionSize, recordSize};
-ghost use Rattle.replication.specs.Calls.{setup, commit, preview, send, refresh};
+ghost use Rattle.replication.specs.Answer.{readAnswer};
+ghost use Rattle.replication.specs.Calls.{after, setup, commit, preview, send, refresh};
 ghost use Rattle.lines.specs.Text.{partIn};
 ghost use Rattle.journal.specs.History.{mostBytes};
-ghost use Rattle.calls.specs.Make.{setUp, committed, previewed, moved, told, made, leaves, readLeaves, collectLeaves, lineLeaves};
+ghost use Rattle.calls.specs.Make.{setUp, committed, previewed, moved, told, made, leaves, readOrForward, readLeaves, collectLeaves, lineLeaves};
 
 // A setup, with the studios of its sessions at the start of the payload.
 fn make_setup(
@@ -128,24 +131,55 @@ fn make_refresh(
     }
 }
 
-// A read, with its request at the start of the payload; then the request is at the start of the block, and its output after it.
+// A read, or a forward.
+fn read_or_forward(
+    control: Control,
+    library: &[u8],
+    log: &[u8],
+    sessions: &mut [u8],
+    session: u32,
+    forwards: bool,
+    request: &[u8],
+    output: &mut [u8],
+) -> ReadResult
+    ensures { λ r. ⌜ after (readAnswer (r .answer)) (r .control) (memory (now (library .entry)) (now (log .entry)) (now (sessions .exit))) (now (output .exit))
+        ≡ readOrForward forwards control (memory (now (library .entry)) (now (log .entry)) (now (sessions .entry))) session (now (request .entry)) (now (output .entry)) ⌝ }
+{
+    if forwards {
+        return forward(control, library, log, sessions, session, request, output);
+    }
+    read(control, library, log, sessions, session, request, output)
+}
+
+// A read or a forward, with its request at the start of the payload; then the request is at the start of the block, and its
+// output after it.
 fn make_read(
     control: Control,
     library: &[u8],
     log: &[u8],
     sessions: &mut [u8],
     session: u32,
+    forwards: bool,
     payload: &[u8],
     block: &mut [u8],
 ) -> Turn
     requires { ⌜ length (now block) ≡ mostBytes ⌝ }
     ensures { λ r. ⌜ made (told (r .came)) (r .control) (memory (now (library .entry)) (now (log .entry)) (now (sessions .exit))) (now (block .exit))
-        ≡ readLeaves control (memory (now (library .entry)) (now (log .entry)) (now (sessions .entry))) session (partIn (now (payload .entry)) 0 sessionSize) (now (block .entry)) ⌝ }
+        ≡ readLeaves control (memory (now (library .entry)) (now (log .entry)) (now (sessions .entry))) session forwards (partIn (now (payload .entry)) 0 sessionSize) (now (block .entry)) ⌝ }
 {
     let request = text::part_of(payload, 0, Session::SIZE);
     progress::put_request(block, request);
     let output = &mut block[Session::SIZE..Entry::MOST_BYTES];
-    let result = read(control, library, log, sessions, session, request, output);
+    let result = read_or_forward(
+        control,
+        library,
+        log,
+        sessions,
+        session,
+        forwards,
+        request,
+        output,
+    );
     let answer = result.answer;
     let control = result.control;
     Turn {
@@ -186,8 +220,8 @@ fn no_call(control: Control, came: Came) -> Turn
     Turn { came, control }
 }
 
-// The call of a line, with its bytes at the start of the payload. A read or a collect has its request and its output in the
-// block; the requests of reads that wait are in the store.
+// The call of a line, with its bytes at the start of the payload. A read, a collect or a forward has its request and its
+// output in the block; the requests of reads that wait are in the store.
 pub fn make(
     control: Control,
     library: &mut [u8],
@@ -230,9 +264,16 @@ pub fn make(
         ),
         Call::Send(studio) => make_send(control, library, log, sessions, studio),
         Call::Refresh(studio) => make_refresh(control, library, log, sessions, studio),
-        Call::Read(session) => {
-            make_read(control, library, log, sessions, session, payload, block)
-        }
+        Call::Read { session, forwards } => make_read(
+            control,
+            library,
+            log,
+            sessions,
+            session,
+            forwards,
+            payload,
+            block,
+        ),
         Call::Collect(session) => {
             make_collect(control, library, log, sessions, session, store, block)
         }

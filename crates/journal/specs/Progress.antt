@@ -96,7 +96,7 @@ placesOf block = cond (eqb (byte block 0) 2) 1 (byte block 1)
 unfoldable pub readBytes : List ℕ → List ℕ
 readBytes block = partIn block 0 (slotSize + slotSize * placesOf block)
 
--- a read or a collect: answered, it is an entry with its request and carts; where it waits, its request is kept
+-- a read, a collect or a forward: answered, it is an entry with its request and carts; where it waits, its request is kept
 unfoldable pub afterRead : Progress → Control → ReadAnswer → ℕ → List ℕ → List ℕ → List ℕ → Kept
 afterRead p control (Read.Answered state found) session block cells store = withEntry p control Accepted (entryOf readKind (p .line) session state found) (readBytes block) cells store
 afterRead p control (Read.Waits n) session block cells store = kept cells (keptIn store session (partIn block 0 slotSize)) (stepped p control (p .history) Waited)

@@ -223,7 +223,7 @@ impl Progress {
         }
     }
 
-    // A read or a collect was answered: an entry with its request and carts, or its request is kept while it waits.
+    // A read, a collect or a forward was answered: an entry with its request and carts, or its request is kept while it waits.
     pub fn after_read(
         self,
         result: ReadResult,

@@ -1,5 +1,6 @@
 -- WORKED EXAMPLES of the grammar, by computation: lines with their calls and bytes, and lines that cannot be read with the place of the mistake.
 use mathlib.Core.Path.{_≡_, refl}
+use mathlib.Core.Bool.{true, false}
 use mathlib.Core.List.{[], _∷_, _++_}
 use Rattle.carts.specs.Bytes.{zeros, u16Bytes, within, pairwise, every}
 use Rattle.carts.specs.Cart.{printable}
@@ -18,8 +19,10 @@ pub record Calls : Type 0 where
   send : lineOf (bytesOf "send 1") ≡ line (Send 1) []
   refresh : lineOf (bytesOf "refresh 2") ≡ line (Refresh 2) []
   collect : lineOf (bytesOf "  collect\t16") ≡ line (Collect 16) []
-  by-numbers : lineOf (bytesOf "read 1: 7 300") ≡ line (Read 1) (1 ∷ 2 ∷ zeros 14 ++ (7 ∷ 0 ∷ 44 ∷ 1 ∷ zeros 60))
-  by-title : lineOf (bytesOf "read 1: 'A \"B\"'") ≡ line (Read 1) (2 ∷ 5 ∷ zeros 14 ++ (65 ∷ 32 ∷ 34 ∷ 66 ∷ 34 ∷ zeros 59))
+  by-numbers : lineOf (bytesOf "read 1: 7 300") ≡ line (Read 1 false) (1 ∷ 2 ∷ zeros 14 ++ (7 ∷ 0 ∷ 44 ∷ 1 ∷ zeros 60))
+  by-title : lineOf (bytesOf "read 1: 'A \"B\"'") ≡ line (Read 1 false) (2 ∷ 5 ∷ zeros 14 ++ (65 ∷ 32 ∷ 34 ∷ 66 ∷ 34 ∷ zeros 59))
+  forward-numbers : lineOf (bytesOf "forward 17: 7 300") ≡ line (Read 17 true) (1 ∷ 2 ∷ zeros 14 ++ (7 ∷ 0 ∷ 44 ∷ 1 ∷ zeros 60))
+  forward-title : lineOf (bytesOf "forward 1: \"Hour\" # ten seconds left") ≡ line (Read 1 true) (2 ∷ 4 ∷ zeros 14 ++ (bytesOf "Hour" ++ zeros 60))
   commit : lineOf (bytesOf "commit 1: new 7 \"Hour\" audio 501 length 8000; retitle 7 \"B\"; re-cut 7 audio 2 length 3; withdraw 7") ≡ line (Commit 1 4) (operationBytes 1 7 501 8000 (bytesOf "Hour") ++ (operationBytes 2 7 0 0 (bytesOf "B") ++ (operationBytes 3 7 2 3 [] ++ operationBytes 4 7 0 0 [])))
   preview : lineOf (bytesOf "preview 17: retitle 7 \"B\"; withdraw 7 # nothing is made") ≡ line (Preview 17 2) (operationBytes 2 7 0 0 (bytesOf "B") ++ operationBytes 4 7 0 0 [])
 
@@ -34,6 +37,8 @@ calls = record {
   collect = refl;
   by-numbers = refl;
   by-title = refl;
+  forward-numbers = refl;
+  forward-title = refl;
   commit = refl;
   preview = refl;
 }
@@ -44,6 +49,7 @@ pub record Mistakes : Type 0 where
   number-missing : callOf (bytesOf "send") ≡ Unreadable NumberMissing 4
   number-large : callOf (bytesOf "send 4294967296") ≡ Unreadable NumberTooLarge 5
   colon-missing : callOf (bytesOf "read 1 7") ≡ Unreadable ColonMissing 7
+  forward-unreadable : callOf (bytesOf "forward 1") ≡ Unreadable ColonMissing 9
   preview-unreadable : callOf (bytesOf "preview 1 withdraw 7") ≡ Unreadable ColonMissing 10
   audio-missing : callOf (bytesOf "commit 1: re-cut 7") ≡ Unreadable AudioMissing 18
   length-missing : callOf (bytesOf "commit 1: re-cut 7 audio 2") ≡ Unreadable LengthMissing 26
@@ -62,6 +68,7 @@ mistakes = record {
   number-missing = refl;
   number-large = refl;
   colon-missing = refl;
+  forward-unreadable = refl;
   preview-unreadable = refl;
   audio-missing = refl;
   length-missing = refl;

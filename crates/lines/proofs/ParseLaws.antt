@@ -165,12 +165,12 @@ edit-by-parts s c colon previews session read memory memory′ r e₁ e₂ h e f
     let d : read .count ≡ length ((operationsAt s colon) .items) / 80 = rw (h .count) (sym (mul-div-cancel-left (read .count) z)) in
     record { call = rw (e, h .cursor, d, e₂, e₁); payload = h .items ∙ rw (e₂, e₁); fits = f }
 
-pub read-by-parts : (s : List ℕ) (c colon end : Cursor) (session : Taken) (memory bytes : List ℕ) (r : Call) →
+pub read-by-parts : (s : List ℕ) (c colon end : Cursor) (forwards : Bool) (session : Taken) (memory bytes : List ℕ) (r : Call) →
     session ≡ numberAt s c anyNumber → colon ≡ pastMark s (session .cursor) 58 ColonMissing → gathered bytes end ≡ requestAt s colon →
-    length bytes ≡ 80 → r ≡ wholeCall s end (Read (session .value)) → callFits r → Means (readAt s c) memory (over memory 0 80 bytes) r
+    length bytes ≡ 80 → r ≡ wholeCall s end (Read (session .value) forwards) → callFits r → Means (readAt s c forwards) memory (over memory 0 80 bytes) r
 unfolding readAt
-read-by-parts s c colon end session memory bytes r e₁ e₂ h l e f =
-    let w : line (wholeCall s end (Read (session .value))) bytes ≡ readAt s c = rw (← e₁, ← e₂, ← h) in
+read-by-parts s c colon end forwards session memory bytes r e₁ e₂ h l e f =
+    let w : line (wholeCall s end (Read (session .value) forwards)) bytes ≡ readAt s c forwards = rw (← e₁, ← e₂, ← h) in
     record { call = e ∙ ap (λ w. w .call) w; payload = begun memory bytes 80 l ∙ ap (λ w. begunWith (w .bytes) memory) w; fits = f }
 
 -- what a line means, by what it is

@@ -129,12 +129,12 @@ editAt s c previews =
     let read = operationsAt s (pastMark s (session .cursor) 58 ColonMissing) in
     line (wholeCall s (read .cursor) (editCall (session .value) (length (read .items) / cartSize) previews)) (read .items)
 
--- read: the session, a colon, the request
-unfoldable pub readAt : List ℕ → Cursor → Line
-readAt s c =
+-- read and forward: the session, a colon, the request; and whether it is a forward, which has "read's requests" (02, S-4)
+unfoldable pub readAt : List ℕ → Cursor → Bool → Line
+readAt s c forwards =
     let session = numberAt s c anyNumber in
     let read = requestAt s (pastMark s (session .cursor) 58 ColonMissing) in
-    line (wholeCall s (read .cursor) (Read (session .value))) (read .items)
+    line (wholeCall s (read .cursor) (Read (session .value) forwards)) (read .items)
 
 -- a call that has one number: a studio or a session
 unfoldable pub numberCallAt : List ℕ → Cursor → List ℕ → Call
@@ -156,8 +156,9 @@ lineOf s =
     (cond (says word "setup") (setupAt s next)
     (cond (says word "commit") (editAt s next false)
     (cond (says word "preview") (editAt s next true)
-    (cond (says word "read") (readAt s next)
-    (line (numberCallAt s next word) []))))))
+    (cond (says word "read") (readAt s next false)
+    (cond (says word "forward") (readAt s next true)
+    (line (numberCallAt s next word) [])))))))
 
 -- memory whose start is these bytes or numbers, the rest of it as it was
 abbrev pub begunWith : List ℕ → List ℕ → List ℕ
@@ -179,7 +180,7 @@ callFits (Commit s n) = (1 ≤ n) × (n ≤ 8)
 callFits (Preview s n) = (1 ≤ n) × (n ≤ 8)
 callFits (Send n) = Unit {0}
 callFits (Refresh n) = Unit {0}
-callFits (Read n) = Unit {0}
+callFits (Read s forwards) = Unit {0}
 callFits (Collect n) = Unit {0}
 callFits (Unreadable m at) = Unit {0}
 

@@ -18,7 +18,7 @@ ghost use Rattle.lines.specs.Cursor.{Titled};
 ghost use Rattle.lines.specs.Parse.{gathered, titleIf, numberIf, fieldsAt, operationAt, operationsAt, numbersAt, titleRequestAt, numbersRequestAt, wholeCall, setupAt, editCall, editAt, readAt, numberCallAt, callOf, payloadOf, callFits, Means, Stored};
 
 // What a line asks for. The bytes that belong to it stand at the start of the payload: a setup's 16 studio bytes,
-// a commit's or a preview's operations of 80 bytes, a read's request of 80 bytes.
+// a commit's or a preview's operations of 80 bytes, a read's or a forward's request of 80 bytes.
 pub enum Call {
     Nothing,
     Show,
@@ -27,7 +27,7 @@ pub enum Call {
     Preview { session: u32, operations: u32 },
     Send(u32),
     Refresh(u32),
-    Read(u32),
+    Read { session: u32, forwards: bool },
     Collect(u32),
     Unreadable { mistake: Mistake, at: usize },
 }
@@ -260,20 +260,22 @@ fn numbers_request(s: &[u8], c: Cursor, request: &mut [u8]) -> Cursor
     read.cursor
 }
 
-// Read: the session, then cart numbers or a title.
-fn read(s: &[u8], c: Cursor, payload: &mut [u8]) -> Call
+// Read and forward: the session, then cart numbers or a title.
+fn read(s: &[u8], c: Cursor, payload: &mut [u8], forwards: bool) -> Call
     requires { ⌜ length (now payload) ≡ payloadSize ⌝ }
-    ensures { λ r. ⌜ Means (readAt (now (s .entry)) c) (now (payload .entry)) (now (payload .exit)) r ⌝ }
+    ensures { λ r. ⌜ Means (readAt (now (s .entry)) c forwards) (now (payload .entry)) (now (payload .exit)) r ⌝ }
 {
-    let session = cursor::number(s, c, ANY);
-    let colon = cursor::mark(s, session.cursor, 58, Mistake::ColonMissing);
+    let n = cursor::number(s, c, ANY);
+    let session = n.value;
+    let call = Call::Read { session, forwards };
+    let colon = cursor::mark(s, n.cursor, 58, Mistake::ColonMissing);
     let next = cursor::peek(s, colon);
     if (next == 34) | (next == 39) {
         let end = title_request(s, colon, &mut payload[0..Cart::SIZE]);
-        return whole(s, end, Call::Read(session.value));
+        return whole(s, end, call);
     }
     let end = numbers_request(s, colon, &mut payload[0..Cart::SIZE]);
-    whole(s, end, Call::Read(session.value))
+    whole(s, end, call)
 }
 
 // A call that has one number: a studio or a session.
@@ -320,7 +322,10 @@ pub fn parse(s: &[u8], payload: &mut [u8]) -> Call
         return edit(s, next, payload, true);
     }
     if text::same(word, b"read") {
-        return read(s, next, payload);
+        return read(s, next, payload, false);
+    }
+    if text::same(word, b"forward") {
+        return read(s, next, payload, true);
     }
     by_number(s, next, word)
 }

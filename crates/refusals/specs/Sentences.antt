@@ -31,7 +31,7 @@ refusalSentence n =
 -- what is wrong with a line
 abbrev pub mistakeSentence : Mistake → List ℕ
 mistakeSentence None = bytesOf "nothing is wrong"
-mistakeSentence UnknownWord = bytesOf "the line begins with none of setup, commit, preview, send, refresh, read, collect, show"
+mistakeSentence UnknownWord = bytesOf "the line begins with none of setup, commit, preview, send, refresh, read, collect, forward, show"
 mistakeSentence UnknownOperation = bytesOf "an operation begins with new, retitle, re-cut or withdraw"
 mistakeSentence NumberMissing = bytesOf "a number is missing"
 mistakeSentence NumberTooLarge = bytesOf "a number is too large"

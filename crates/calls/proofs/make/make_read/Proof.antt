@@ -18,8 +18,8 @@ part-output-start c = search needs
 part-output-end : tie.Need-part-output-end
 part-output-end c = search needs
 
-read-requires : tie.Need-read-requires
-read-requires c κs = search needs
+read-or-forward-requires : tie.Need-read-or-forward-requires
+read-or-forward-requires c κs = search needs
 
 same-length : tie.Need-same-length
 same-length c = search needs
@@ -29,7 +29,7 @@ same-length-2 c = search needs
 
 returns : tie.Need-returns
 returns c = let put = c .before .before .before .before .before .before .before .before .before .before in
-    read-leaves _ _ _ _ _ (put .before .before .part-of .ensures) (put .put-request .ensures) (c .before .before .before .before .before .read .ensures)
+    read-leaves _ _ _ _ _ _ (put .before .before .part-of .ensures) (put .put-request .ensures) (c .before .before .before .before .before .read-or-forward .ensures)
 
 pub make-read-spec : {M : Type 1} → statement M
 make-read-spec =
@@ -40,7 +40,7 @@ make-read-spec =
     sub-output
     part-output-start
     part-output-end
-    read-requires
+    read-or-forward-requires
     same-length
     same-length-2
     returns)

@@ -113,12 +113,28 @@ returns-6 : tie.Need-returns-6
 unfolding lineOf
 returns-6 c = let else5 = c .before .before .before .before .before .before .before in let else3 = c .before .before .before .before .before .before .before .before .before .before .before .before .before in let at-past-word = else3 .before .before .before .before .before .before in line-means _ _ _ _ _ (c .before .before .read .ensures) (rw (next (at-past-word), over (at-past-word .before .before), ← word (at-past-word), ← else3 .before .before .before .before .same .ensures, else3 .before .before .before .if2 .left, ← else3 .before .same2 .ensures, else3 .if3 .left, ← else5 .before .before .before .before .same3 .ensures, else5 .before .before .before .if4 .left, ← else5 .before .same4 .ensures, else5 .if5 .left, ← c .before .before .before .before .before .same5 .ensures, c .before .before .before .before .if6 .taken))
 
-by-number-requires : tie.Need-by-number-requires
-by-number-requires c κs = search needs
+slice-aggregate-same-6 : tie.Need-slice-aggregate-same-6
+slice-aggregate-same-6 c = search needs
+
+same-requires-6 : tie.Need-same-requires-6
+same-requires-6 c κs = search needs
+
+read-requires-2 : tie.Need-read-requires-2
+read-requires-2 c κs = search needs
+
+same-length-5 : tie.Need-same-length-5
+same-length-5 c = search needs
 
 returns-7 : tie.Need-returns-7
 unfolding lineOf
-returns-7 c = let else4 = c .before .before .before .before .before .before .before in let else2 = c .before .before .before .before .before .before .before .before .before .before .before .before .before in let at-past-word = else2 .before .before .before in line-means _ (line (numberCallAt _ (at-past-word .past-word .result) (at-past-word .before .peek-word .result .now)) []) _ _ _ (record { call = c .by-number .ensures .0; payload = refl; fits = c .by-number .ensures .1 }) (rw (next (at-past-word), over (at-past-word .before .before), ← word (at-past-word), ← else2 .before .same .ensures, else2 .if2 .left, ← else4 .before .before .before .before .same2 .ensures, else4 .before .before .before .if3 .left, ← else4 .before .same3 .ensures, else4 .if4 .left, ← c .before .before .before .before .before .same4 .ensures, c .before .before .before .before .if5 .left, ← c .before .before .same5 .ensures, c .before .if6 .left))
+returns-7 c = let else6 = c .before .before .before .before .before .before .before in let else4 = c .before .before .before .before .before .before .before .before .before .before .before .before .before in let else2 = else4 .before .before .before .before .before .before in let at-past-word = else2 .before .before .before in line-means _ _ _ _ _ (c .before .before .read2 .ensures) (rw (next (at-past-word), over (at-past-word .before .before), ← word (at-past-word), ← else2 .before .same .ensures, else2 .if2 .left, ← else4 .before .before .before .before .same2 .ensures, else4 .before .before .before .if3 .left, ← else4 .before .same3 .ensures, else4 .if4 .left, ← else6 .before .before .before .before .same4 .ensures, else6 .before .before .before .if5 .left, ← else6 .before .same5 .ensures, else6 .if6 .left, ← c .before .before .before .before .before .same6 .ensures, c .before .before .before .before .if7 .taken))
+
+by-number-requires : tie.Need-by-number-requires
+by-number-requires c κs = search needs
+
+returns-8 : tie.Need-returns-8
+unfolding lineOf
+returns-8 c = let else5 = c .before .before .before .before .before .before .before in let else3 = c .before .before .before .before .before .before .before .before .before .before .before .before .before in let at-past-word = else3 .before .before .before .before .before .before in line-means _ (line (numberCallAt _ (at-past-word .past-word .result) (at-past-word .before .peek-word .result .now)) []) _ _ _ (record { call = c .by-number .ensures .0; payload = refl; fits = c .by-number .ensures .1 }) (rw (next (at-past-word), over (at-past-word .before .before), ← word (at-past-word), ← else3 .before .before .before .before .same .ensures, else3 .before .before .before .if2 .left, ← else3 .before .same2 .ensures, else3 .if3 .left, ← else5 .before .before .before .before .same3 .ensures, else5 .before .before .before .if4 .left, ← else5 .before .same4 .ensures, else5 .if5 .left, ← c .before .before .before .before .before .same5 .ensures, c .before .before .before .before .if6 .left, ← c .before .before .same6 .ensures, c .before .if7 .left))
 
 pub parse-spec : {M : Type 1} → statement M
 parse-spec =
@@ -153,5 +169,10 @@ parse-spec =
     read-requires
     same-length-4
     returns-6
+    slice-aggregate-same-6
+    same-requires-6
+    read-requires-2
+    same-length-5
+    returns-7
     by-number-requires
-    returns-7)
+    returns-8)

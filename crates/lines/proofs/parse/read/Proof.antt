@@ -37,7 +37,7 @@ same-length c = search needs
 returns : tie.Need-returns
 unfolding requestAt
 returns c = let at-peek = c .before .before .before .before .before .before in let one = c .before .before .before .title-request in let p = at-peek .before .before .before .before .before .args .payload .now in
-    read-by-parts _ _ (at-peek .before .mark .result) (one .result) (at-peek .before .before .number .result) p (one .last .1 .1 .0) _ (at-peek .before .before .number .ensures .0) (at-peek .before .mark .ensures) (rw (← at-peek .peek .ensures, c .before .before .before .before .before .if1 .taken) (one .ensures)) (one .kept .1 .1 .0 ∙ length-take-le 80 p (omega arith)) (c .whole .ensures .0) (c .whole .ensures .1)
+    read-by-parts _ _ (at-peek .before .mark .result) (one .result) _ (at-peek .before .before .number .result) p (one .last .1 .1 .0) _ (at-peek .before .before .number .ensures .0) (at-peek .before .mark .ensures) (rw (← at-peek .peek .ensures, c .before .before .before .before .before .if1 .taken) (one .ensures)) (one .kept .1 .1 .0 ∙ length-take-le 80 p (omega arith)) (c .whole .ensures .0) (c .whole .ensures .1)
 
 sub-numbers-request : tie.Need-sub-numbers-request
 sub-numbers-request c = search needs
@@ -60,7 +60,7 @@ same-length-2 c = search needs
 returns-2 : tie.Need-returns-2
 unfolding requestAt
 returns-2 c = let at-peek = c .before .before .before .before .before .before in let one = c .before .before .before .numbers-request in let p = at-peek .before .before .before .before .before .args .payload .now in
-    read-by-parts _ _ (at-peek .before .mark .result) (one .result) (at-peek .before .before .number .result) p (one .last .1 .1 .0) _ (at-peek .before .before .number .ensures .0) (at-peek .before .mark .ensures) (rw (← at-peek .peek .ensures, c .before .before .before .before .before .if1 .left) (one .ensures)) (one .kept .1 .1 .0 ∙ length-take-le 80 p (omega arith)) (c .whole2 .ensures .0) (c .whole2 .ensures .1)
+    read-by-parts _ _ (at-peek .before .mark .result) (one .result) _ (at-peek .before .before .number .result) p (one .last .1 .1 .0) _ (at-peek .before .before .number .ensures .0) (at-peek .before .mark .ensures) (rw (← at-peek .peek .ensures, c .before .before .before .before .before .if1 .left) (one .ensures)) (one .kept .1 .1 .0 ∙ length-take-le 80 p (omega arith)) (c .whole2 .ensures .0) (c .whole2 .ensures .1)
 
 pub read-spec : {M : Type 1} → statement M
 read-spec =
