@@ -113,7 +113,8 @@ refresh m i =
     let n = nth (m .applied) i + 1 in
     unless (stopped (refreshRows (m .studios) i (nth (m .sent) i) (nth (m .applied) i))) (refusal m []) (step (done n) (withApplied m i n) [])
 
--- "An answered read returns the state (applied) and found, and writes from output's start", from L(state); session s is left with number n
+-- "An answered read returns the state (applied) and found, and writes from output's start", from L(state), of the head end "with state commits" (S-4);
+-- session s is left with number n
 unfoldable pub answerFrom : ℕ → ℕ → Request → Machine → ℕ → List ℕ → Step
 answerFrom state n q m s out =
     let x = sessionOf m s in
@@ -131,7 +132,7 @@ block m s q behind out =
 unfoldable pub wait : Machine → ℕ → Request → List ℕ → Step
 wait m s q out = let x = sessionOf m s in step (waits (x .number)) (withSession m s (session (x .studio) (x .number) q)) out
 
--- a reading call that brings its request: read's rows, then the block step
+-- a reading call that brings its request, S-4's "with read's requests, outputs, checks and order": read's rows, then the block step
 abbrev pub reading : Machine → ℕ → List ℕ → Step → List ℕ → Step
 reading m s request behind out =
     let x = sessionOf m s in

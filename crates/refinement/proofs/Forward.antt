@@ -18,6 +18,7 @@ use Rattle.replication.specs.Calls.{After, after, withSessions}
 use Rattle.replication.specs.declared.control.Control.{Control}
 use Rattle.replication.proofs.RowLaws.{unless-case}
 use Rattle.replication.proofs.DecideLaws.{accepted}
+use Rattle.replication.proofs.BlockLaws.{answered-waits}
 use Rattle.replication.proofs.Accepted.{read-passed}
 use Rattle.machine.specs.Machine.{Step}
 use Rattle.machine.specs.Asked.{asker}
@@ -59,14 +60,14 @@ module _ (c : Control) (m : Memory) (s : ℕ) (request out : List ℕ) where
   pub never-waits : (n : ℕ) → Bytes.forward c m s request out .answer ≡ waits n → ⊥
   unfolding Bytes.forward Bytes.block Bytes.answerFrom
   never-waits n = unless-case Waits _ _ _ (λ k e a. let z : _≡_ {A = ℕ} 0 1 = cc in omega arith)
-      (λ e. by-cond Waits (leb number applied) _ _ (λ _ a. let z : _≡_ {A = ℕ} 0 1 = cc in omega arith) (λ _ a. let z : _≡_ {A = ℕ} 0 1 = cc in omega arith))
+      (λ e. by-cond Waits (leb number applied) _ _ (λ _. answered-waits _ _ n) (λ _. answered-waits _ _ n))
     where
       Waits : After → Type 0
       Waits r = r .answer ≡ waits n → ⊥
 
   module _ (passes : readStop c m s request (length out) ≡ 0) (behind : applied < number) where
     -- the session's number after it
-    pub forwarded-number : sequenceOf (sessionAt (Bytes.forward c m s request out .memory .sessions) s) ≡ c .commits
+    forwarded-number : sequenceOf (sessionAt (Bytes.forward c m s request out .memory .sessions) s) ≡ c .commits
     unfolding readStop
     forwarded-number =
         let a = accepted c m _ passes in
@@ -84,6 +85,23 @@ module _ (c : Control) (m : Memory) (s : ℕ) (request out : List ℕ) where
     pub forwarded-waits : (next lent : List ℕ) → let r = Bytes.forward c m s request out in
         readStop (r .control) (r .memory) s next (length lent) ≡ 0 → Bytes.read (r .control) (r .memory) s next lent .answer ≡ waits (c .commits)
     forwarded-waits next lent e = waits-for _ _ s next lent (c .commits) forwarded-number (rw (by-primary behind passes) still-behind) e
+
+  -- an answer that shows a state: by which copy
+  module _ (k found : ℕ) (shown : Bytes.forward c m s request out .answer ≡ answered k found) where
+    -- no row stops it
+    not-stopped : readStop c m s request (length out) ≡ 0
+    unfolding Bytes.forward
+    not-stopped = unless-case (λ (r : After). r .answer ≡ answered k found → readStop c m s request (length out) ≡ 0) _ _ _
+        (λ j e a. let z : _≡_ {A = ℕ} 0 1 = cc in absurd (omega arith)) (λ e a. e) shown
+
+    pub state-told : (number ≤ applied → k ≡ applied) × (applied < number → (k ≡ c .commits) × (applied < k))
+    unfolding Bytes.forward Bytes.block Bytes.answerFrom unless
+    state-told = (
+      λ u. let a : answered applied _ ≡ answered k found = rw (not-stopped, le-leb number applied u) at shown in cc,
+      λ u. let a : answered (c .commits) _ ≡ answered k found = rw (not-stopped, lt-leb number applied u) at shown in
+          let same : k ≡ c .commits = cc in
+          (same, rw same (still-behind not-stopped u)),
+    )
 
 -- from what stands for a sound machine: two answered reads, forwards or collects of one session, and any list of calls between them
 pub never-back : (r : After) (p : Step) → Simulates r p → Sound (p .next) → (x : Call) (k found : ℕ)

@@ -47,11 +47,12 @@ module _ (c : Control) (m : Memory) (s : ℕ) (w : KnownSession s (studioOf c s)
           next = rw (← e) (session-represents c m s w a f n x b l log sessions h);
         })
 
-  -- a reading call that no row stops: answered now, or `behind`
+  -- the number that the studio's answer leaves
   next-known : numberAfter (sequenceOf (sessionAt (m .sessions) s)) (nth (c .applied) (studioOf c s)) ≤ c .commits
   unfolding numberAfter
   next-known = own-sequence c (m .sessions) (f .sessions) s w
 
+  -- a reading call that no row stops: answered now, or `behind`
   block-keeps : (behind : After) → OfLayout (behind .control) (behind .memory)
       → OfLayout (Bytes.block c m s q x behind out .control) (Bytes.block c m s q x behind out .memory)
   unfolding Bytes.block

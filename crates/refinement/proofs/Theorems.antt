@@ -129,6 +129,14 @@ module _ (c : Control) (m : Memory) (s : ℕ) (request out : List ℕ) where
   unfolding Bytes.call
   forward-never-waits = Forward.never-waits c m s request out
 
+  -- Which copy answered can be told by the state: the studio's with what it has applied, the head end's with commits, which is more.
+  pub forward-state : (k found : ℕ) → Bytes.call c m (Call.forward s request out) .answer ≡ answered k found →
+      let number = sequenceOf (sessionAt (m .sessions) s) in
+      let applied = nth (c .applied) (studioOf c s) in
+      (number ≤ applied → k ≡ applied) × (applied < number → (k ≡ c .commits) × (applied < k))
+  unfolding Bytes.call
+  forward-state = Forward.state-told c m s request out
+
   module _ (passes : readStop c m s request (length out) ≡ 0) (behind : nth (c .applied) (studioOf c s) < sequenceOf (sessionAt (m .sessions) s)) where
     -- "Otherwise it answers from the head end's copy with state commits, and the session's number becomes commits": every other lent byte stays, output's later
     -- bytes too, and no request is stored.
@@ -139,7 +147,7 @@ module _ (c : Control) (m : Memory) (s : ℕ) (request out : List ℕ) where
     unfolding Bytes.call
     forward-by-primary = Forward.by-primary c m s request out behind passes
 
-    -- A read of the session straight afterwards that no row stops waits until its studio has applied that state.
+    -- A read of the session straight afterwards that no row stops waits, and that state is the number that its studio has to apply first.
     pub forwarded-waits : (next lent : List ℕ) → let r = Bytes.call c m (Call.forward s request out) in
         readStop (r .control) (r .memory) s next (length lent) ≡ 0 → Bytes.call (r .control) (r .memory) (Call.read s next lent) .answer ≡ waits (c .commits)
     unfolding Bytes.call

@@ -57,7 +57,7 @@ module _ (waiting : Request) (room : ℕ) where
 
 -- a whole read, or forward
 module _ (c : Control) (m : Memory) (s : ℕ) (request out : List ℕ) (v : ℕ) (e : v ≡ readStop c m s request (length out)) where
-  pub reading-refused : (v ≡ 0 → ⊥) → (behind : After) → after (refused v) c m out ≡ reading c m s request behind out
+  reading-refused : (v ≡ 0 → ⊥) → (behind : After) → after (refused v) c m out ≡ reading c m s request behind out
   reading-refused n behind = rw e (unless-stopped _ _ _ (λ z. n (e ∙ z)))
 
   pub read-refused : (v ≡ 0 → ⊥) → after (refused v) c m out ≡ read c m s request out

@@ -1,6 +1,6 @@
 -- Setup and the calls of documents 01 and 02 on bytes, for any control, memory, arguments and output: what the code's contracts cite.
 -- "Commit acts by this same effect on the head end's copy, refresh on its studio's, and an answered read is taken from the copy of
--- its session's studio, each also where that copy is no L(n)."
+-- its session's studio, each also where that copy is no L(n)"; by S-4 a forwarded one may be taken from the head end's.
 use mathlib.Core.Bool.{cond}
 use mathlib.Core.List.{List, []}
 use Prim.Native.Nat.{ℕ, _+_, _-_}
@@ -109,7 +109,7 @@ unfoldable pub numberAfter : ℕ → ℕ → ℕ
 numberAfter number state = number
 
 -- "An answered read returns the state (applied) and found, and writes from output's start. .. Later output bytes are unchanged":
--- from a copy that has reached `state`; session s is left with the bytes x and the number n
+-- from a copy that has reached `state` (the head end's: S-4, "with state commits"); session s is left with the bytes x and the number n
 unfoldable pub answerFrom : ℕ → List ℕ → Request → Control → Memory → ℕ → ℕ → List ℕ → List ℕ → After
 answerFrom state copy q c m s n x out =
     after (answered state (foundIn copy q)) c
@@ -124,7 +124,8 @@ block c m s q x behind out =
     let n = sequenceOf (sessionAt (m .sessions) s) in
     cond (leb n state) (answerFrom state (copyAt (m .library) i) q c m s (numberAfter n state) x out) behind
 
--- a reading call that brings its request: read's rows, then the block step, which leaves the session's bytes as they are
+-- a reading call that brings its request, S-4's "with read's requests, outputs, checks and order": read's rows, then the block step. Where the studio's
+-- copy answers, the session keeps its bytes.
 abbrev pub reading : Control → Memory → ℕ → List ℕ → After → List ℕ → After
 reading c m s request behind out =
     unless (readStop c m s request (length out)) (refusal c m out) (block c m s (requestOf request) (sessionAt (m .sessions) s) behind out)

@@ -82,7 +82,7 @@ sendRows studios i sent applied commits = studioRow studios i ∷ windowRows sen
 unfoldable pub refreshRows : ℕ → ℕ → ℕ → ℕ → List Row
 refreshRows studios i sent applied = studioRow studios i ∷ row 11 (eqb sent applied) ∷ []
 
--- "read": 4, 12 and 13; the request's bytes; output's length
+-- "read", and by S-4 forward, "with read's .. checks and order": 4, 12 and 13; the request's bytes; output's length
 abbrev pub requestRows : Request → List ℕ → ℕ → List Row
 requestRows waiting request room =
     row 4 (isWaiting waiting)

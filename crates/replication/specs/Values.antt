@@ -58,10 +58,11 @@ walkable (suc n) log r = let rest = walkable n log (nextTransaction log r) in wi
 abbrev pub dueOf : Control → List ℕ → ℕ → Due
 dueOf c sessions s = record { number = sequenceOf (sessionAt sessions s); studio = studioOf c s; state = nth (c .applied) (studioOf c s) }
 
--- what it is answered from: a copy, with its state, and the session's next number. The studio's copy; the head end's
+-- what it is answered from: a copy, with its state, and the session's next number. The studio's copy
 abbrev pub studioSource : Due → Source
 studioSource d = record { copy = d .studio; state = d .state; next = numberAfter (d .number) (d .state) }
 
+-- S-4: "from the head end's copy with state commits, and the session's number becomes commits"
 abbrev pub primarySource : Control → Source
 primarySource c = record { copy = 0; state = c .commits; next = c .commits }
 
@@ -69,6 +70,6 @@ primarySource c = record { copy = 0; state = c .commits; next = c .commits }
 unfoldable pub forwardSource : Control → Due → Source
 forwardSource c d = cond (leb (d .number) (d .state)) (studioSource d) (primarySource c)
 
--- and the answer
+-- the answer from a source
 abbrev pub answerBy : Source → Request → Control → Memory → ℕ → List ℕ → List ℕ → After
 answerBy v q c m s x out = answerFrom (v .state) (copyAt (m .library) (v .copy)) q c m s (v .next) x out
