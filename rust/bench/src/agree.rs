@@ -3,7 +3,7 @@
 use crate::call::{Call, play, simulate};
 use crate::floor;
 use crate::memory::Memory;
-use crate::wall::Wall;
+use crate::wall::{self, Wall};
 use simulator::{Control, DONE, REFUSED};
 
 fn of_layout(memory: &mut Memory, control: &Control) -> bool {
@@ -31,7 +31,7 @@ pub fn on_call(name: &str, call: &Call, wall: &Wall) {
     if let Call::Forward { session, .. } = call {
         let studio = wall.control.session_studios[*session as usize - 1] as usize;
         let by_head_end = by_engine.value != wall.control.applied[studio - 1];
-        assert_eq!(by_head_end, name.contains("head end"), "{name}: the other copy answered");
+        assert_eq!(by_head_end, *session == wall::WAITING_READER, "{name}: the other copy answered");
     }
 }
 

@@ -26,6 +26,7 @@ pub enum Kind {
     Title,
     /// Forwards by numbers.
     Forward,
+    /// Forwards by title.
     ForwardTitle,
     /// Every other call that begins with the layout test.
     Other,

@@ -58,7 +58,7 @@ impl Coverage {
             (Call::Collect { .. }, READ | WAITED, Told::ForwardedWaits) => self.count((COLLECT_FORWARDED, 0, end)),
             _ => {}
         }
-        if matches!((call, end), (Call::Collect { .. }, READ)) && told.turned_away(call) {
+        if matches!((call, end), (Call::Collect { .. }, READ)) && told.stopped_by_4(call) {
             self.count((COLLECT_KEPT, 0, end));
         }
     }

@@ -30,7 +30,7 @@ pub const COLLECT_TOLD: &str = "collect of the next read after a refusal 8";
 /// A number raised by a refusal 8 in lists from memory that no list reaches.
 pub const RAISED_UNREACHED: &str = "list from unreached memory with a number raised by a refusal 8";
 
-/// Of a forward whose session is in use: the session's number, commits, and the number of its studio.
+/// Of an answered forward: the session's number, commits, and the number of its studio.
 pub const FORWARD_NUMBER: &str = "forward, session number";
 pub const FORWARD_COMMITS: &str = "forward, commits";
 pub const FORWARD_STUDIO: &str = "forward, studio";
@@ -51,7 +51,7 @@ pub const FORWARD_AGAIN: &str = "next forward after a forward by the head end";
 pub const FORWARD_AGAIN_ALONE: &str = "next forward after a forward by the head end that raised a number now reached";
 pub const FORWARD_TOLD: &str = "next forward after a refusal 8 that raised the number";
 /// The collect of a read because of which a forward was refused with 4.
-pub const COLLECT_KEPT: &str = "collect of a read that turned a forward away";
+pub const COLLECT_KEPT: &str = "collect of a read because of which 4 refused a forward";
 /// A list whose order has entries of reads, of collects and of forwards.
 pub const MIXED: &str = "list with reads, collects and forwards in its order";
 

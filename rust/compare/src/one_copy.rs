@@ -17,7 +17,7 @@ enum What {
         commits: u32,
     },
     Read {
-        by: Reading,
+        by: ReadBy,
         request: Vec<u8>,
         state: u32,
         found: u32,
@@ -27,7 +27,7 @@ enum What {
 
 /// The call that a read was answered by.
 #[derive(Clone, Copy, PartialEq, Eq)]
-enum Reading {
+enum ReadBy {
     Read,
     Collect,
     Forward,
@@ -74,23 +74,23 @@ impl History {
                 self.entries.push(Entry { call: number, session: *session, what });
             }
             (Call::Read { session, request, .. }, ANSWERED) => {
-                self.push_read(number, *session, (Reading::Read, request.clone()), answer, output);
+                self.push_read(number, *session, (ReadBy::Read, request.clone()), answer, output);
             }
             (Call::Forward { session, request, .. }, ANSWERED) => {
-                self.push_read(number, *session, (Reading::Forward, request.clone()), answer, output);
+                self.push_read(number, *session, (ReadBy::Forward, request.clone()), answer, output);
             }
             (Call::Read { session, request, .. }, WAITS) => {
                 self.waited[*session as usize].clone_from(request);
             }
             (Call::Collect { session, .. }, ANSWERED) => {
                 let request = self.waited[*session as usize].clone();
-                self.push_read(number, *session, (Reading::Collect, request), answer, output);
+                self.push_read(number, *session, (ReadBy::Collect, request), answer, output);
             }
             _ => {}
         }
     }
 
-    fn push_read(&mut self, call: u64, session: u32, (by, request): (Reading, Vec<u8>), answer: &Answer, output: &[u8]) {
+    fn push_read(&mut self, call: u64, session: u32, (by, request): (ReadBy, Vec<u8>), answer: &Answer, output: &[u8]) {
         let numbers = if request[0] == 1 { usize::from(request[1]) } else { 1 };
         let written = output[..output.len().min(80 * numbers)].to_vec();
         let what = What::Read { by, request, state: answer.value, found: answer.found, written };
@@ -122,15 +122,15 @@ impl History {
 
     /// How many entries are forwards.
     pub fn forwards(&self) -> usize {
-        self.reads(Reading::Forward)
+        self.reads(ReadBy::Forward)
     }
 
     /// Whether reads, collects and forwards all have entries.
     pub fn is_mixed(&self) -> bool {
-        [Reading::Read, Reading::Collect, Reading::Forward].into_iter().all(|by| self.reads(by) > 0)
+        [ReadBy::Read, ReadBy::Collect, ReadBy::Forward].into_iter().all(|by| self.reads(by) > 0)
     }
 
-    fn reads(&self, reading: Reading) -> usize {
+    fn reads(&self, reading: ReadBy) -> usize {
         self.entries.iter().filter(|entry| matches!(entry.what, What::Read { by, .. } if by == reading)).count()
     }
 

@@ -25,7 +25,7 @@ pub enum Told {
 pub struct Sessions {
     told: [Told; 17],
     /// Whether a forward was refused with 4 because of the read that waits.
-    turned_away: [bool; 17],
+    stopped_by_4: [bool; 17],
     /// The place of the latest call's session, if that was a forward that the head end answered.
     latest: Option<usize>,
 }
@@ -45,8 +45,8 @@ impl Sessions {
             _ => {}
         }
         match (call, answer.kind) {
-            (Call::Forward { .. }, REFUSED) if answer.value == 4 => self.turned_away[place] = true,
-            (Call::Collect { .. }, ANSWERED) => self.turned_away[place] = false,
+            (Call::Forward { .. }, REFUSED) if answer.value == 4 => self.stopped_by_4[place] = true,
+            (Call::Collect { .. }, ANSWERED) => self.stopped_by_4[place] = false,
             _ => {}
         }
     }
@@ -57,8 +57,8 @@ impl Sessions {
     }
 
     /// Whether a forward of the call's session was refused because of the read that waits.
-    pub fn turned_away(&self, call: &Call) -> bool {
-        self.turned_away[place(call)]
+    pub fn stopped_by_4(&self, call: &Call) -> bool {
+        self.stopped_by_4[place(call)]
     }
 
     /// Whether the latest call was a forward of this call's session, answered by the head end.

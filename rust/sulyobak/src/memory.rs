@@ -40,8 +40,8 @@ pub struct Memory<'a> {
 // The answer of a function that is passed a request and an output: read or forward.
 macro_rules! ask {
     ($function:ident, $self:ident, $session:ident, $request:ident, $output:ident) => {{
-        let (asked, places) = ($request.len(), $output.len());
-        let answer = call!(as_mut_ptr, $function, $self, *$self.control, $session, $request.as_ptr(), asked, $output.as_mut_ptr(), places);
+        let (asked, room) = ($request.len(), $output.len());
+        let answer = call!(as_mut_ptr, $function, $self, *$self.control, $session, $request.as_ptr(), asked, $output.as_mut_ptr(), room);
         $self.answered(answer)
     }};
 }

@@ -275,7 +275,7 @@ fn clears_output(_: &mut Notes, call: &Call, control: Control, lent: &mut Lent) 
 }
 
 /// The session of a forward that was refused with 4.
-fn turned_away(call: &Call, answer: &Answer) -> Option<u32> {
+fn stopped_by_4(call: &Call, answer: &Answer) -> Option<u32> {
     match call {
         Call::Forward { session, .. } if is_refused(answer, 4) => Some(*session),
         _ => None,
@@ -284,17 +284,19 @@ fn turned_away(call: &Call, answer: &Answer) -> Option<u32> {
 
 fn no_row_4(_: &mut Notes, call: &Call, control: Control, lent: &mut Lent) -> Answer {
     let answer = right(call, control, lent);
-    let Some(session) = turned_away(call, &answer) else { return answer };
+    let Some(session) = stopped_by_4(call, &answer) else { return answer };
     let mut collected = lent.clone();
     clear_waiting(&mut collected, session);
     let answer = right(call, control, &mut collected);
     lent.output.copy_from(&collected.output);
+    let number = rows::session_number(&rows::stored(call, &collected));
+    set_number(lent, session, number);
     answer
 }
 
 fn clears_read(_: &mut Notes, call: &Call, control: Control, lent: &mut Lent) -> Answer {
     let answer = right(call, control, lent);
-    if let Some(session) = turned_away(call, &answer) {
+    if let Some(session) = stopped_by_4(call, &answer) {
         clear_waiting(lent, session);
     }
     answer
@@ -331,7 +333,7 @@ fn low_session(_: &mut Notes, call: &Call, control: Control, lent: &mut Lent) ->
 
 fn rows_4_12(_: &mut Notes, call: &Call, control: Control, lent: &mut Lent) -> Answer {
     let answer = right(call, control, lent);
-    match turned_away(call, &answer) {
+    match stopped_by_4(call, &answer) {
         Some(_) if !simulator::request_in_form(call.input()) => refused(12, control),
         _ => answer,
     }
