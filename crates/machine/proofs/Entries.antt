@@ -70,15 +70,18 @@ module _ (H : List Call.Call) (go-on : Goes H) (m : Machine) (copies : ℕ → L
   nothing-new : (a : Answer) (out : List ℕ) → History n copies floor (entries (i + 1) waited (plainCounted (step a m out) H))
   nothing-new a out = go-on (step a m out) n copies floor waited (i + 1) refl sound f
 
+  -- no session has been shown more than is committed
+  floor-known : (s : ℕ) → 1 ≤ s → floor s ≤ n
+  floor-known s u = omega (arith, f .floors s u, sound .number-le (s - 1), applied-commits m sound (sessionOf m s .studio - 1))
+
   -- a commit refused with 8 is answered by the library of n commits, and its session has seen it
   when-told : (s : ℕ) (bytes : List ℕ) (k : ℕ) → k ≡ 8 → CommitTold s (sessionOf m s .studio) (L (m .log) n) bytes → Fits (writes s bytes) (refusal (told m s) [] k)
   unfolding entryOf commitReplies waitedAfter
   when-told s bytes k e a = rw e (λ kept.
       let ops : Transaction = operationsOf bytes in
       let misses : meetsAll (copies n) ops ≡ false = rw (f .libraries n (omega arith)) (a .misses) in
-      let low : floor s ≤ n = omega (arith, f .floors s (a .who .low), sound .number-le (s - 1), applied-commits m sound (sessionOf m s .studio - 1)) in
       let high : n ≤ n = omega arith in
-      seen i s (operations ops) n refused8 (refuses copies n ops misses) low high
+      seen i s (operations ops) n refused8 (refuses copies n ops misses) (floor-known s (a .who .low)) high
       (go-on _ n copies (put floor s n) waited (i + 1) refl kept
       (shown-to m copies floor waited f s _ (a .who) (sound .sixteen) n (omega arith) (f .waits-for s (a .who .low)))))
 
@@ -163,9 +166,8 @@ module _ (H : List Call.Call) (go-on : Goes H) (m : Machine) (copies : ℕ → L
   when-forward : (s : ℕ) (bytes out : List ℕ) → Fits (reads s bytes) (forward m s bytes out)
   unfolding forward
   when-forward s bytes out = when-reading s bytes _ out (λ who asked.
-      let low : floor s ≤ n = omega (arith, f .floors s (who .low), sound .number-le (s - 1), applied-commits m sound (sessionOf m s .studio - 1)) in
       let high : n ≤ n = omega arith in
-      read-shown s who n _ low high (omega (arith, f .floors s (who .low), sound .number-le (s - 1), applied-commits m sound (sessionOf m s .studio - 1))) bytes out asked)
+      read-shown s who n _ (floor-known s (who .low)) high (omega (arith, sound .number-le (s - 1))) bytes out asked)
 
   when-collect : (s : ℕ) (out : List ℕ) → Fits (collects s) (collect m s out)
   unfolding collect entryOf readEntry readReplies waitedAfter

@@ -1,4 +1,5 @@
-// The Block step of read and collect: answered where the copy of the session's studio has reached the session's number. `Due` is forward's too.
+// The Block step of read and collect: answered where the copy of the session's studio has reached the session's number. `Due` is
+// forward's too.
 use crate::answer::ReadAnswer;
 use crate::control::Control;
 use crate::session;
