@@ -62,7 +62,7 @@ extern "C" {
 #define SULYOBAK_OPERATION_SIZE 80  /* an operation of a commit */
 #define SULYOBAK_REQUEST_SIZE 80    /* what a read or forward asks for */
 #define SULYOBAK_COPY_SIZE 10240    /* one copy of the library */
-#define SULYOBAK_OUTPUT_MOST 2560   /* output of this size is long enough for every read */
+#define SULYOBAK_OUTPUT_MOST 2560   /* output of this size is long enough for every read and forward */
 
 /* How many there are at most. */
 #define SULYOBAK_STUDIOS 4      /* studios, numbered from 1 */
@@ -70,7 +70,7 @@ extern "C" {
 #define SULYOBAK_CARTS 128      /* carts, numbered from 1 */
 #define SULYOBAK_TITLE_MOST 64  /* letters of a title: it is kept whole, or the commit is refused */
 #define SULYOBAK_OPERATIONS 8   /* operations in one commit */
-#define SULYOBAK_NUMBERS 32     /* cart numbers in one read */
+#define SULYOBAK_NUMBERS 32     /* cart numbers in one read or forward */
 #define SULYOBAK_RECORDS 512    /* operations in the log */
 #define SULYOBAK_WINDOW 32      /* transactions sent to a studio and not yet applied there */
 
@@ -122,7 +122,7 @@ typedef struct {
 /* Kinds of answer. */
 #define SULYOBAK_REFUSED 0  /* value says why; nothing was done, no byte was changed (but a session's number, by a commit refused by 8) */
 #define SULYOBAK_DONE 1     /* done; value: the commit's number (of a preview the one it would have), sent, or applied; 0 for setup and layout */
-#define SULYOBAK_ANSWERED 2 /* the read is answered; value: how many transactions the copy had taken; found; carts are in output */
+#define SULYOBAK_ANSWERED 2 /* the read or forward is answered; value: how many transactions the copy had taken; found; carts are in output */
 #define SULYOBAK_WAITS 3    /* the read is kept in the session; value: the number that the studio's copy has to reach first */
 
 /* Why a call was refused. They are tested in the order in which each function below lists them. */

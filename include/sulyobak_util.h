@@ -10,7 +10,7 @@
 /*
  * MAKING OPERATIONS AND REQUESTS. Each function writes 80 bytes and returns SULYOBAK_MADE, or leaves them alone and returns one of the other
  * numbers. A title ends with a zero byte, as in C, and is taken whole or not at all. One that begins or ends with a space is made too: a
- * commit refuses it (SULYOBAK_SPACED_TITLE), a read may ask for it.
+ * commit refuses it (SULYOBAK_SPACED_TITLE), a read or forward may ask for it.
  */
 #define SULYOBAK_MADE 0
 #define SULYOBAK_TITLE_EMPTY 1       /* The title has no letter. */

@@ -104,7 +104,7 @@ refresh c m i =
     let copy = actAll (copyAt (m .library) i) (transactionAfter c (m .log) k) in
     unless (refreshStop c m i) (refusal c m []) (after (done (k + 1)) (withApplied c i (k + 1)) (withLibrary m (withCopy (m .library) i copy)) [])
 
--- "A read does not change the session's number": what it is after an answer that showed a state
+-- "A read does not change the session's number": what it is after an answer of the studio's copy, which showed a state
 unfoldable pub numberAfter : ℕ → ℕ → ℕ
 numberAfter number state = number
 

@@ -14,7 +14,7 @@ appliedFor c s =
     let applied = cond (within 1 studioCount (studioOf c s)) (nth (c .applied) (studioOf c s)) 0 in
     cond (within 1 sessionCount s) applied 0
 
--- an answer at a state, by the control of that call: the studio's where it has applied so many; a forward "otherwise answers from
+-- an answer at a state, by the control of that call: the studio's where it has applied so many; of a forward "Otherwise it answers from
 -- the head end's copy with state commits" (02, S-4), and the studio has then applied fewer
 unfoldable pub answerText : Control → ℕ → ℕ → ℕ → List ℕ
 answerText c s state found =
