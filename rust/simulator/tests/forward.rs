@@ -3,7 +3,7 @@
 //! That a refused forward leaves memory and control is asserted by `Wall::forward`.
 
 mod wall;
-use simulator::{COPY, SESSION_MEMORY, UNIT};
+use simulator::{COPY, UNIT};
 use wall::*;
 
 /// Six commits, all sent to both studios, and no L(n) is like the one before it.
@@ -140,29 +140,9 @@ fn each_session_looks_at_its_studio() {
     }
 }
 
-/// All 16 sessions are in use, and the other ones but the last have a read waiting.
-/// Session n has made commit n, and the last one the rest of 300, as bytes 44 and 1.
 #[test]
 fn bytes_2_and_3_of_that_session_alone() {
-    let mut full = fresh();
-    assert_eq!(full.setup(4, &[1, 2, 3, 4, 1, 2, 3, 4, 1, 2, 3, 4, 1, 2, 3, 4]), done(0));
-    assert_eq!(full.commit(1, &[top_hour()]), done(1));
-    for n in 2..=300 {
-        assert_eq!(full.commit(n.min(16), &[recut(7, n, n)]), done(n));
-    }
-    for (session, at) in (1..=15).zip((2..).step_by(UNIT)) {
-        let mut wall = full.clone();
-        for other in (1..=15).filter(|other| *other != session) {
-            assert_eq!(wall.read(other, &by_title("Top hour A"), &mut [0; UNIT]), waits(other));
-        }
-        let before = wall.clone();
-        assert_eq!(wall.forward(session, &by_title("Top hour A"), &mut [0; UNIT]), answered(300, 1));
-        let changed: Vec<usize> = (0..SESSION_MEMORY).filter(|at| wall.sessions[*at] != before.sessions[*at]).collect();
-        assert_eq!(changed, [at, at + 1]);
-        assert_eq!(wall.sessions[at..at + 2], [44, 1]);
-        wall.sessions[at..at + 2].copy_from_slice(&before.sessions[at..at + 2]);
-        assert_eq!(wall, before, "neither library nor log nor control");
-    }
+    raises_two_bytes(|wall, session| wall.forward(session, &by_title("Top hour A"), &mut [0; UNIT]), answered(300, 1));
 }
 
 /// Each row's input has the later rows' faults in it as well. Session 1 waits, and
@@ -205,32 +185,12 @@ fn stopped_alike(wall: &Wall, session: u32, request: &[u8], size: usize, words: 
     assert_eq!(left.read(session, request, &mut output), words, "read: session {session}, {size} of output, {request:?}");
 }
 
-/// A row's number, and what brings a wall under it.
-type Fault = (u32, fn(&mut Wall));
-
 #[test]
 fn lengths_and_layout() {
-    let faults: [Fault; 15] = [
-        (1, |wall| wall.library.clear()),
-        (1, |wall| wall.log.truncate(40_959)),
-        (1, |wall| wall.sessions.push(0)),
-        (2, |wall| wall.library[480] = 2),
-        (2, |wall| wall.library[51_199] = 1),
-        (2, |wall| wall.log[14] = 3),
-        (2, |wall| wall.log[40_959] = 1),
-        (2, |wall| wall.sessions[2] = 7),
-        (2, |wall| wall.sessions[240] = 1),
-        (2, |wall| wall.control = simulator::Control::default()),
-        (2, |wall| wall.control.session_studios[15] = 65_537),
-        (2, |wall| wall.control.used = 65_543),
-        (2, |wall| wall.control.commits = u32::MAX),
-        (2, |wall| wall.control.sent[0] = 7),
-        (2, |wall| wall.control.applied[3] = u32::MAX),
-    ];
     for applied in [0, 6] {
         let wall = six(applied);
         assert_eq!(wall.clone().forward(1, &by_numbers(&[7]), &mut [0; UNIT]), answered(6, 1));
-        for (number, fault) in faults {
+        for (number, fault) in FAULTS {
             let mut wall = wall.clone();
             fault(&mut wall);
             stopped_alike(&wall, 1, &by_numbers(&[7]), UNIT, refused(number));

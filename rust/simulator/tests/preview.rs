@@ -89,29 +89,9 @@ fn rows_from_top_to_bottom() {
     }
 }
 
-/// A row's number, and what brings a wall under it.
-type Fault = (u32, fn(&mut Wall));
-
 #[test]
 fn lengths_and_layout() {
-    let faults: [Fault; 15] = [
-        (1, |wall| wall.library.clear()),
-        (1, |wall| wall.log.truncate(40_959)),
-        (1, |wall| wall.sessions.push(0)),
-        (2, |wall| wall.library[480] = 2),
-        (2, |wall| wall.library[51_199] = 1),
-        (2, |wall| wall.log[14] = 3),
-        (2, |wall| wall.log[40_959] = 1),
-        (2, |wall| wall.sessions[2] = 3),
-        (2, |wall| wall.sessions[240] = 1),
-        (2, |wall| wall.control = simulator::Control::default()),
-        (2, |wall| wall.control.session_studios[15] = 65_537),
-        (2, |wall| wall.control.used = 65_538),
-        (2, |wall| wall.control.commits = u32::MAX),
-        (2, |wall| wall.control.sent[0] = 3),
-        (2, |wall| wall.control.applied[3] = u32::MAX),
-    ];
-    for (place, (number, fault)) in (0..).zip(faults) {
+    for (place, (number, fault)) in (0..).zip(FAULTS) {
         let mut wall = committed(2);
         fault(&mut wall);
         alike(&format!("fault {place}"), &wall, 1, &recut(7, 9, 9), refused(number));

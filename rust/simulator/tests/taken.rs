@@ -3,7 +3,7 @@
 //! every test of a commit's refusal has it.
 
 mod wall;
-use simulator::{SESSION_MEMORY, UNIT};
+use simulator::UNIT;
 use wall::*;
 
 /// Six commits in eleven records; no cart is held but 7. Sessions 1 to 3 have the
@@ -106,29 +106,9 @@ fn a_number_that_is_commits_already() {
     assert_eq!(wall, raised, "by the refusal before");
 }
 
-/// All 16 sessions are in use, and the other ones but the last have a read waiting.
-/// Session n has made commit n, and the last one the rest of 300, as bytes 44 and 1.
 #[test]
 fn bytes_2_and_3_of_that_session_alone() {
-    let mut full = fresh();
-    assert_eq!(full.setup(4, &[1, 2, 3, 4, 1, 2, 3, 4, 1, 2, 3, 4, 1, 2, 3, 4]), done(0));
-    assert_eq!(full.commit(1, &[top_hour()]), done(1));
-    for n in 2..=300 {
-        assert_eq!(full.commit(n.min(16), &[recut(7, n, n)]), done(n));
-    }
-    for (session, at) in (1..=15).zip((2..).step_by(UNIT)) {
-        let mut wall = full.clone();
-        for other in (1..=15).filter(|other| *other != session) {
-            assert_eq!(wall.read(other, &by_title("Top hour A"), &mut [0; UNIT]), waits(other));
-        }
-        let before = wall.clone();
-        assert_eq!(wall.commit(session, &[top_hour()]), refused(8));
-        let changed: Vec<usize> = (0..SESSION_MEMORY).filter(|at| wall.sessions[*at] != before.sessions[*at]).collect();
-        assert_eq!(changed, [at, at + 1]);
-        assert_eq!(wall.sessions[at..at + 2], [44, 1]);
-        wall.sessions[at..at + 2].copy_from_slice(&before.sessions[at..at + 2]);
-        assert_eq!(wall, before, "neither library nor log nor control");
-    }
+    raises_two_bytes(|wall, session| wall.commit(session, &[top_hour()]), refused(8));
 }
 
 /// Each input has the fault of row 8 too, a new on cart 7. Session 1 waits with the

@@ -147,6 +147,53 @@ pub fn alike(case: &str, wall: &Wall, session: u32, operations: &[u8], words: Wo
     assert_eq!(wall.commit_bytes(session, operations), words, "{case}: commit");
 }
 
+/// A row's number, and what brings a wall of few commits under it.
+pub type Fault = (u32, fn(&mut Wall));
+
+pub const FAULTS: [Fault; 15] = [
+    (1, |wall| wall.library.clear()),
+    (1, |wall| wall.log.truncate(40_959)),
+    (1, |wall| wall.sessions.push(0)),
+    (2, |wall| wall.library[480] = 2),
+    (2, |wall| wall.library[51_199] = 1),
+    (2, |wall| wall.log[14] = 3),
+    (2, |wall| wall.log[40_959] = 1),
+    (2, |wall| wall.put_number(1, wall.control.commits + 1)),
+    (2, |wall| wall.sessions[240] = 1),
+    (2, |wall| wall.control = Control::default()),
+    (2, |wall| wall.control.session_studios[15] = 65_537),
+    (2, |wall| wall.control.used += 65_536),
+    (2, |wall| wall.control.commits = u32::MAX),
+    (2, |wall| wall.control.sent[0] = wall.control.commits + 1),
+    (2, |wall| wall.control.applied[3] = u32::MAX),
+];
+
+/// A call that raises its session's number to commits changes bytes 2 and 3 of that
+/// session alone. All 16 sessions are in use, and the other ones but the last have a read
+/// waiting. Session n has made commit n, and the last one the rest of 300, as bytes 44
+/// and 1.
+pub fn raises_two_bytes(call: fn(&mut Wall, u32) -> Words, words: Words) {
+    let mut full = fresh();
+    assert_eq!(full.setup(4, &[1, 2, 3, 4, 1, 2, 3, 4, 1, 2, 3, 4, 1, 2, 3, 4]), done(0));
+    assert_eq!(full.commit(1, &[top_hour()]), done(1));
+    for n in 2..=300 {
+        assert_eq!(full.commit(n.min(16), &[recut(7, n, n)]), done(n));
+    }
+    for (session, at) in (1..=15).zip((2..).step_by(UNIT)) {
+        let mut wall = full.clone();
+        for other in (1..=15).filter(|other| *other != session) {
+            assert_eq!(wall.read(other, &by_title("Top hour A"), &mut [0; UNIT]), waits(other));
+        }
+        let before = wall.clone();
+        assert_eq!(call(&mut wall, session), words);
+        let changed: Vec<usize> = (0..SESSION_MEMORY).filter(|at| wall.sessions[*at] != before.sessions[*at]).collect();
+        assert_eq!(changed, [at, at + 1]);
+        assert_eq!(wall.sessions[at..at + 2], [44, 1]);
+        wall.sessions[at..at + 2].copy_from_slice(&before.sessions[at..at + 2]);
+        assert_eq!(wall, before, "neither library nor log nor control");
+    }
+}
+
 /// Cart 7 is held; session 1 has made all the commits, of one operation each.
 pub fn committed(commits: u32) -> Wall {
     let mut wall = fresh();
