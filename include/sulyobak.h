@@ -3,10 +3,10 @@
  *
  * One head end commits edits to its copy of the library and to a log. Up to four studios are sent the committed transactions and apply
  * them, in order, to copies of their own. A session belongs to one studio and reads that studio's copy; a session's read is answered
- * once the copy has reached the session's number, and waits until then; who cannot wait has the read forwarded to the head end. The number
- * is that of the session's last commit, or the count of commits at which the head end refused it one because of a cart's state (8) or
- * answered it, whichever came later. So nobody is handed an old cut that they have just replaced, or told or shown what the head end has
- * and then shown a copy from before.
+ * once the copy has reached the session's number, and waits until then; where it cannot wait, the read is forwarded to the head end. The
+ * number is that of the session's last commit, or the count of commits at which the head end refused it one because of a cart's state (8)
+ * or answered it, whichever came later. So nobody is handed an old cut that they have just replaced, or told or shown what the head end
+ * has and then shown a copy from before.
  *
  * ONE CHAIR IS ONE SESSION. The wait goes by the session's own number, so whoever edits must read in the session that committed. With two
  * sessions in one chair, an edit committed in the first does not raise the second's number: a read in the second is answered at once from
@@ -122,7 +122,7 @@ typedef struct {
 /* Kinds of answer. */
 #define SULYOBAK_REFUSED 0  /* value says why; nothing was done, no byte was changed (but a session's number, by a commit refused by 8) */
 #define SULYOBAK_DONE 1     /* done; value: the commit's number (of a preview the one it would have), sent, or applied; 0 for setup and layout */
-#define SULYOBAK_ANSWERED 2 /* the read or forward is answered; value: how many transactions the copy had taken; found; carts are in output */
+#define SULYOBAK_ANSWERED 2 /* the read or forward is answered; value: transactions that the copy had taken; found; carts are in output */
 #define SULYOBAK_WAITS 3    /* the read is kept in the session; value: the number that the studio's copy has to reach first */
 
 /* Why a call was refused. They are tested in the order in which each function below lists them. */
@@ -220,9 +220,9 @@ sulyobak_answer sulyobak_collect(const uint8_t *library, size_t library_len, con
                                  uint8_t *sessions, size_t sessions_len, sulyobak_control control, uint32_t session, uint8_t *output,
                                  size_t output_len);
 
-/* Reads carts now, for who cannot wait: from the copy of the session's studio, exactly as sulyobak_read does, where that copy has reached
- * the session's number; else from the head end's copy, and the session's number becomes control.commits. It never waits and keeps no
- * request. After an answer of the head end the session's later reads wait until its studio has taken everything that was committed by
+/* Reads carts now, where a session cannot wait: from the copy of the session's studio, exactly as sulyobak_read does, where that copy has
+ * reached the session's number; else from the head end's copy, and the session's number becomes control.commits. It never waits and keeps
+ * no request. After an answer of the head end the session's later reads wait until its studio has taken everything that was committed by
  * then (a read straight afterwards waits), or are forwarded too: none of them shows a copy from before.
  *   control               as the last call handed it back
  *   session               1 to 16

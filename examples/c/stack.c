@@ -90,7 +90,7 @@ static long taken(call *played)
     return STACK - clean;
 }
 
-/* The editor's studio is behind: the head end is who answers the editor's forwards. */
+/* The editor's studio is behind: the head end answers the editor's forwards. */
 static void be_behind(void)
 {
     if (sulyobak_session_number(sulyobak_session_at(session_memory, EDITOR)) <= answer.control.applied[0])

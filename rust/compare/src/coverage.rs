@@ -268,7 +268,7 @@ pub fn outcome(answer: &Answer) -> u32 {
     }
 }
 
-/// How a call ended; of an answered forward also whether the head end is who answered.
+/// How a call ended; of an answered forward also whether the head end answered.
 pub fn end_of(call: &Call, before: &Before, answer: &Answer) -> u32 {
     match rows::by_head_end(call, rows::session_number(&before.session), answer) {
         true => HEAD_END,

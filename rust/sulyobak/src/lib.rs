@@ -2,7 +2,7 @@
 //!
 //! One head end commits edits to its copy of the library and to a log. Up to four studios are sent the committed transactions and
 //! apply them, in order, to copies of their own. A session belongs to one studio and reads that studio's copy. Its read is answered
-//! once the copy has reached the session's number, and waits until then; who cannot wait has the read forwarded to the head end
+//! once the copy has reached the session's number, and waits until then; where it cannot wait, the read is forwarded to the head end
 //! ([`Library::forward`]). The number is that of the session's last commit, or the count of commits at which the head end refused it one
 //! because of a cart's state ([`Refusal::WrongState`]) or answered it, whichever came later. So nobody is handed an old cut that they have
 //! just replaced, or told or shown what the head end has and then shown a copy from before.

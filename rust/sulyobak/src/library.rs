@@ -188,8 +188,8 @@ impl Library {
         self.memory().refresh(studio)
     }
 
-    /// Reads from the copy of the session's studio, or waits until that copy has reached the session's number. Who cannot wait calls
-    /// [`forward`](Library::forward).
+    /// Reads from the copy of the session's studio, or waits until that copy has reached the session's number. Where a session
+    /// cannot wait, call [`forward`](Library::forward).
     pub fn read(&mut self, session: u32, request: &Request) -> Result<Read, Refusal> {
         self.memory().read(session, request)
     }
@@ -199,9 +199,9 @@ impl Library {
         self.memory().collect(session)
     }
 
-    /// Reads now, for who cannot wait. Where the copy of the session's studio has reached the session's number, it answers exactly what
-    /// [`read`](Library::read) would. Else it answers from the head end's copy, and the session's number becomes the count of commits: so
-    /// the session's later reads wait until its studio's copy has all that was committed by then, and none shows a copy from before.
+    /// Reads now, where a session cannot wait. Where the copy of the session's studio has reached the session's number, it answers exactly
+    /// what [`read`](Library::read) would. Else it answers from the head end's copy, and the session's number becomes the count of commits:
+    /// so the session's later reads wait until its studio's copy has all that was committed by then, and none shows a copy from before.
     ///
     /// It never waits and keeps no request. A session that has a read waiting is refused ([`Refusal::ReadWaiting`]), and that read waits
     /// on. An answer is the head end's exactly where its state is not what the session's studio has applied.

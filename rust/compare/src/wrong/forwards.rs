@@ -46,7 +46,7 @@ pub const MISTAKES: &[Mistake] = &[
     mistake("forward by the head end leaves out row 13", no_row_13),
 ];
 
-/// An answered forward: its session, its request, and whether the head end is who answered.
+/// An answered forward: its session, its request, and whether the head end answered.
 struct Forwarded<'a> {
     session: u32,
     request: &'a [u8],
