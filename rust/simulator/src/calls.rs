@@ -2,12 +2,13 @@
 //! but for a commit refused with 8; so is that of a preview, which is a commit in
 //! all else.
 
-use crate::cart::{Copy, encode_cart};
+use crate::cart::{Cart, Copy, encode_cart};
 use crate::control::Outcome;
 use crate::operation::{Operation, Transaction, title_spaced};
 use crate::session::{Request, Session};
 use crate::sizes::{RECORDS, TRANSACTION_OPERATIONS, UNIT, WINDOW};
 use crate::system::{Studio, System};
+use crate::title::same_title;
 
 /// The end of a call whose system is kept, or the number of the row that stopped it.
 pub type Ended = Result<Outcome, u32>;
@@ -161,8 +162,8 @@ fn answer(copy: &Copy, state: u32, request: &Request, output: &mut [u8]) -> Outc
             numbers.iter().filter(|number| copy[usize::from(**number) - 1].is_some()).count()
         }
         Request::Title(title) => {
-            let titled: Vec<u16> =
-                (1..).zip(copy).filter(|(_, cart)| cart.is_some_and(|cart| cart.title == *title)).map(|(number, _)| number).collect();
+            let matches = |cart: Cart| same_title(cart.title.letters(), title.letters());
+            let titled: Vec<u16> = (1..).zip(copy).filter(|(_, cart)| cart.is_some_and(matches)).map(|(number, _)| number).collect();
             match titled[..] {
                 [number] => put_cart(copy, number, &mut output[..UNIT]),
                 _ => output[..UNIT].fill(0),

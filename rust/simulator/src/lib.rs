@@ -1,9 +1,10 @@
-//! The cart wall of document 01, with requests S-1 to S-4 of document 02, by
+//! The cart wall of document 01, with requests S-1 to S-5 of document 02, by
 //! another hand.
 //!
 //! Every call decodes the lent memory and the control into a value, acts on
-//! the value, and encodes it again; a preview throws the value away. Nothing
-//! here was taken from the engine.
+//! the value, and encodes it again; a preview throws the value away. The title
+//! search is no such call: it looks at the bytes of one copy. Nothing here was
+//! taken from the engine.
 
 mod bytes;
 mod calls;
@@ -11,12 +12,14 @@ mod cart;
 mod control;
 mod log;
 mod operation;
+mod search;
 mod session;
 mod sizes;
 mod system;
 mod title;
 
 pub use control::{ANSWERED, Answer, Control, DONE, Outcome, REFUSED, WAITS};
+pub use search::{Search, search};
 pub use sizes::{CARTS, COPY, LIBRARY, LOG, NUMBERS, RECORDS, SESSION_MEMORY, SESSIONS, STUDIOS, TRANSACTION_OPERATIONS, UNIT, WINDOW};
 
 /// Setup.

@@ -3,7 +3,7 @@
 use crate::bytes::all_zero;
 
 pub const TITLE_BYTES: usize = 64;
-const TITLE_AT: usize = 16;
+pub const TITLE_AT: usize = 16;
 const SPACE: u8 = 32;
 
 /// The bytes after the title are zero, so equal titles are equal values.
@@ -33,6 +33,11 @@ impl Title {
         unit[TITLE_AT..].copy_from_slice(&self.bytes);
     }
 
+    /// Its letters, as many as its length.
+    pub fn letters(&self) -> &[u8] {
+        &self.bytes[..usize::from(self.length)]
+    }
+
     /// Whether a unit has neither title length nor title.
     pub fn absent(unit: &[u8]) -> bool {
         unit[1] == 0 && all_zero(&unit[TITLE_AT..])
@@ -45,4 +50,14 @@ impl Title {
         let text = &unit[TITLE_AT..TITLE_AT + length];
         text.first() == Some(&SPACE) || text.last() == Some(&SPACE)
     }
+}
+
+/// Whether two titles are the same in matching: length first, then letter by letter.
+pub fn same_title(one: &[u8], other: &[u8]) -> bool {
+    one.len() == other.len() && one.iter().zip(other).all(|(one, other)| same_letter(*one, *other))
+}
+
+/// Whether two letters are the same in matching. No other place says so.
+pub fn same_letter(one: u8, other: u8) -> bool {
+    one == other
 }
