@@ -1,5 +1,5 @@
 -- WORKED EXAMPLES of the definitions, by computation: forms, titles that differ by a space, each operation's effect in each state, transactions, title
--- match, found.
+-- match, found, letters compared.
 use mathlib.Core.Path.{_≡_, refl}
 use mathlib.Core.Bool.{true, false}
 use mathlib.Core.List.{List, [], _∷_, _++_}
@@ -8,7 +8,7 @@ use lib.ListN.{length, take, set, replicate}
 use Rattle.carts.specs.Bytes.{zeros, u16, u32, u16Bytes, within, all, every, any, allZero, pairwise}
 use Rattle.carts.specs.Cart.{cartAt, printable, titleForm, hasTitle, noTitle, hasAudio, noAudio, held, heldForm, cartForm}
 use Rattle.carts.specs.Operation.{operationFields, operationForm, spaced, made, retitled, recut, meetsCart, effect, actedOn, meets, act, meetsAll, actAll}
-use Rattle.carts.specs.Title.{shownByNumbers, foundByNumbers, sameLetter, titled, titledFrom, titledIn, theOne, searchAnswer}
+use Rattle.carts.specs.Title.{shownByNumbers, foundByNumbers, sameLetter, titled, titledFrom, titledIn, theOne, searchAnswer, lettersCompared, lettersOf, lettersFrom, lettersIn}
 use Rattle.carts.specs.declared.titles.Found.the-variants.{One, None, Several}
 use Rattle.carts.proofs.Samples.{u32Bytes, operation, newCart, retitleCart, recutCart, withdrawCart, topHourA, news, longTitle}
 
@@ -203,4 +203,39 @@ reads = record {
   answer-one = refl;
   answer-none = refl;
   answer-several = refl;
+}
+
+-- cart 7 empty, with the length and the letters of a title in its bytes
+unfoldable left-over : List ℕ
+left-over = set one 480 0
+
+pub record Letters : Type 0 where
+  no-such-length : lettersIn (take 9 topHourA) one ≡ 0
+  longer : lettersIn (topHourA ++ (32 ∷ [])) one ≡ 0
+  one-equal : lettersIn topHourA one ≡ 10
+  first-letter : lettersIn (set topHourA 0 83) twins ≡ 2
+  fourth-letter : lettersIn (set topHourA 3 45) one ≡ 4
+  two-differ : lettersIn (set (set topHourA 3 45) 7 45) one ≡ 4
+  last-letter : lettersIn (longTitle 51) pair ≡ 128
+  equal-and-last-letter : lettersIn (longTitle 49) pair ≡ 128
+  all-matches : lettersIn topHourA twins ≡ 20
+  empty-cart : lettersIn topHourA left-over ≡ 0
+  state-2 : lettersIn topHourA (set one 480 2) ≡ 0
+  no-cart : lettersIn topHourA none ≡ 0
+
+pub letters : Letters
+unfolding none A one pair twins left-over zeros u16 u32 u16Bytes cartAt held made meetsCart effect actedOn act actAll sameLetter lettersCompared lettersOf lettersFrom lettersIn u32Bytes operation newCart topHourA longTitle
+letters = record {
+  no-such-length = refl;
+  longer = refl;
+  one-equal = refl;
+  first-letter = refl;
+  fourth-letter = refl;
+  two-differ = refl;
+  last-letter = refl;
+  equal-and-last-letter = refl;
+  all-matches = refl;
+  empty-cart = refl;
+  state-2 = refl;
+  no-cart = refl;
 }

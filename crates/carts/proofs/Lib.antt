@@ -5,6 +5,7 @@ pub mod EachLaws
 pub mod Examples
 pub mod FieldLaws
 pub mod KeepLaws
+pub mod LetterLaws
 pub mod OperationLaws
 pub mod PartLaws
 pub mod RecordLaws

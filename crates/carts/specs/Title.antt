@@ -1,4 +1,5 @@
--- Document 01, an answered read: the carts of numbers and of a title, how many are found, and what is written.
+-- Document 01, an answered read: the carts of numbers and of a title, how many are found, and what is written. Document 02, S-5: the
+-- letters that a title search compares.
 use mathlib.Core.Bool.{Bool, cond, _&&_}
 use mathlib.Core.List.{List, [], _∷_, _++_}
 use Prim.Native.Nat.{ℕ, zero, suc, _+_}
@@ -56,3 +57,24 @@ abbrev pub foundCount : Found → ℕ
 foundCount (One c) = 1
 foundCount None = 0
 foundCount (Several n) = n
+
+-- S-5: "those up to and including the first that differs (all if none does)", of two titles of one length
+unfoldable pub lettersCompared : List ℕ → List ℕ → ℕ
+lettersCompared [] ys = 0
+lettersCompared (x ∷ xs) [] = 0
+lettersCompared (x ∷ xs) (y ∷ ys) = let rest = lettersCompared xs ys in 1 + cond (sameLetter x y) rest 0
+
+-- S-5: "for each held cart of the length asked" these, "for any other cart none"
+unfoldable pub lettersOf : List ℕ → List ℕ → ℕ
+lettersOf title cart =
+    let letters = lettersCompared (part cart titleAt (length title)) title in
+    cond (held cart && eqb (byte cart 1) (length title)) letters 0
+
+-- their sum over n carts
+unfoldable pub lettersFrom : List ℕ → ℕ → List ℕ → ℕ
+lettersFrom title zero s = 0
+lettersFrom title (suc n) s = let rest = lettersFrom title n (drop cartSize s) in lettersOf title (take cartSize s) + rest
+
+-- S-5: "how many letters it compared": over the carts of a copy
+unfoldable pub lettersIn : List ℕ → List ℕ → ℕ
+lettersIn title copy = lettersFrom title cartCount copy

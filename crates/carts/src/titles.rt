@@ -1,19 +1,43 @@
-// Titles: what a search for a title answers.
+// Titles: what a search for a title answers, and the letters that S-5 counts.
 use crate::bytes;
 use crate::cart;
 use crate::cart::Cart;
 ghost use mathlib.Core.Path.{_≡_};
+ghost use mathlib.Core.Bool.{true};
 ghost use Prim.Native.Nat.{_≤_};
-ghost use lib.ListN.{length};
+ghost use lib.ListN.{length, take, replicate};
 ghost use Rattle.carts.specs.Bytes.{pairwise};
 ghost use Rattle.carts.specs.Cart.{cartSize, copySize, titleSize};
-ghost use Rattle.carts.specs.Title.{sameLetter, titled, titledIn, searchAnswer, foundCount};
+ghost use Rattle.carts.specs.Title.{sameLetter, titled, titledIn, searchAnswer, foundCount, lettersCompared, lettersOf, lettersIn};
 
 // One cart by its number, none, or several with their count.
 pub enum Found {
     One(u32),
     None,
     Several(u32),
+}
+
+// What a search answers, and the letters that S-5 counts.
+pub struct Searched {
+    pub found: Found,
+    pub letters: u32,
+}
+
+// Whether a title is the one asked, and its letters that S-5 counts.
+struct Compared {
+    same: bool,
+    letters: u32,
+}
+
+impl Compared {
+    // Letters that are looked at together.
+    const BLOCK: usize = 8;
+
+    fn new(same: bool, letters: u32) -> Compared
+        ensures { λ r. ⌜ (r .same ≡ same) × (r .letters ≡ letters) ⌝ }
+    {
+        Compared { same, letters }
+    }
 }
 
 // Two letters count as equal.
@@ -23,7 +47,7 @@ pub fn same_letter(a: u8, b: u8) -> bool
     a == b
 }
 
-// Two titles of one length have the same letters.
+// Two parts of one length have the same letters.
 fn are_same_letters(a: &[u8], b: &[u8]) -> bool
     requires { ⌜ length (now a) ≡ length (now b) ⌝ }
     ensures { λ r. ⌜ r ≡ pairwise sameLetter (now (a .entry)) (now (b .entry)) ⌝ }
@@ -37,35 +61,55 @@ fn are_same_letters(a: &[u8], b: &[u8]) -> bool
     ok
 }
 
-// The cart is held and has exactly the title.
-pub fn is_titled(cart: &[u8], title: &[u8]) -> bool
-    requires { ⌜ (length (now cart) ≡ cartSize) × (length (now title) ≤ titleSize) ⌝ }
-    ensures { λ r. ⌜ r ≡ titled (now (title .entry)) (now (cart .entry)) ⌝ }
+// How many letters at the front are passed over: blocks of eight, as long as all eight are the same.
+fn same_front(a: &[u8], b: &[u8]) -> usize
+    requires { ⌜ (length (now a) ≡ length (now b)) × (length (now a) ≤ titleSize) ⌝ }
+    ensures { λ r. ⌜ (r ≤ length (now (a .entry))) × (pairwise sameLetter (take r (now (a .entry))) (take r (now (b .entry))) ≡ true) ⌝ }
 {
-    if !cart::is_held(cart) {
-        return false;
+    let mut i = 0;
+    while i + Compared::BLOCK <= a.len() {
+        let end = i + Compared::BLOCK;
+        if !are_same_letters(&a[i..end], &b[i..end]) {
+            return i;
+        }
+        i = end;
     }
-    if bytes::byte_at(cart, 1) as usize != title.len() {
-        return false;
-    }
-    are_same_letters(&cart[Cart::TITLE_AT..Cart::TITLE_AT + title.len()], title)
+    i
 }
 
-// The carts of a copy that have the title.
-pub fn search(copy: &[u8], title: &[u8]) -> Found
-    requires { ⌜ (length (now copy) ≡ copySize) × (length (now title) ≤ titleSize) ⌝ }
-    ensures { λ r. ⌜ r ≡ searchAnswer (titledIn (now (title .entry)) (now (copy .entry))) ⌝ }
+// Two titles of one length: blocks that are the same are passed over, then letters in order, up to the first that differs.
+fn compare_letters(a: &[u8], b: &[u8]) -> Compared
+    requires { ⌜ (length (now a) ≡ length (now b)) × (length (now a) ≤ titleSize) ⌝ }
+    ensures { λ r. ⌜ (r .same ≡ pairwise sameLetter (now (a .entry)) (now (b .entry))) × (r .letters ≡ lettersCompared (now (a .entry)) (now (b .entry))) ⌝ }
 {
-    let mut count: u32 = 0;
-    let mut last: u32 = 0;
-    let mut c: u32 = 0;
-    while c < Cart::COUNT {
-        c += 1;
-        if is_titled(cart::cart_at(copy, c), title) {
-            count += 1;
-            last = c;
+    let mut i = same_front(a, b);
+    while i < a.len() {
+        if !same_letter(a[i], b[i]) {
+            return Compared::new(false, i as u32 + 1);
         }
+        i += 1;
     }
+    Compared::new(true, i as u32)
+}
+
+// The cart is held and has exactly the title. Letters are compared only where it is held and of the length asked.
+fn compare_title(cart: &[u8], title: &[u8]) -> Compared
+    requires { ⌜ (length (now cart) ≡ cartSize) × (length (now title) ≤ titleSize) ⌝ }
+    ensures { λ r. ⌜ (r .same ≡ titled (now (title .entry)) (now (cart .entry))) × (r .letters ≡ lettersOf (now (title .entry)) (now (cart .entry))) ⌝ }
+{
+    let held = cart::is_held(cart);
+    let fits = bytes::byte_at(cart, 1) as usize == title.len();
+    let compares = held & fits;
+    if !compares {
+        return Compared::new(false, 0);
+    }
+    compare_letters(&cart[Cart::TITLE_AT..Cart::TITLE_AT + title.len()], title)
+}
+
+// The answer for so many carts, the last of them with this number.
+fn found_of(count: u32, last: u32) -> Found
+    ensures { λ r. ⌜ r ≡ searchAnswer (replicate count last) ⌝ }
+{
     if count == 0 {
         return Found::None;
     }
@@ -73,6 +117,28 @@ pub fn search(copy: &[u8], title: &[u8]) -> Found
         return Found::One(last);
     }
     Found::Several(count)
+}
+
+// The carts of a copy that have the title, and the letters counted in all of them.
+pub fn search(copy: &[u8], title: &[u8]) -> Searched
+    requires { ⌜ (length (now copy) ≡ copySize) × (length (now title) ≤ titleSize) ⌝ }
+    ensures { λ r. ⌜ (r .found ≡ searchAnswer (titledIn (now (title .entry)) (now (copy .entry)))) × (r .letters ≡ lettersIn (now (title .entry)) (now (copy .entry))) ⌝ }
+{
+    let mut count: u32 = 0;
+    let mut last: u32 = 0;
+    let mut letters: u32 = 0;
+    let mut c: u32 = 0;
+    while c < Cart::COUNT {
+        c += 1;
+        let compared = compare_title(cart::cart_at(copy, c), title);
+        letters += compared.letters;
+        if compared.same {
+            count += 1;
+            last = c;
+        }
+    }
+    let found = found_of(count, last);
+    Searched { found, letters }
 }
 
 // How many carts a search has found.

@@ -83,7 +83,8 @@ pub fn title_agrees(copy: &[u8], title: &[u8], found: u32, shown: &[u8]) -> bool
     requires { ⌜ (length (now copy) ≡ copySize) × (length (now title) ≤ titleSize) ⌝ }
     ensures { λ r. ⌜ r ≡ titleAgrees (now (copy .entry)) (now (title .entry)) found (now (shown .entry)) ⌝ }
 {
-    let result = titles::search(copy, title);
+    let searched = titles::search(copy, title);
+    let result = searched.found;
     let count = titles::found_count(result);
     let place = text::part_of(shown, 0, Cart::SIZE);
     let Found::One(c) = result else {

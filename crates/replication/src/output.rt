@@ -58,7 +58,8 @@ fn show_title(copy: &[u8], title: &[u8], output: &mut [u8]) -> u32
     ensures { λ r. ⌜ (r ≡ length (titledIn (now (title .entry)) (now (copy .entry))))
         × (now (output .exit) ≡ over (now (output .entry)) 0 cartSize (theOne (now (copy .entry)) (titledIn (now (title .entry)) (now (copy .entry))))) ⌝ }
 {
-    let found = titles::search(copy, title);
+    let searched = titles::search(copy, title);
+    let found = searched.found;
     let Found::One(c) = found else {
         bytes::clear(&mut output[0..Cart::SIZE]);
         return titles::found_count(found);

@@ -28,19 +28,19 @@ same-requires c κs = search needs
 
 returns : tie.Need-returns
 unfolding titleAgrees zeros
-returns c = let s = c .before .before .before .before .before .before .before .before .before .args in let q = c .before .before .before .before .before .search .ensures in
+returns c = let s = c .before .before .before .before .before .before .before .before .before .args in let q = c .before .before .before .before .before .search .ensures .0 in
     ap₂ (λ n b. eqb n (s .found) && b) (c .before .before .before .before .found-count .ensures ∙ title-found (s .copy .now) (s .title .now) _ q)
     (c .same .ensures ∙ ap₂ (λ x y. pairwise eqb x y) (title-not-one (s .copy .now) (s .title .now) _ q (c .before .before .match .keys2)) (c .before .before .before .part-of .ensures))
 
 cart-at-requires : tie.Need-cart-at-requires
-cart-at-requires c κs = let s = c .before .before .before .before .before .before .before .before .before in (s .pre .0, one-within (s .args .copy .now) (s .args .title .now) _ (c .before .before .before .before .before .search .ensures) _ (c .before .result .given .1))
+cart-at-requires c κs = let s = c .before .before .before .before .before .before .before .before .before in (s .pre .0, one-within (s .args .copy .now) (s .args .title .now) _ (c .before .before .before .before .before .search .ensures .0) _ (c .before .result .given .1))
 
 same-requires-2 : tie.Need-same-requires-2
 same-requires-2 c κs = search needs
 
 returns-2 : tie.Need-returns-2
 unfolding titleAgrees
-returns-2 c = let at-found-count = c .before .before .before .before .before .before in let s = c .before .before .before .before .before .before .before .before .before .before .before .args in let q = c .before .before .before .before .before .before .before .search .ensures in
+returns-2 c = let at-found-count = c .before .before .before .before .before .before in let s = c .before .before .before .before .before .before .before .before .before .before .before .args in let q = c .before .before .before .before .before .before .before .search .ensures .0 in
     ap₂ (λ n b. eqb n (s .found) && b) (at-found-count .found-count .ensures ∙ title-found (s .copy .now) (s .title .now) _ q)
     (c .same2 .ensures ∙ ap₂ (λ x y. pairwise eqb x y) (c .before .cart-at .ensures .0 ∙ one-shown (s .copy .now) (s .title .now) _ q _ (c .before .before .before .result .given .1)) (c .before .before .before .before .before .part-of .ensures))
 

@@ -39,7 +39,7 @@ start c = c .before .before .before .before
 returns : tie.Need-returns
 returns c = let m = c .before .before .before .before .before in
     let s = start (m .before) in
-    let found = m .before .search .ensures in
+    let found = m .before .search .ensures .0 in
     let out = s .args .output .now in (
       c .found-count .ensures ∙ title-found (s .args .copy .now) (s .args .title .now) _ found,
       ap (λ (ys : List ℕ). ys ++ drop 80 out) (c .before .before .before .clear .ensures ∙ ap zeros (length-take-le 80 out (s .pre .1 .1)) ∙ title-not-one (s .args .copy .now) (s .args .title .now) _ found (m .match .keys2)),
@@ -48,7 +48,7 @@ returns c = let m = c .before .before .before .before .before in
 cart-at-requires : tie.Need-cart-at-requires
 cart-at-requires c κs = let r = c .before .before .before in
     let s = start r in
-    (s .pre .0, one-within (s .args .copy .now) (s .args .title .now) _ (r .search .ensures) _ (c .before .found .given .1))
+    (s .pre .0, one-within (s .args .copy .now) (s .args .title .now) _ (r .search .ensures .0) _ (c .before .found .given .1))
 
 sub-copy-all : tie.Need-sub-copy-all
 sub-copy-all c = search needs
@@ -69,7 +69,7 @@ returns-2 : tie.Need-returns-2
 returns-2 c = let y = c .before .before in
     let k = y .before .before .before .before in
     let s = start (k .before .before) in
-    let found = k .before .before .search .ensures in
+    let found = k .before .before .search .ensures .0 in
     let one = k .found .given .1 in
     let out = s .args .output .now in (
       one-found (s .args .copy .now) (s .args .title .now) _ found _ one,
