@@ -1,0 +1,2 @@
+-- What a title search answers, as C sees it.
+pub mod Search
