@@ -21,7 +21,7 @@ impl Bar {
         Bar { only: Some(state), ..self }
     }
 
-    pub fn covers(&self, state: &str) -> bool {
+    fn covers(&self, state: &str) -> bool {
         self.only.is_none_or(|only| only == state)
     }
 
@@ -41,7 +41,7 @@ impl Bar {
 
 pub struct Bars {
     pub layout: Bar,
-    pub calls: [(Kind, Bar); 6],
+    calls: [(Kind, Bar); 6],
     pub setup: Bar,
 }
 
@@ -58,6 +58,13 @@ impl Bars {
                 (Kind::ForwardTitle, Bar::new("forward by title / layout test", 1.3)),
             ],
             setup: Bar::new("setup / memset of 93,440 bytes", 1.5),
+        }
+    }
+
+    /// A call's ratio on a state, for the bars of its kind that cover the state.
+    pub fn see(&mut self, kind: Kind, state: &str, ratio: f64, at: &str) {
+        for (_, bar) in self.calls.iter_mut().filter(|(its_kind, bar)| *its_kind == kind && bar.covers(state)) {
+            bar.see(ratio, format!("{at}; {state}"));
         }
     }
 

@@ -14,10 +14,10 @@ pub struct Point {
     pub call: Timing,
 }
 
-fn point(race: &mut Race, at: u32, wall: &Wall, call: Call) -> Point {
+pub fn point(race: &mut Race, name: &str, at: u32, wall: &Wall, call: Call) -> Point {
     let shared = measure::share(wall);
     let layout = measure::layout(race, &shared);
-    Point { at, layout, call: measure::engine(race, "growth", &Rc::new(call), &shared) }
+    Point { at, layout, call: measure::engine(race, name, &Rc::new(call), &shared) }
 }
 
 /// Refresh of one operation by how many transactions the studio has applied: the walk's length. Memory is the same.
@@ -26,7 +26,7 @@ pub fn refresh(race: &mut Race, wall: &Wall) -> Vec<Point> {
         let mut behind = wall.clone();
         behind.control.applied[0] = applied;
         behind.control.sent[0] = applied + 1;
-        point(race, applied, &behind, Call::Refresh { studio: wall::REFRESHED })
+        point(race, "growth", applied, &behind, Call::Refresh { studio: wall::REFRESHED })
     };
     [0, 63, 126, 252, 503].map(&mut at).into()
 }
@@ -37,7 +37,7 @@ pub fn commit(race: &mut Race) -> Vec<Point> {
         let wall = Wall::full(504, each);
         let operations = units::retitle(1, &units::title(1, 64)).to_vec();
         let commits = wall.control.commits;
-        point(race, commits, &wall, Call::Commit { session: wall::READER, operations })
+        point(race, "growth", commits, &wall, Call::Commit { session: wall::READER, operations })
     };
     [8, 4, 2, 1].map(&mut at).into()
 }
@@ -46,7 +46,7 @@ pub fn commit(race: &mut Race) -> Vec<Point> {
 pub fn numbers(race: &mut Race, wall: &Wall) -> Vec<Point> {
     let mut at = |count: u32| {
         let request = units::by_numbers(count as usize);
-        point(race, count, wall, Call::Read { session: wall::READER, request })
+        point(race, "growth", count, wall, Call::Read { session: wall::READER, request })
     };
     [1, 2, 4, 8, 16, 32].map(&mut at).into()
 }

@@ -12,9 +12,11 @@ mod measure;
 mod memory;
 mod plain;
 mod scans;
+mod search;
 mod stages;
 mod states;
 mod tables;
+mod titles;
 mod undo;
 mod units;
 mod wall;
@@ -26,6 +28,7 @@ use measure::{Both, Layout, Measured};
 use scans::Scan;
 use stages::Stages;
 use states::State;
+use titles::Row;
 use wall::Wall;
 
 fn rounds() -> u32 {
@@ -46,6 +49,7 @@ struct Entered {
     setup: (Both, Entry),
     stages: Stages,
     growth: [(&'static str, Vec<Point>); 3],
+    titles: Vec<Row>,
     scans: Vec<Scan>,
 }
 
@@ -63,6 +67,7 @@ impl Entered {
                 ("commit of 1 operation, by commits before", growth::commit(race)),
                 ("read, by numbers asked", growth::numbers(race, full)),
             ],
+            titles: titles::enter(race),
             scans: scans::enter(race, typical, full),
         }
     }
@@ -86,6 +91,7 @@ impl Entered {
         for (name, points) in &self.growth {
             tables::points(race, name, points);
         }
+        tables::titles(race, &self.titles, &mut bars);
         tables::scans(race, &self.scans);
         bars.print();
     }

@@ -6,7 +6,8 @@ use crate::growth::Point;
 use crate::measure::{Both, Layout, Measured};
 use crate::scans::Scan;
 use crate::stages::Stages;
-use crate::states::State;
+use crate::states::{FULL, Kind, State};
+use crate::titles::Row;
 
 /// Prints a line, and returns the engine's time as a multiple of the floor's.
 pub fn layout(race: &Race, name: &str, layout: &Layout) -> f64 {
@@ -35,9 +36,7 @@ pub fn calls(race: &Race, state: &State, measured: &Measured, bars: &mut Bars) {
             engine - layout,
             simulator / engine
         );
-        for (_, bar) in bars.calls.iter_mut().filter(|(its_kind, bar)| its_kind == kind && bar.covers(state.name)) {
-            bar.see(engine / layout, format!("{name}; {}", state.name));
-        }
+        bars.see(*kind, state.name, engine / layout, name);
     }
 }
 
@@ -58,12 +57,28 @@ pub fn stages(race: &Race, stages: &Stages) {
     }
 }
 
+/// A point's columns, and its call as a multiple of its layout test.
+fn columns(race: &Race, point: &Point) -> (String, f64) {
+    let (layout, call) = (point.layout.time(race), point.call.time(race));
+    let ratio = call / layout;
+    (format!("{:>8} {layout:>8.0} {call:>7.0} {:>7.0} {ratio:>9.3}", point.at, call - layout), ratio)
+}
+
 pub fn points(race: &Race, name: &str, points: &[Point]) {
     println!("\nGrowth, full memory: {name}");
     println!("             layout    call  beyond  x layout");
-    for Point { at, layout, call } in points {
-        let (layout, call) = (layout.time(race), call.time(race));
-        println!("  {at:>8} {layout:>8.0} {call:>7.0} {:>7.0} {:>9.3}", call - layout, call / layout);
+    for point in points {
+        println!("  {}", columns(race, point).0);
+    }
+}
+
+pub fn titles(race: &Race, rows: &[Row], bars: &mut Bars) {
+    println!("\nRead by title, full memory, by the titles of the 128 carts in each copy; letters: those compared, lengths first");
+    println!("                                                 found  letters   layout    read  beyond  x layout");
+    for Row { name, found, point } in rows {
+        let (columns, ratio) = columns(race, point);
+        println!("  {name:<46} {found:>5} {columns}");
+        bars.see(Kind::Title, FULL, ratio, &format!("read, title: {name}"));
     }
 }
 

@@ -110,20 +110,25 @@ impl Wall {
     /// Four studios, sixteen sessions, five copies of 128 held carts with titles of 64 letters, and a log of so many
     /// records in transactions of so many operations.
     pub fn full(records: usize, operations: usize) -> Wall {
+        Wall::titled(records, operations, |cart| units::title(cart, 64))
+    }
+
+    /// The same with other titles, one for each cart.
+    pub fn titled(records: usize, operations: usize, title: impl Fn(usize) -> Vec<u8>) -> Wall {
         assert!(records <= RECORDS && records.is_multiple_of(operations));
         let mut wall = Wall::fresh(4, [1, 1, 1, 2, 2, 1, 3, 4, 3, 4, 3, 4, 3, 4, 3, 4]);
         let all: Vec<[u8; UNIT]> = (0..records)
             .map(|i| {
                 let cart = i % CARTS + 1;
                 let make = if i < CARTS { units::new } else { units::retitle };
-                make(cart, &units::title(cart, 64))
+                make(cart, &title(cart))
             })
             .collect();
         for transaction in all.chunks(operations) {
             wall.commit(transaction);
         }
         wall.catch_up();
-        wall.put_sessions(16, &units::title(7, 64));
+        wall.put_sessions(16, &title(7));
         wall
     }
 }
