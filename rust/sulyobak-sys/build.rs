@@ -19,4 +19,5 @@ fn main() {
     }
     println!("cargo:rustc-link-search=native={}", folder.display());
     println!("cargo:rustc-link-lib=static=sulyobak");
+    println!("cargo:folder={}", folder.display()); // for the build of a crate above
 }

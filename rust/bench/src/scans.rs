@@ -3,34 +3,19 @@
 use crate::clock::{Entry, Race};
 use crate::wall::Wall;
 use crate::{floor, plain, units};
+use linked::carts;
 use simulator::{CARTS, COPY, LIBRARY, LOG, SESSION_MEMORY, UNIT};
 use std::hint::black_box;
 use std::rc::Rc;
-
-unsafe extern "C" {
-    fn carts_all_zero(bytes: *const u8, len: usize) -> bool;
-    fn carts_is_copy(copy: *const u8, len: usize) -> bool;
-    fn carts_all_operations(operations: *const u8, len: usize) -> bool;
-}
 
 type Test = fn(&[u8]) -> bool;
 
 /// One test by engine, floor and plain Rust.
 type Ways = [Test; 3];
 
-/// An exported test as a function of one slice.
-macro_rules! exported {
-    ($function:ident) => {
-        |bytes: &[u8]| {
-            // SAFETY: pointer and length are of one slice, which is only read.
-            unsafe { $function(bytes.as_ptr(), bytes.len()) }
-        }
-    };
-}
-
-const ZERO: Ways = [exported!(carts_all_zero), floor::is_zero, plain::is_zero];
-const COPIES: Ways = [exported!(carts_is_copy), floor::is_copy, plain::is_copy];
-const OPERATIONS: Ways = [exported!(carts_all_operations), floor::are_operations, plain::are_operations];
+const ZERO: Ways = [carts::all_zero, floor::is_zero, plain::is_zero];
+const COPIES: Ways = [carts::is_copy, floor::is_copy, plain::is_copy];
+const OPERATIONS: Ways = [carts::all_operations, floor::are_operations, plain::are_operations];
 
 /// A scan in the race.
 pub struct Scan {

@@ -1,5 +1,7 @@
 //! The linked engine, with the simulator's functions and values: so that the comparison and the benchmark play both in the same words.
 
+pub mod carts;
+
 use simulator::{Answer, Control};
 use sulyobak_sys as sys;
 
