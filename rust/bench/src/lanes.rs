@@ -29,6 +29,13 @@ impl Lanes {
         unsafe { _mm_movemask_epi8(_mm_cmpeq_epi8(self.0, _mm_setzero_si128())) == 0xffff }
     }
 
+    /// A bit for each byte that differs, the first byte's lowest.
+    #[inline(always)]
+    pub fn differing(self, other: Lanes) -> u32 {
+        // SAFETY: every x86-64 has SSE2.
+        unsafe { _mm_movemask_epi8(_mm_cmpeq_epi8(self.0, other.0)) as u32 ^ 0xffff }
+    }
+
     /// Bytes: what self − from has above span, without a sign; zero where from ≤ self ≤ from + span.
     #[inline(always)]
     pub fn outside(self, from: Lanes, span: Lanes) -> Lanes {

@@ -13,6 +13,7 @@ mod memory;
 mod plain;
 mod scans;
 mod search;
+mod searches;
 mod stages;
 mod states;
 mod tables;
@@ -68,7 +69,7 @@ impl Entered {
                 ("read, by numbers asked", growth::numbers(race, full)),
             ],
             titles: titles::enter(race),
-            scans: scans::enter(race, typical, full),
+            scans: scans::enter(race, typical, full).into_iter().chain(searches::enter(race)).collect(),
         }
     }
 

@@ -54,11 +54,15 @@ fn agree(name: &str, ways: Ways, bytes: &[u8]) {
 
 fn scan(race: &mut Race, name: &'static str, ways: Ways, bytes: Vec<u8>) -> Scan {
     agree(name, ways, &bytes);
-    let bytes = Rc::new(bytes);
+    time(race, name, ways, &Rc::from(bytes))
+}
+
+/// The three ways in the race, on the same input.
+pub fn time<I: ?Sized + 'static, A: 'static>(race: &mut Race, name: &'static str, ways: [fn(&I) -> A; 3], input: &Rc<I>) -> Scan {
     let [engine, floor, plain] = ways.map(|way| {
-        let bytes = Rc::clone(&bytes);
+        let input = Rc::clone(input);
         race.add(move || {
-            black_box(way(black_box(&bytes)));
+            black_box(way(black_box(&input)));
         })
     });
     Scan { name, engine, floor, plain }

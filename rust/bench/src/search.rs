@@ -1,49 +1,56 @@
-//! The search of a copy for a title as one writes it in Rust: lengths first, then the letters up to the first that differs (02's S-5).
+//! The search of a copy for a title by hand: lengths first, then the letters up to the first that differs (02's S-5).
 
-use simulator::{COPY, UNIT};
+use crate::lanes::Lanes;
+use simulator::{COPY, Search, UNIT};
 
-/// What a search answers: kind 0 none, 1 one (value: the cart's number), 2 several (value: how many), 3 a wrong length.
-#[derive(Clone, Copy, Debug, Default, PartialEq, Eq)]
-pub struct Searched {
-    pub kind: u32,
-    pub value: u32,
-    /// How many letters were compared.
-    pub letters: u32,
+const LETTERS: usize = 64;
+
+/// How many carts have the title.
+pub fn found(search: Search) -> u32 {
+    if search.kind == 1 { 1 } else { search.value }
 }
 
-impl Searched {
-    /// Of so many carts with the title, the last of which has this number.
-    fn new(found: u32, last: u32, letters: usize) -> Searched {
-        let value = if found == 1 { last } else { found };
-        Searched { kind: found.min(2), value, letters: letters as u32 }
-    }
-
-    /// How many carts have the title.
-    pub fn found(self) -> u32 {
-        if self.kind == 1 { 1 } else { self.value }
-    }
-}
-
-fn are_lengths(copy: &[u8], title: &[u8]) -> bool {
-    copy.len() == COPY && (1..=64).contains(&title.len())
-}
-
-/// The search in plain Rust.
-#[inline(never)]
-pub fn plain(copy: &[u8], title: &[u8]) -> Searched {
-    if !are_lengths(copy, title) {
-        return Searched { kind: 3, ..Searched::default() };
+/// The search with one way to tell how many first letters of a cart are those of the title.
+#[inline(always)]
+fn search(copy: &[u8], title: &[u8], equal: impl Fn(&[u8; UNIT]) -> usize) -> Search {
+    if copy.len() != COPY || !(1..=LETTERS).contains(&title.len()) {
+        return Search { kind: 3, ..Search::default() };
     }
     let (mut found, mut last, mut letters) = (0, 0, 0);
     for (number, cart) in (1..).zip(copy.as_chunks::<UNIT>().0) {
         if cart[0] != 1 || usize::from(cart[1]) != title.len() {
             continue;
         }
-        let differs = cart[16..].iter().zip(title).position(|(one, other)| one != other);
-        letters += differs.map_or(title.len(), |at| at + 1);
-        if differs.is_none() {
+        let equal = equal(cart);
+        letters += title.len().min(equal + 1);
+        if equal >= title.len() {
             (found, last) = (found + 1, number);
         }
     }
-    Searched::new(found, last, letters)
+    let value = if found == 1 { last } else { found };
+    Search { kind: found.min(2), value, letters: letters as u32 }
+}
+
+/// In plain Rust: a loop over the letters that ends at the first that differs.
+#[inline(never)]
+pub fn plain(copy: &[u8], title: &[u8]) -> Search {
+    search(copy, title, |cart| cart[16..].iter().zip(title).take_while(|(one, other)| one == other).count())
+}
+
+/// The floor: 16 letters at a time by SSE2, and the place of the first bit of those that differ.
+#[inline(never)]
+pub fn floor(copy: &[u8], title: &[u8]) -> Search {
+    let mut asked = [0; LETTERS];
+    let length = title.len().min(LETTERS);
+    asked[..length].copy_from_slice(&title[..length]);
+    let parts = [0, 16, 32, 48].map(|at| Lanes::load(&asked, at));
+    search(copy, title, |cart| {
+        for (at, part) in (0..length).step_by(16).zip(parts) {
+            let differing = Lanes::load(cart, 16 + at).differing(part);
+            if differing != 0 {
+                return at + differing.trailing_zeros() as usize;
+            }
+        }
+        LETTERS
+    })
 }

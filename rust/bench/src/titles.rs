@@ -19,7 +19,7 @@ const NAME: &[u8] = b"Radio Sulyobak Budapest:";
 const TEXT: &[u8; 64] = b"Radio Sulyobak Budapest: sponsor's jingle for the breakfast show";
 
 /// The cart whose title is asked: no other has its first mark.
-const ASKED: usize = 64;
+pub const ASKED: usize = 64;
 
 /// The text's first letters, with a cart's two marks at these places. There are 94 first marks: every letter but the space.
 fn marked(cart: usize, length: usize, [first, second]: [usize; 2]) -> Vec<u8> {
@@ -30,11 +30,11 @@ fn marked(cart: usize, length: usize, [first, second]: [usize; 2]) -> Vec<u8> {
 }
 
 /// 94 of the titles share 63 letters, the others 62 with these.
-fn nearly_all_shared(cart: usize) -> Vec<u8> {
+pub fn nearly_all_shared(cart: usize) -> Vec<u8> {
     marked(cart, 64, [63, 62])
 }
 
-fn name_shared(cart: usize) -> Vec<u8> {
+pub fn name_shared(cart: usize) -> Vec<u8> {
     marked(cart, 64, [NAME.len(), 63])
 }
 
@@ -43,7 +43,7 @@ fn none_shared(cart: usize) -> Vec<u8> {
 }
 
 /// Four carts of each length from 33 to 64.
-fn of_different_lengths(cart: usize) -> Vec<u8> {
+pub fn of_different_lengths(cart: usize) -> Vec<u8> {
     let length = 64 - cart % 32;
     marked(cart, length, [NAME.len(), length - 1])
 }
@@ -53,7 +53,7 @@ fn row(race: &mut Race, name: &'static str, title: fn(usize) -> Vec<u8>, asked: 
     let call = Call::Read { session: wall::READER, request: units::by_title(asked) };
     let searched = search::plain(&wall.memory.library[COPY..2 * COPY], asked);
     let found = call::play(&call, &mut wall.memory.clone(), &wall.control, &mut [0; 2560]).found;
-    assert_eq!(found, searched.found(), "{name}: as many are found");
+    assert_eq!(found, search::found(searched), "{name}: as many are found");
     Row { name, found, point: growth::point(race, name, searched.letters, &wall, call) }
 }
 
