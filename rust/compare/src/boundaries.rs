@@ -3,7 +3,9 @@
 use crate::keys::{APPLIED, Asked, COLLECT_SPACES, COMMIT, DONE, Edit, Key, PREVIEW, READ, READ_ASKED, READ_SPACES, Reading, SENT_OVER};
 use crate::keys::{FORWARD_ASKED, FORWARD_COMMITS, FORWARD_HIGH, FORWARD_IN_LIST, FORWARD_NUMBER, FORWARD_RAISED, FORWARD_SPACES};
 use crate::keys::{FORWARD_STUDIO, FORWARD_UNMADE, HEAD_END, WAITED};
+use crate::keys::{NONE, ONE, SEARCH_BOTH, SEARCH_BYTE, SEARCH_BYTE_0, SEARCH_CART, SEARCH_COPY, SEARCH_DIFFERS, SEARCH_FOUND};
 use crate::keys::{RAISED_BEHIND, RAISED_FROM, RAISED_HIGH, REFUSED_AT, REFUSED_IN_LIST};
+use crate::keys::{SEARCH_LAST, SEARCH_LENGTH, SEARCH_LENGTH_BYTE, SEARCH_LETTERS, SEARCH_TITLE, SEVERAL, WRONG_LENGTH};
 
 /// −1 as it is kept in a key.
 const LESS: u32 = u32::MAX;
@@ -12,7 +14,33 @@ const HUGE: u32 = u32::MAX;
 pub fn all() -> Vec<Key> {
     let spaces = [reading(&READ_SPACES, WAITED), reading(&COLLECT_SPACES, WAITED), reading(&FORWARD_SPACES, HEAD_END)].concat();
     let asked = [asked(&READ_ASKED, WAITED), asked(&FORWARD_ASKED, HEAD_END)].concat();
-    [edit(&COMMIT), edit(&PREVIEW), taken(), asked, forward(), spaces, OTHERS.to_vec()].concat()
+    [edit(&COMMIT), edit(&PREVIEW), taken(), asked, forward(), spaces, searches(), OTHERS.to_vec()].concat()
+}
+
+/// Those of a title search. The lengths 320 and 65,537 have a right length as their low byte or bytes, as has a copy of 75,776.
+fn searches() -> Vec<Key> {
+    let ends = [NONE, ONE].map(|end| {
+        numbered(&[
+            (SEARCH_TITLE, &[1, 64], end),
+            (SEARCH_LETTERS, &[1, 64], end),
+            (SEARCH_DIFFERS, &[1, 2, 16, 17, 32, 33, 48, 49, 63, 64], end),
+            (SEARCH_LAST, &[1, 33, 63], end),
+            (SEARCH_LENGTH, &[LESS, 1], end),
+            (SEARCH_BYTE_0, &[0, 2, 255], end),
+        ])
+    });
+    let others = numbered(&[
+        (SEARCH_COPY, &[0, 10_239, 10_241, 75_776], WRONG_LENGTH),
+        (SEARCH_TITLE, &[0, 65, 320, 65_537], WRONG_LENGTH),
+        (SEARCH_BOTH, &[0, 65], WRONG_LENGTH),
+        (SEARCH_LETTERS, &[0, 8_192], NONE),
+        (SEARCH_LETTERS, &[8_192], SEVERAL),
+        (SEARCH_CART, &[1, 128], ONE),
+        (SEARCH_FOUND, &[2, 3, 128], SEVERAL),
+        (SEARCH_LENGTH_BYTE, &[0, 65, 255], NONE),
+        (SEARCH_BYTE, &[0, 31, 127, 128, 255], ONE),
+    ]);
+    [ends.concat(), others].concat()
 }
 
 /// Those of a read or of a forward; `behind` is how it ends where the studio has not reached the session's number.

@@ -26,6 +26,8 @@ pub struct Coverage {
     /// Entries that are commits refused with 8, and that are forwards.
     pub refusals: u64,
     pub forwards: u64,
+    /// Title searches.
+    pub searches: u64,
 }
 
 impl Coverage {
@@ -256,6 +258,7 @@ impl Coverage {
         self.entries += other.entries;
         self.refusals += other.refusals;
         self.forwards += other.forwards;
+        self.searches += other.searches;
     }
 }
 

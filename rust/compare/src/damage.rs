@@ -38,6 +38,12 @@ pub fn damage(random: &mut Random, wall: &mut Wall) -> Option<Damage> {
     }
 }
 
+/// Puts one field of a held cart of the layout out of its rule.
+pub fn held_cart(random: &mut Random, unit: &mut [u8]) {
+    let changes: Vec<Change> = UNITS.iter().filter(|(_, place, _)| *place == Place::HeldCart).map(|(.., change)| *change).collect();
+    random.pick(&changes)(random, unit);
+}
+
 /// One unit of a kind, counted from 0 in its memory.
 fn find(random: &mut Random, place: Place, lent: &mut Lent, control: &Control) -> Option<usize> {
     let units = places::find(place, lent, control);

@@ -1,7 +1,8 @@
 //! The comparison after a call, and the place of the first difference.
 
 use crate::lent::{Lent, Part};
-use simulator::{Answer, COPY, Control, UNIT};
+use crate::sought::Sought;
+use simulator::{Answer, COPY, Control, Search, UNIT};
 
 /// The first difference between the right end of a call and the engine's, in
 /// words; `by` names who says what is right.
@@ -12,8 +13,19 @@ pub fn first_difference(by: &str, right: (&Answer, &Lent), played: (&Answer, &Le
         .or_else(|| part_difference(by, "library", (&lent.library, &other.library), cart_place))
         .or_else(|| part_difference(by, "log", (&lent.log, &other.log), record_place))
         .or_else(|| part_difference(by, "sessions", (&lent.sessions, &other.sessions), session_place))
-        .or_else(|| part_difference(by, "output", (&lent.output, &other.output), output_place))
-        .or_else(|| part_difference(by, "const input", (&lent.input, &other.input), output_place))
+        .or_else(|| part_difference(by, "output", (&lent.output, &other.output), unit_place))
+        .or_else(|| part_difference(by, "const input", (&lent.input, &other.input), unit_place))
+}
+
+/// The first difference between a title search's right end, by the simulator, and the engine's.
+pub fn search_difference(right: (Search, &Sought), played: (Search, &Sought)) -> Option<String> {
+    let (search, sought) = right;
+    let (other_search, other) = played;
+    if search != other_search {
+        return Some(format!("answer: simulator {search:?}, engine {other_search:?}"));
+    }
+    part_difference("simulator", "copy", (&sought.copy, &other.copy), unit_place)
+        .or_else(|| part_difference("simulator", "title", (&sought.title, &other.title), unit_place))
 }
 
 fn answer_difference(by: &str, right: &Answer, played: &Answer) -> Option<String> {
@@ -87,6 +99,6 @@ fn session_place(at: usize) -> String {
     format!("session {}, byte {}", at / UNIT + 1, at % UNIT)
 }
 
-fn output_place(at: usize) -> String {
+fn unit_place(at: usize) -> String {
     format!("unit {}, byte {}", at / UNIT + 1, at % UNIT)
 }

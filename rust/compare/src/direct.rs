@@ -52,12 +52,17 @@ fn fill_log(random: &mut Random, maker: &Maker, wall: &mut Wall, control: &mut C
 fn fill_copies(random: &mut Random, maker: &Maker, wall: &mut Wall, studios: usize) {
     let library = wall.played.library.lent_mut();
     for copy in library.chunks_exact_mut(COPY).take(studios + 1) {
-        let held = *random.pick(&[0, 10, 50, 90, 100]);
-        for (cart, unit) in (1..).zip(copy.chunks_exact_mut(UNIT)) {
-            let likely = if maker.carts.contains(&cart) { held.max(40) } else { held };
-            if random.percent(likely) {
-                unit.copy_from_slice(&maker.held_cart(random, cart));
-            }
+        fill_copy(random, maker, copy);
+    }
+}
+
+/// Carts of the layout in an empty copy, as many as chance has it.
+pub fn fill_copy(random: &mut Random, maker: &Maker, copy: &mut [u8]) {
+    let held = *random.pick(&[0, 10, 50, 90, 100]);
+    for (cart, unit) in (1..).zip(copy.chunks_exact_mut(UNIT)) {
+        let likely = if maker.carts.contains(&cart) { held.max(40) } else { held };
+        if random.percent(likely) {
+            unit.copy_from_slice(&maker.held_cart(random, cart));
         }
     }
 }

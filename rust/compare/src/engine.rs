@@ -2,11 +2,15 @@
 
 use crate::call::Call;
 use crate::lent::Lent;
-use simulator::{Answer, Control};
+use crate::sought::Sought;
+use simulator::{Answer, Control, Search};
 
 pub trait Engine {
     /// Plays a call. Its input and output are already lent.
     fn play(&mut self, call: &Call, control: Control, lent: &mut Lent) -> Answer;
+
+    /// Searches a copy for a title.
+    fn search(&mut self, sought: &mut Sought) -> Search;
 }
 
 /// Plays a call by one of the two crates that have a function for each.
@@ -39,13 +43,21 @@ impl Engine for Simulated {
     fn play(&mut self, call: &Call, control: Control, lent: &mut Lent) -> Answer {
         simulate(call, control, lent)
     }
+
+    fn search(&mut self, sought: &mut Sought) -> Search {
+        sought.simulate()
+    }
 }
 
-/// The engine of libsulyobak.a.
+/// The engine of libsulyobak.a, and the search of libcarts_c.a.
 pub struct Linked;
 
 impl Engine for Linked {
     fn play(&mut self, call: &Call, control: Control, lent: &mut Lent) -> Answer {
         play!(linked, call, control, lent)
+    }
+
+    fn search(&mut self, sought: &mut Sought) -> Search {
+        linked::carts::search(sought.copy.lent(), sought.title.lent())
     }
 }

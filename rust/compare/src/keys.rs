@@ -7,6 +7,12 @@ pub const WAITED: u32 = 102;
 /// A forward that the head end answered; one that the studio answered is a [`READ`].
 pub const HEAD_END: u32 = 103;
 
+/// How a title search ended: its kind, counted from here.
+pub const NONE: u32 = 104;
+pub const ONE: u32 = 105;
+pub const SEVERAL: u32 = 106;
+pub const WRONG_LENGTH: u32 = 107;
+
 /// Subject, the number met, and how the call ended.
 pub type Key = (&'static str, u32, u32);
 
@@ -54,6 +60,29 @@ pub const FORWARD_TOLD: &str = "next forward after a refusal 8 that raised the n
 pub const COLLECT_KEPT: &str = "collect of a read because of which 4 refused a forward";
 /// A list whose order has entries of reads, of collects and of forwards.
 pub const MIXED: &str = "list with reads, collects and forwards in its order";
+
+/// Title searches: each kind, and the lengths of the copy and of the title, where the other one is right and where it is not.
+pub const SEARCH: &str = "search";
+pub const SEARCH_COPY: &str = "search, copy bytes";
+pub const SEARCH_TITLE: &str = "search, title bytes";
+pub const SEARCH_BOTH: &str = "search in a copy of a wrong length, title bytes";
+/// The letters compared, the one cart's number, and how many carts have the title where not one has.
+pub const SEARCH_LETTERS: &str = "search, letters compared";
+pub const SEARCH_CART: &str = "search, the one cart";
+pub const SEARCH_FOUND: &str = "search, carts with the title";
+/// In a held cart of the length asked: the first letter that differs, of 64; and the length where it is the last letter.
+pub const SEARCH_DIFFERS: &str = "search for 64 letters, first that differs";
+pub const SEARCH_LAST: &str = "search, the last letter alone differs in a title of";
+/// A held cart of another length, all shared letters equal: how much longer it is, 2 standing for more too; and its length byte.
+pub const SEARCH_LENGTH: &str = "search, held cart with the letters, its length − the length asked";
+pub const SEARCH_LENGTH_BYTE: &str = "search, held cart with the letters and another length, byte 1";
+/// A cart that is not held, with the length and the letters: its byte 0.
+pub const SEARCH_BYTE_0: &str = "search, cart with length and letters that is not held, byte 0";
+/// A cart that has the title: with bytes 2 and 3 that are not its place, and with a byte after its title.
+pub const SEARCH_NUMBER: &str = "search, cart with the title and another number";
+pub const SEARCH_AFTER: &str = "search, cart with the title and a byte after it";
+/// A byte outside 32 to 126 in a title that one cart has.
+pub const SEARCH_BYTE: &str = "search for a title with byte";
 
 /// The subjects of a call that is handed a request and an output: read or forward.
 pub struct Asked {

@@ -15,6 +15,7 @@ mod guided;
 mod keys;
 mod left;
 mod lent;
+mod letters;
 mod lists;
 mod log;
 mod make;
@@ -28,8 +29,10 @@ mod report;
 mod required;
 mod rows;
 mod run;
+mod searches;
 mod self_check;
 mod single;
+mod sought;
 mod spaces;
 mod sweep;
 mod taken;
@@ -70,8 +73,8 @@ fn exit(passed: bool) -> ExitCode {
 
 fn one_list(make: Make, seed: u64) -> bool {
     match run::play_lists(&mut *make(), (seed, 1), 1) {
-        Ok((_, calls)) => {
-            println!("list {seed} ({}): {calls} calls, no mismatch", lists::kind(seed))
+        Ok((coverage, calls)) => {
+            println!("list {seed} ({}): {calls} calls and {} searches, no mismatch", lists::kind(seed), coverage.searches)
         }
         Err(found) => {
             run::print_mismatch(&found);
@@ -85,7 +88,7 @@ fn compare(make: Make, options: &Options) -> bool {
     match run::play_on_threads(make, options.seed, options.calls, options.threads) {
         Ok((coverage, calls)) => {
             let missing = report::print(&coverage);
-            println!("{calls} calls compared, no mismatch");
+            println!("{calls} calls and {} searches compared, no mismatch", coverage.searches);
             missing == 0
         }
         Err(found) => {

@@ -2,13 +2,14 @@
 
 use crate::call::Call;
 use crate::coverage::Coverage;
-use crate::differ::{answer_text, first_difference};
+use crate::differ::{answer_text, first_difference, search_difference};
 use crate::engine::{Engine, simulate};
 use crate::keys::{FORWARD_IN_LIST, HEAD_END, PREVIEWED, PREVIEWED_IN_LIST, READ, REFUSED_IN_LIST};
 use crate::left;
 use crate::lent::Lent;
 use crate::one_copy::History;
 use crate::rows;
+use crate::sought::Sought;
 use crate::wall::Wall;
 use crate::watch;
 use simulator::{Answer, Control, REFUSED};
@@ -26,7 +27,7 @@ pub struct Player<'e> {
     /// Without it only the one-copy order is checked.
     compares: bool,
     pub coverage: Coverage,
-    /// Calls of this list and of all lists.
+    /// Calls and searches of this list, and calls of all lists.
     pub call_number: u64,
     pub calls: u64,
     scratch: Option<Wall>,
@@ -123,6 +124,20 @@ impl<'e> Player<'e> {
             Some((commit, _)) => self.play(wall, &commit).map(|_| ()),
             None => Ok(()),
         }
+    }
+
+    /// Plays a title search, which is no call and changes nothing.
+    pub fn search(&mut self, sought: &Sought) -> Result<(), Mismatch> {
+        self.call_number += 1;
+        watch::call_begins(self.call_number, sought);
+        let expected = sought.simulate();
+        let mut played = sought.clone();
+        let search = self.engine.search(&mut played);
+        if let Some(words) = search_difference((expected, sought), (search, &played)) {
+            return Err(self.mismatch(sought.to_string(), words));
+        }
+        self.coverage.note_search(sought.copy.lent(), sought.title.lent(), search);
+        Ok(())
     }
 
     /// Checks the one-copy order of a whole list.

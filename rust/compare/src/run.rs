@@ -4,6 +4,7 @@ use crate::coverage::Coverage;
 use crate::engine::Engine;
 use crate::lists;
 use crate::player::{Mismatch, Player};
+use crate::searches;
 
 /// As much stack as a main thread has.
 const STACK: usize = 8 << 20;
@@ -13,12 +14,13 @@ pub struct Found {
     pub mismatch: Mismatch,
 }
 
-/// Plays lists of seeds `seed`, `seed` + step, … until enough calls were made.
+/// Plays lists and searches of seeds `seed`, `seed` + step, … until enough calls were made.
 pub fn play_lists(engine: &mut dyn Engine, (seed, step): (u64, u64), calls: u64) -> Result<(Coverage, u64), Found> {
     let mut player = Player::new(engine, true);
     let mut seed = seed;
     while player.calls < calls {
-        lists::play(&mut player, seed).map_err(|mismatch| Found { seed, mismatch })?;
+        let played = lists::play(&mut player, seed).and_then(|()| searches::play(&mut player, seed));
+        played.map_err(|mismatch| Found { seed, mismatch })?;
         seed = seed.wrapping_add(step);
     }
     let calls = player.calls;

@@ -1,7 +1,7 @@
 //! A watch on the calls: names lists and calls when asked to, and ends the run
 //! when a call does not end.
 
-use crate::call::Call;
+use std::fmt::Display;
 use std::sync::atomic::{AtomicBool, AtomicU64, Ordering};
 use std::time::Duration;
 
@@ -35,7 +35,7 @@ pub fn list_begins(seed: u64) {
     }
 }
 
-pub fn call_begins(number: u64, call: &Call) {
+pub fn call_begins(number: u64, call: &impl Display) {
     CALLS.fetch_add(1, Ordering::Relaxed);
     if CALLS_NAMED.load(Ordering::Relaxed) {
         eprintln!("call {number}: {call}");

@@ -4,7 +4,8 @@ use crate::call::Call;
 use crate::engine::simulate;
 use crate::left;
 use crate::lent::Lent;
-use simulator::{Answer, Control};
+use crate::sought::Sought;
+use simulator::{Answer, Control, Search};
 use std::collections::BTreeMap;
 
 /// What a wrong engine keeps between calls.
@@ -15,12 +16,14 @@ pub struct Notes {
 }
 
 pub type Play = fn(&mut Notes, &Call, Control, &mut Lent) -> Answer;
+pub type Seek = fn(&mut Sought) -> Search;
 
-/// A mistake: its name, and the simulator with it.
+/// A mistake: its name, and the simulator with it, in calls or in searches.
 #[derive(Clone, Copy)]
 pub struct Mistake {
     pub name: &'static str,
     pub play: Play,
+    pub search: Seek,
     /// One of 01's "Mistakes this trade has made", or one that demand 3 shows:
     /// the one-copy order alone must catch it too.
     pub breaks_order: bool,
@@ -28,12 +31,17 @@ pub struct Mistake {
 
 /// A mistake that the comparison must catch.
 pub const fn mistake(name: &'static str, play: Play) -> Mistake {
-    Mistake { name, play, breaks_order: false }
+    Mistake { name, play, search: |sought| sought.simulate(), breaks_order: false }
 }
 
 /// A mistake that the one-copy order alone must catch as well.
 pub const fn order_mistake(name: &'static str, play: Play) -> Mistake {
-    Mistake { name, play, breaks_order: true }
+    Mistake { name, play, search: |sought| sought.simulate(), breaks_order: true }
+}
+
+/// A mistake of the title search.
+pub const fn search_mistake(name: &'static str, search: Seek) -> Mistake {
+    Mistake { name, play: |_, call, control, lent| right(call, control, lent), search, breaks_order: false }
 }
 
 /// An answer of a number without a control change.

@@ -8,6 +8,7 @@ mod layouts;
 mod mistake;
 mod previews;
 mod reads;
+mod searches;
 mod setups;
 mod spaces;
 mod studios;
@@ -16,9 +17,10 @@ mod taken;
 use crate::call::Call;
 use crate::engine::Engine;
 use crate::lent::Lent;
+use crate::sought::Sought;
 pub use mistake::Mistake;
-use mistake::{Notes, Play};
-use simulator::{Answer, Control};
+use mistake::{Notes, Play, Seek};
+use simulator::{Answer, Control, Search};
 
 pub fn all() -> Vec<Mistake> {
     let groups = [
@@ -32,23 +34,29 @@ pub fn all() -> Vec<Mistake> {
         layouts::MISTAKES,
         setups::MISTAKES,
         bounds::MISTAKES,
+        searches::MISTAKES,
     ];
     groups.concat()
 }
 
 pub struct Wrong {
     play: Play,
+    search: Seek,
     notes: Notes,
 }
 
 impl Wrong {
     pub fn new(mistake: &Mistake) -> Wrong {
-        Wrong { play: mistake.play, notes: Notes::default() }
+        Wrong { play: mistake.play, search: mistake.search, notes: Notes::default() }
     }
 }
 
 impl Engine for Wrong {
     fn play(&mut self, call: &Call, control: Control, lent: &mut Lent) -> Answer {
         (self.play)(&mut self.notes, call, control, lent)
+    }
+
+    fn search(&mut self, sought: &mut Sought) -> Search {
+        (self.search)(sought)
     }
 }
