@@ -4,8 +4,7 @@
  */
 #include "sulyobak_util.h"
 
-#include <stdio.h>
-#include <stdlib.h>
+#include "hold.h"
 #include <string.h>
 
 static uint8_t library_memory[SULYOBAK_LIBRARY_SIZE];
@@ -16,15 +15,6 @@ static sulyobak_control control;
 #define MEMORY library_memory, sizeof library_memory, log_memory, sizeof log_memory, session_memory, sizeof session_memory
 
 static const char longest[] = "0123456789012345678901234567890123456789012345678901234567890123";
-
-static void hold(int held, int line)
-{
-    if (!held) {
-        printf("util_test: line %d does not hold\n", line);
-        exit(1);
-    }
-}
-#define HOLD(condition) hold((condition) ? 1 : 0, __LINE__)
 
 static sulyobak_answer keep(sulyobak_answer answer)
 {
