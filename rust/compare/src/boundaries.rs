@@ -21,9 +21,9 @@ pub fn all() -> Vec<Key> {
 fn searches() -> Vec<Key> {
     let ends = [NONE, ONE].map(|end| {
         numbered(&[
-            (SEARCH_TITLE, &[1, 64], end),
+            (SEARCH_TITLE, &[1, 7, 8, 9, 64], end),
             (SEARCH_LETTERS, &[1, 64], end),
-            (SEARCH_DIFFERS, &[1, 2, 16, 17, 32, 33, 48, 49, 63, 64], end),
+            (SEARCH_DIFFERS, &[1, 2, 8, 9, 16, 17, 24, 25, 32, 33, 40, 41, 48, 49, 56, 57, 63, 64], end),
             (SEARCH_LAST, &[1, 33, 63], end),
             (SEARCH_LENGTH, &[LESS, 1], end),
             (SEARCH_BYTE_0, &[0, 2, 255], end),

@@ -108,11 +108,12 @@ fn change(random: &mut Random, title: &mut Vec<u8>) {
     }
 }
 
-/// Another letter at one place: at an end, in the middle, beside a multiple of 16, or anywhere.
+/// Another letter at one place: at an end, in the middle, beside a multiple of 8, or anywhere.
 fn change_letter(random: &mut Random, title: &mut [u8]) {
     let last = title.len() - 1;
     let any = random.within(0, last);
-    let at = *random.pick(&[0, 0, last, last, last / 2, 1, 15, 16, 31, 32, 47, 48, 62, 63, any]);
+    let beside = 8 * random.within(1, 7) - random.within(0, 1);
+    let at = *random.pick(&[0, 0, last, last, last / 2, 1, beside, beside, beside, beside, 62, 63, any]);
     let letter = &mut title[at.min(last)];
     *letter = *letter % 94 + 33;
 }

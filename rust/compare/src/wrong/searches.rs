@@ -7,6 +7,7 @@ use simulator::{COPY, Search, UNIT};
 pub const MISTAKES: &[Mistake] = &[
     search_mistake("search: the letter that differs is not counted", last_not_counted),
     search_mistake("search: all letters are counted though one differs", all_counted),
+    search_mistake("search: letters are counted by whole blocks of eight", whole_blocks),
     search_mistake("search: letters of a cart of another length are counted", other_length_counted),
     search_mistake("search: letters are counted only until a cart is found", counted_until_found),
     search_mistake("search: letters are counted only where carts are found", counted_where_found),
@@ -78,6 +79,13 @@ fn all_counted(sought: &mut Sought) -> Search {
     judged(sought, |cart, title| match judge(cart, title) {
         (is_match, 0) => (is_match, 0),
         (is_match, _) => (is_match, title.len()),
+    })
+}
+
+fn whole_blocks(sought: &mut Sought) -> Search {
+    judged(sought, |cart, title| {
+        let (is_match, letters) = judge(cart, title);
+        (is_match, title.len().min(letters.next_multiple_of(8)))
     })
 }
 
