@@ -33,7 +33,7 @@ bool carts_all_operations(const uint8_t *operations, size_t operations_len);
 typedef struct {
     uint32_t kind;    /* one of the four below */
     uint32_t value;   /* one: the cart's number, its place from 1; several: how many there are; none and a wrong length: 0 */
-    uint32_t letters; /* how many letters were compared, up to 8,192; a wrong length: 0 */
+    uint32_t letters; /* the letters counted, as told below, up to 8,192; a wrong length: 0 */
 } carts_searched;
 
 /* Kinds of answer. */

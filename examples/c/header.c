@@ -1,6 +1,7 @@
-/* Compiled only, as C99 and as C++: the headers stand alone, and the structs have the sizes of the engine's. */
-#include "carts.h"
+/* Compiled only, as C99 and as C++: the headers stand alone (carts.h in carts_test.c), and the structs have the sizes of the engine's. */
 #include "sulyobak_util.h"
+
+#include "carts.h"
 
 typedef char control_is_27_words[sizeof(sulyobak_control) == 27 * 4 ? 1 : -1];
 typedef char answer_is_30_words[sizeof(sulyobak_answer) == 30 * 4 ? 1 : -1];

@@ -5,6 +5,8 @@
 #include "sulyobak_util.h"
 
 #include "hold.h"
+
+#include <stdio.h>
 #include <string.h>
 
 static uint8_t library_memory[SULYOBAK_LIBRARY_SIZE];

@@ -73,7 +73,7 @@ pub fn points(race: &Race, name: &str, points: &[Point]) {
 }
 
 pub fn titles(race: &Race, rows: &[Row], bars: &mut Bars) {
-    println!("\nRead by title, full memory, by the titles of the 128 carts in each copy; letters: those compared, lengths first");
+    println!("\nRead by title, full memory, by the titles of the 128 carts in each copy; letters: as S-5 counts them");
     println!("                                                 found  letters   layout    read  beyond  x layout");
     for Row { name, found, point } in rows {
         let (columns, ratio) = columns(race, point);

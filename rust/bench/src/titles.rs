@@ -8,7 +8,7 @@ use crate::units;
 use crate::wall::{self, Wall};
 use simulator::COPY;
 
-/// A read on a wall with these titles; its point stands at the letters that are compared, lengths first.
+/// A read on a wall with these titles; its point stands at the letters that S-5 counts.
 pub struct Row {
     pub name: &'static str,
     pub found: u32,

@@ -1,4 +1,4 @@
-//! The comparison after a call, and the place of the first difference.
+//! The comparison after a call or a title search, and the place of the first difference.
 
 use crate::lent::{Lent, Part};
 use crate::sought::Sought;

@@ -61,12 +61,11 @@ pub const COLLECT_KEPT: &str = "collect of a read because of which 4 refused a f
 /// A list whose order has entries of reads, of collects and of forwards.
 pub const MIXED: &str = "list with reads, collects and forwards in its order";
 
-/// Title searches: each kind, and the lengths of the copy and of the title, where the other one is right and where it is not.
-pub const SEARCH: &str = "search";
+/// Title searches: the lengths of the copy and of the title, where the other one is right and where it is not.
 pub const SEARCH_COPY: &str = "search, copy bytes";
 pub const SEARCH_TITLE: &str = "search, title bytes";
 pub const SEARCH_BOTH: &str = "search in a copy of a wrong length, title bytes";
-/// The letters compared, the one cart's number, and how many carts have the title where not one has.
+/// The letters compared, the one cart's number, and how many carts have the title where it is not one.
 pub const SEARCH_LETTERS: &str = "search, letters compared";
 pub const SEARCH_CART: &str = "search, the one cart";
 pub const SEARCH_FOUND: &str = "search, carts with the title";

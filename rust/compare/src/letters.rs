@@ -1,15 +1,15 @@
 //! What is met of title searches (02's S-5).
 
 use crate::coverage::Coverage;
-use crate::keys::{NONE, ONE, SEARCH, SEARCH_AFTER, SEARCH_BOTH, SEARCH_BYTE, SEARCH_CART, SEARCH_COPY, SEARCH_DIFFERS, SEARCH_FOUND};
+use crate::keys::{NONE, ONE, SEARCH_AFTER, SEARCH_BOTH, SEARCH_BYTE, SEARCH_CART, SEARCH_COPY, SEARCH_DIFFERS, SEARCH_FOUND};
 use crate::keys::{SEARCH_BYTE_0, SEARCH_LAST, SEARCH_LENGTH, SEARCH_LENGTH_BYTE, SEARCH_LETTERS, SEARCH_NUMBER, SEARCH_TITLE};
+use crate::sought;
 use simulator::{COPY, Search, UNIT};
 
 impl Coverage {
     pub fn note_search(&mut self, copy: &[u8], title: &[u8], search: Search) {
         self.searches += 1;
         let end = NONE + search.kind;
-        self.count((SEARCH, 0, end));
         match (copy.len() == COPY, (1..=64).contains(&title.len())) {
             (true, true) => self.note_searched(copy, title, search, end),
             (true, false) => self.count((SEARCH_TITLE, title.len() as u32, end)),
@@ -37,7 +37,7 @@ impl Coverage {
 
     fn note_cart(&mut self, number: u16, cart: &[u8], title: &[u8], end: u32) {
         let (asked, length) = (title.len(), usize::from(cart[1]));
-        let shared = cart[16..].iter().zip(title).take_while(|(one, other)| one == other).count();
+        let shared = sought::shared(cart, title);
         match (cart[0], shared == asked) {
             (1, true) if length == asked => self.note_match(number, cart, end),
             (1, false) if length == asked => self.note_difference(shared as u32 + 1, asked as u32, end),
@@ -45,7 +45,7 @@ impl Coverage {
                 self.count((SEARCH_LENGTH, (length as i64 - asked as i64).clamp(-2, 2) as u32, end));
                 self.count((SEARCH_LENGTH_BYTE, length as u32, end));
             }
-            (byte, true) if byte != 1 && length == asked => self.count((SEARCH_BYTE_0, u32::from(byte), end)),
+            (byte, true) if length == asked => self.count((SEARCH_BYTE_0, u32::from(byte), end)),
             _ => {}
         }
     }

@@ -1,4 +1,4 @@
-//! Plays a call on the simulator and on the engine and compares them.
+//! Plays a call or a title search on the simulator and on the engine and compares them.
 
 use crate::call::Call;
 use crate::coverage::Coverage;

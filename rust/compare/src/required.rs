@@ -5,7 +5,7 @@ use crate::damage;
 use crate::keys::{COLLECT_FORWARDED, COLLECT_KEPT, FORWARD_AGAIN, FORWARD_AGAIN_ALONE, FORWARD_TOLD, MIXED};
 use crate::keys::{COLLECT_TOLD, RAISED, RAISED_UNREACHED, READ_TOLD, READ_TOLD_ALONE};
 use crate::keys::{DONE, HEAD_END, Key, LENGTHS, PREVIEWED, PREVIEWED_IN_LIST, READ, WAITED};
-use crate::keys::{NONE, ONE, SEARCH, SEARCH_AFTER, SEARCH_NUMBER, SEVERAL, WRONG_LENGTH};
+use crate::keys::{NONE, ONE, SEARCH_AFTER, SEARCH_NUMBER, SEVERAL, WRONG_LENGTH};
 use crate::keys::{READ_FORWARDED, READ_FORWARDED_ALONE, READ_STRAIGHT};
 use crate::older;
 use crate::places;
@@ -101,7 +101,6 @@ pub fn lines() -> Vec<Line> {
     lines.push(Line::Ended((older::NAME, 0, DONE)));
     lines.extend(told().map(Line::Ended));
     lines.extend(forwarded().map(Line::Ended));
-    lines.extend([NONE, ONE, SEVERAL, WRONG_LENGTH].map(|end| Line::Ended((SEARCH, 0, end))));
     lines.extend([SEARCH_NUMBER, SEARCH_AFTER].map(|subject| Line::Ended((subject, 0, ONE))));
     lines
 }

@@ -83,12 +83,11 @@ fn alike(random: &mut Random, maker: &Maker, copy: &mut [u8]) {
 /// The title of one of the carts, or one near it.
 fn title(random: &mut Random, copy: &[u8]) -> Vec<u8> {
     let titled: Vec<&[u8]> = copy.chunks_exact(UNIT).filter(|cart| (1..=64).contains(&cart[1])).collect();
-    let mut title = match titled.is_empty() {
-        true => vec![random.byte(); random.within(1, 64)],
-        false => {
-            let cart = *random.pick(&titled);
-            cart[16..16 + usize::from(cart[1])].to_vec()
-        }
+    let mut title = if titled.is_empty() {
+        vec![random.byte(); random.within(1, 64)]
+    } else {
+        let cart = *random.pick(&titled);
+        cart[16..16 + usize::from(cart[1])].to_vec()
     };
     if random.percent(65) {
         change(random, &mut title);

@@ -22,6 +22,16 @@ impl Sought {
     }
 }
 
+/// Whether two letters are the same in matching.
+pub fn same_letter(one: &u8, other: &u8) -> bool {
+    one == other
+}
+
+/// How many first letters of a cart are those of the title.
+pub fn shared(cart: &[u8], title: &[u8]) -> usize {
+    cart[16..].iter().zip(title).take_while(|(one, other)| same_letter(one, other)).count()
+}
+
 impl fmt::Display for Sought {
     fn fmt(&self, f: &mut fmt::Formatter<'_>) -> fmt::Result {
         let Sought { copy, title } = self;

@@ -2,19 +2,11 @@
 
 use simulator::Search;
 
-/// What `carts_search` answers.
-#[repr(C)]
-struct Searched {
-    kind: u32,
-    value: u32,
-    letters: u32,
-}
-
 unsafe extern "C" {
     fn carts_all_zero(bytes: *const u8, len: usize) -> bool;
     fn carts_is_copy(copy: *const u8, len: usize) -> bool;
     fn carts_all_operations(operations: *const u8, len: usize) -> bool;
-    fn carts_search(copy: *const u8, copy_len: usize, title: *const u8, title_len: usize) -> Searched;
+    fn carts_search(copy: *const u8, copy_len: usize, title: *const u8, title_len: usize) -> Search;
 }
 
 /// Every byte is zero.
@@ -42,6 +34,5 @@ pub fn all_operations(operations: &[u8]) -> bool {
 #[inline]
 pub fn search(copy: &[u8], title: &[u8]) -> Search {
     // SAFETY: each pointer comes with its length from one slice, which is only read.
-    let Searched { kind, value, letters } = unsafe { carts_search(copy.as_ptr(), copy.len(), title.as_ptr(), title.len()) };
-    Search { kind, value, letters }
+    unsafe { carts_search(copy.as_ptr(), copy.len(), title.as_ptr(), title.len()) }
 }

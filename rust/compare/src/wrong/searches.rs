@@ -1,7 +1,7 @@
 //! Mistakes of the title search (02's S-5).
 
 use super::mistake::{Mistake, search_mistake};
-use crate::sought::Sought;
+use crate::sought::{Sought, same_letter, shared};
 use simulator::{COPY, Search, UNIT};
 
 pub const MISTAKES: &[Mistake] = &[
@@ -46,11 +46,6 @@ fn judged(sought: &Sought, judge: fn(cart: &[u8], title: &[u8]) -> (bool, usize)
         }
     }
     Search { kind: found.min(2), value: if found == 1 { last } else { found }, letters }
-}
-
-/// How many first letters of a cart are those of the title.
-fn shared(cart: &[u8], title: &[u8]) -> usize {
-    cart[16..].iter().zip(title).take_while(|(one, other)| one == other).count()
 }
 
 fn of_length(cart: &[u8], title: &[u8]) -> bool {
@@ -118,7 +113,7 @@ fn from_the_end(sought: &mut Sought) -> Search {
     judged(sought, |cart, title| {
         let (is_match, letters) = judge(cart, title);
         let backwards = cart[16..].iter().take(title.len()).rev().zip(title.iter().rev());
-        let equal = backwards.take_while(|(one, other)| one == other).count();
+        let equal = backwards.take_while(|(one, other)| same_letter(one, other)).count();
         (is_match, if letters == 0 { 0 } else { title.len().min(equal + 1) })
     })
 }

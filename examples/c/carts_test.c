@@ -137,6 +137,6 @@ int main(void)
     test_carts();
     test_wrong_lengths();
     test_scans();
-    printf("search: everything held\n");
+    printf("carts_test: everything held\n");
     return 0;
 }
