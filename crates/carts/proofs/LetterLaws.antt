@@ -14,9 +14,12 @@ use Rattle.carts.specs.Title.{sameLetter, titled, lettersCompared, lette
 use Rattle.carts.proofs.RecordLaws.{left-suc, drop-next}
 use Rattle.carts.proofs.TestLaws.{and-left, and-right, by-cond}
 
--- the first i letters of two titles are the same: n more, or one
-pub same-more : (i n : ℕ) (a b : List ℕ) → pairwise sameLetter (take i a) (take i b) ≡ true → pairwise sameLetter (take n (drop i a)) (take n (drop i b)) ≡ true
-    → pairwise sameLetter (take (i + n) a) (take (i + n) b) ≡ true
+-- the first i letters of two titles are the same
+abbrev pub SameTo : ℕ → List ℕ → List ℕ → Type 0
+SameTo i a b = pairwise sameLetter (take i a) (take i b) ≡ true
+
+-- n letters more, or one
+pub same-more : (i n : ℕ) (a b : List ℕ) → SameTo i a b → SameTo n (drop i a) (drop i b) → SameTo (i + n) a b
 unfolding pairwise
 same-more zero n a b p q = rw zero-add q
 same-more (suc i) n [] [] p q = rw suc-add refl
@@ -24,13 +27,12 @@ same-more (suc i) n [] (y ∷ b) p q = absurd (false≢true p)
 same-more (suc i) n (x ∷ a) [] p q = absurd (false≢true p)
 same-more (suc i) n (x ∷ a) (y ∷ b) p q = rw (suc-add, and-left (sameLetter x y) _ p) (same-more i n a b (and-right (sameLetter x y) _ p) q)
 
-pub same-next : (i : ℕ) (a b : List ℕ) → i < length a → i < length b → pairwise sameLetter (take i a) (take i b) ≡ true → sameLetter (getD a i 0) (getD b i 0) ≡ true
-    → pairwise sameLetter (take (i + 1) a) (take (i + 1) b) ≡ true
+pub same-next : (i : ℕ) (a b : List ℕ) → i < length a → i < length b → SameTo i a b → sameLetter (getD a i 0) (getD b i 0) ≡ true → SameTo (i + 1) a b
 unfolding pairwise
 same-next i a b h k p e = same-more i 1 a b p (rw (drop-cons a i 0, drop-cons b i 0, e))
 
 -- the first that differs, with what stands before it the same
-pub letter-differs : (i : ℕ) (a b : List ℕ) → i < length a → i < length b → pairwise sameLetter (take i a) (take i b) ≡ true → sameLetter (getD a i 0) (getD b i 0) ≡ false
+pub letter-differs : (i : ℕ) (a b : List ℕ) → i < length a → i < length b → SameTo i a b → sameLetter (getD a i 0) (getD b i 0) ≡ false
     → (false ≡ pairwise sameLetter a b) × (i + 1 ≡ lettersCompared a b)
 unfolding pairwise lettersCompared
 letter-differs i [] b h k p e = absurd (omega arith)
@@ -47,7 +49,7 @@ letters-all [] b p = refl
 letters-all (x ∷ a) [] p = absurd (false≢true p)
 letters-all (x ∷ a) (y ∷ b) p = let r = letters-all a b (and-right (sameLetter x y) _ p) in rw (and-left (sameLetter x y) _ p) (omega (arith, r))
 
-pub letters-whole : (i : ℕ) (a b : List ℕ) → length a ≡ length b → length a ≡ i → pairwise sameLetter (take i a) (take i b) ≡ true → (true ≡ pairwise sameLetter a b) × (i ≡ lettersCompared a b)
+pub letters-whole : (i : ℕ) (a b : List ℕ) → length a ≡ length b → length a ≡ i → SameTo i a b → (true ≡ pairwise sameLetter a b) × (i ≡ lettersCompared a b)
 letters-whole i a b l h p =
     let q : pairwise sameLetter a b ≡ true = rw (take-all i a (omega arith), take-all i b (omega arith)) at p in
     (sym q, sym h ∙ letters-all a b q)

@@ -1,17 +1,14 @@
-use Rattle.carts.proofs.LetterLaws.{same-next, letter-differs, letters-whole}
-use Rattle.carts.specs.Bytes.{pairwise}
-use Rattle.carts.specs.Title.{sameLetter}
+use Rattle.carts.proofs.LetterLaws.{SameTo, same-next, letter-differs, letters-whole}
 use borrow.Author.Tests.{not-true, not-false}
-use lib.ListN.{length, take}
-use mathlib.Core.Bool.{true}
-use mathlib.Core.Path.{_≡_, sym, _∙_}
+use lib.ListN.{length}
+use mathlib.Core.Path.{sym, _∙_}
 use Prim.Native.Nat.{_≤_, _-_}
 use native.Mathlib.Omega.{arith}
 use Rattle.carts.proofs.titles.compare_letters.Statement.{statement}
 use Rattle.carts.proofs.titles.compare_letters.Tie as tie
 
 abbrev Inv-loop : tie.InvT-loop
-Inv-loop a b i₀ i = (i ≤ length a) × (pairwise sameLetter (take i a) (take i b) ≡ true)
+Inv-loop a b i₀ i = (i ≤ length a) × SameTo i a b
 
 abbrev μ-loop : tie.MeasureT-loop
 μ-loop a b i₀ i = length a - i

@@ -1,11 +1,9 @@
-use Rattle.carts.proofs.LetterLaws.{same-more}
+use Rattle.carts.proofs.LetterLaws.{SameTo, same-more}
 use Rattle.carts.proofs.PartLaws.{length-part}
 use borrow.Author.Tests.{not-false}
 use Rattle.carts.specs.Bytes.{pairwise}
-use Rattle.carts.specs.Title.{sameLetter}
-use lib.ListN.{length, take}
-use mathlib.Core.Bool.{true}
-use mathlib.Core.Path.{_≡_, refl, sym, _∙_}
+use lib.ListN.{length}
+use mathlib.Core.Path.{refl, sym, _∙_}
 use Prim.Native.Nat.{_≤_, _-_}
 use native.Mathlib.Nat.{add-sub-cancel-left}
 use native.Mathlib.Omega.{arith}
@@ -13,7 +11,7 @@ use Rattle.carts.proofs.titles.same_front.Statement.{statement}
 use Rattle.carts.proofs.titles.same_front.Tie as tie
 
 abbrev Inv-loop : tie.InvT-loop
-Inv-loop a b i₀ i = (i ≤ length a) × (pairwise sameLetter (take i a) (take i b) ≡ true)
+Inv-loop a b i₀ i = (i ≤ length a) × SameTo i a b
 
 abbrev μ-loop : tie.MeasureT-loop
 μ-loop a b i₀ i = length a - i
@@ -53,7 +51,7 @@ are-same-letters-requires c κs = let t = c .before .before .before in
     rw add-sub-cancel-left (length-part (a .a .now) i 8 (omega arith) ∙ sym (length-part (a .b .now) i 8 (omega arith)))
 
 returns : tie.Need-returns Inv-loop μ-loop
-returns c = c .before .before .before .before .before .loop .inv
+returns c = (omega arith, c .before .before .before .before .before .loop .inv .1)
 
 loop-less : tie.Need-loop-less Inv-loop μ-loop
 loop-less c = omega arith
