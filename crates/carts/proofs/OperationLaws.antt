@@ -149,15 +149,20 @@ pub record Whole (op : List ℕ) : Type 0 where
   pub low : 1 ≤ u16 op 2
   pub high : u16 op 2 ≤ 128
 
+-- the first operation's size, and those of the others
+pub sizes-first : (op : List ℕ) (ops : List (List ℕ)) → every (λ o. eqb (length o) 80) (op ∷ ops) ≡ true → (length op ≡ 80) × (every (λ o. eqb (length o) 80) ops ≡ true)
+unfolding every
+sizes-first op ops h =
+    let sized : List ℕ → Bool = λ o. eqb (length o) 80 in
+    (eqb-true _ _ (and-left (sized op) (every sized ops) h), and-right (sized op) (every sized ops) h)
+
 pub operations-first : (op : List ℕ) (ops : List (List ℕ)) → Operations (op ∷ ops) → Whole op × Operations ops
 unfolding every
 operations-first op ops h =
-    let sized : List ℕ → Bool = λ o. eqb (length o) 80 in
+    let (size, sizes) = sizes-first op ops (h .sizes) in
     let f = and-left (operationFields op) (every operationFields ops) (h .fields) in
-    let c = fields-cart op f in (
-      record { size = eqb-true _ _ (and-left (sized op) (every sized ops) (h .sizes)); fields = f; low = c .0; high = c .1 },
-      record { sizes = and-right (sized op) (every sized ops) (h .sizes); fields = and-right (operationFields op) (every operationFields ops) (h .fields) },
-    )
+    let c = fields-cart op f in
+    (record { size = size; fields = f; low = c .0; high = c .1 }, record { sizes = sizes; fields = and-right (operationFields op) (every operationFields ops) (h .fields) })
 
 -- what an operation keeps of a copy, a transaction keeps; so its length
 pub acts-keep : (P : List ℕ → Type 0) → ((copy op : List ℕ) → length copy ≡ 10240 → Whole op → P copy → P (act copy op))

@@ -17,7 +17,7 @@ use Rattle.replication.proofs.RowLaws.{unless-case}
 use Rattle.replication.proofs.ShownLaws.{Askable, length-shown, request-askable}
 use Rattle.replication.proofs.DecideLaws.{KnownSession}
 use Rattle.replication.proofs.Accepted.{commit-passed, CommitTold, commit-told, read-passed, collect-passed}
-use Rattle.machine.specs.Machine.{Machine, session, Step, step, refusal, commits, sessionOf, told, commit, preview, send, refresh, answerFrom, block, wait, reading, read, collect, forward, call, run}
+use Rattle.machine.specs.Machine.{Machine, session, Step, step, refusal, commits, sessionOf, told, commit, preview, send, refresh, answerFrom, block, wait, reading, read, collect, forward, write, call, run}
 use Rattle.machine.specs.Library.{operations, Reply, request, at, refused8, shown, library, serve}
 use Rattle.machine.specs.OneCopy.{Event, event, Counted, counted, entry, commitReplies, readReplies, readEntry, Kind, writes, reads, collects, neither, kindOf, entryOf, waitedAfter, entries}
 use Rattle.machine.proofs.Sort.{length-snoc}
@@ -179,6 +179,10 @@ module _ (H : List Call.Call) (go-on : Goes H) (m : Machine) (copies : ℕ → L
       (λ u. collect-shown s (a .who) (stateFor m s) _ (omega (arith, f .floors s (a .who .low))) (applied-commits m sound _) (omega arith) out (rw asked (sound .askable (s - 1))))
       (λ u. collect-waits s (a .who) out)))
 
+  when-write : (j : ℕ) (out : List ℕ) → Fits neither (write m j out)
+  unfolding write entryOf waitedAfter
+  when-write j out = unless-case (Fits neither) _ _ _ (λ k e kept. nothing-new _ _) (λ e kept. nothing-new _ _)
+
   goes : (x : Call.Call) → Fits (kindOf x) (call m x)
   unfolding call kindOf
   goes (Call.commit s bytes) = when-commit s bytes
@@ -188,6 +192,7 @@ module _ (H : List Call.Call) (go-on : Goes H) (m : Machine) (copies : ℕ → L
   goes (Call.read s bytes out) = when-read s bytes out
   goes (Call.collect s out) = when-collect s out
   goes (Call.forward s bytes out) = when-forward s bytes out
+  goes (Call.write j out) = when-write j out
 
 pub all-goes : (H : List Call.Call) → Goes H
 unfolding entries plainCounted Call.run

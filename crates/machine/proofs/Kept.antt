@@ -13,7 +13,7 @@ use Rattle.replication.specs.Calls.{numberAfter}
 use Rattle.replication.proofs.RowLaws.{unless-case}
 use Rattle.replication.proofs.ShownLaws.{Askable, request-askable}
 use Rattle.replication.proofs.Accepted.{commit-passed, send-passed, refresh-passed, read-passed}
-use Rattle.machine.specs.Machine.{Machine, Step, commits, sessionOf, commit, preview, send, refresh, answerFrom, block, wait, reading, read, collect, forward, call, afterCalls}
+use Rattle.machine.specs.Machine.{Machine, Step, commits, sessionOf, commit, preview, send, refresh, answerFrom, block, wait, reading, read, collect, forward, write, call, afterCalls}
 use Rattle.machine.proofs.Sort.{length-snoc}
 use Rattle.machine.proofs.Cases.{refused-case, stateFor, block-case}
 use Rattle.machine.proofs.Sound.{Sound, applied-commits, with-session, with-transaction, with-sent, with-applied}
@@ -81,6 +81,10 @@ module _ (m : Machine) (f : Sound m) where
   unfolding collect
   keeps-collect s out = unless-case Keeps _ _ _ (λ k e. f) (λ e. keeps-block s _ _ out (keeps-wait _ s out (f .askable _)))
 
+  keeps-write : (n : ℕ) (out : List ℕ) → Keeps (write m n out)
+  unfolding write
+  keeps-write n out = unless-case Keeps _ _ _ (λ k e. f) (λ e. f)
+
   pub keeps : (x : Call.Call) → Sound (call m x .next)
   unfolding call
   keeps (Call.commit s bytes) = keeps-commit s bytes
@@ -90,6 +94,7 @@ module _ (m : Machine) (f : Sound m) where
   keeps (Call.read s request out) = keeps-read s request out
   keeps (Call.collect s out) = keeps-collect s out
   keeps (Call.forward s request out) = keeps-forward s request out
+  keeps (Call.write n out) = keeps-write n out
 
 -- what every call keeps, every list keeps
 pub after-keeps : (P : Machine → Type 0) → ((m : Machine) → P m → (x : Call.Call) → P (call m x .next)) → (H : List Call.Call) (r : Step) → P (r .next) → P (afterCalls r H .next)

@@ -18,6 +18,7 @@ pub mod Titles
 pub mod TitleReads
 pub mod Places
 pub mod Table
+pub mod Messages
 pub mod NotEmpty
 pub mod Taken
 pub mod Forwarded

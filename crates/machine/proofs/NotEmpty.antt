@@ -1,4 +1,5 @@
--- The one-copy order is not claimed of nothing: a list with a wait, its collect, refusals and accepted commits has six entries. Previews have none.
+-- The one-copy order is not claimed of nothing: a list with a wait, its collect, refusals and accepted commits has six entries. Previews and the van's writer
+-- have none.
 use mathlib.Core.Path.{_≡_, refl}
 use mathlib.Core.List.{List, [], _∷_, map}
 use Prim.Native.Nat.{ℕ}
@@ -8,6 +9,7 @@ use Rattle.machine.specs.OneCopy.{Entry, commitReplies, readReplies, rea
 use Rattle.machine.specs.Table.{cases2to10, callsOf}
 use Rattle.machine.proofs.Entries.{plainCounted}
 use Rattle.machine.proofs.Table.{start, computed, trying}
+use Rattle.machine.proofs.Messages.{writing}
 
 -- the entries of a list of calls from the table's start, and the places of entries
 unfoldable pub entriesOf : List Call → List Entry
@@ -26,3 +28,8 @@ six-entries = refl
 pub previews-have-none : placesOf (entriesOf (callsOf trying)) ≡ 4 ∷ 5 ∷ 7 ∷ 11 ∷ []
 unfolding entriesOf trying
 previews-have-none = refl
+
+-- of the list with messages written: two commits and a read
+pub writes-have-none : placesOf (entriesOf (callsOf writing)) ≡ 1 ∷ 6 ∷ 11 ∷ []
+unfolding entriesOf writing
+writes-have-none = refl

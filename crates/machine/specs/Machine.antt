@@ -10,7 +10,8 @@ use Rattle.carts.specs.Transaction.{Transaction, L, recordsUsed}
 use Rattle.replication.specs.Answer.{Answer, refused, done, waits, answered}
 use Rattle.replication.specs.Memory.{studioCount, sessionCount, nth}
 use Rattle.replication.specs.Request.{Request, nothing, requestOf, needed, foundIn, shownFrom}
-use Rattle.replication.specs.Rows.{stopped, unless, setupRows, commitRows, sendRows, refreshRows, readRows, collectRows}
+use Rattle.replication.specs.Message.{messageOf}
+use Rattle.replication.specs.Rows.{stopped, unless, setupRows, commitRows, sendRows, refreshRows, readRows, collectRows, writeRows}
 use Rattle.replication.specs.Call as Call
 use Rattle.replication.specs.Calls.{numberAfter}
 
@@ -153,6 +154,12 @@ collect m s out =
 unfoldable pub forward : Machine → ℕ → List ℕ → List ℕ → Step
 forward m s request out = reading m s request (answerFrom (commits m) (commits m) (requestOf request) m s out) out
 
+-- 02, S-6, the van's writer: it "puts one message at its output's start, leaves later bytes, returns the message's length"
+unfoldable pub write : Machine → ℕ → List ℕ → Step
+write m n out =
+    let x = messageOf n (getD (m .log) (n - 1) []) in
+    unless (stopped (writeRows (commits m) n (length x) (length out))) (refusal m out) (step (done (length x)) m (over out 0 (length x) x))
+
 unfoldable pub call : Machine → Call.Call → Step
 call m (Call.commit s bytes) = commit m s bytes
 call m (Call.preview s bytes) = preview m s bytes
@@ -161,6 +168,7 @@ call m (Call.refresh i) = refresh m i
 call m (Call.read s request out) = read m s request out
 call m (Call.collect s out) = collect m s out
 call m (Call.forward s request out) = forward m s request out
+call m (Call.write n out) = write m n out
 
 -- a list of calls, and what it leaves, as on bytes
 abbrev pub run : Step → List Call.Call → List (Call.Turn Step)

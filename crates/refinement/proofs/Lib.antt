@@ -10,10 +10,12 @@ pub mod Refresh
 pub mod Read
 pub mod Commit
 pub mod Preview
+pub mod Write
 pub mod Setup
 pub mod Refused
 -- all calls, and lists of them
 pub mod Simulation
+pub mod Unchanging
 pub mod Told
 pub mod Forward
 pub mod Titles

@@ -1,17 +1,15 @@
--- Preview: commit's answer with nothing changed. It keeps the layout, does what the plain machine's preview does, and can be taken out of any list.
+-- Preview: commit's answer with nothing changed. It keeps the layout, and does what the plain machine's preview does.
 use mathlib.Core.Path.{_≡_, refl}
-use mathlib.Core.List.{List, [], _∷_, _++_}
+use mathlib.Core.List.{List}
 use Prim.Native.Nat.{ℕ}
 use Rattle.carts.specs.Transaction.{Transaction}
 use Rattle.replication.specs.Memory.{Memory}
 use Rattle.replication.specs.Call as Call
-use Rattle.replication.specs.Call.{Call}
 use Rattle.replication.specs.Calls as Bytes
-use Rattle.replication.specs.Calls.{After, after, afterCalls}
+use Rattle.replication.specs.Calls.{after}
 use Rattle.replication.specs.declared.control.Control.{Control}
 use Rattle.machine.specs.Machine as Plain
 use Rattle.machine.specs.Machine.{Session}
-use Rattle.machine.specs.OneCopy.{event, history}
 use Rattle.refinement.specs.Represents.{OfLayout, Represents, Simulates}
 use Rattle.refinement.specs.Lent.{lent}
 use Rattle.refinement.proofs.Represented.{machineOf}
@@ -31,30 +29,6 @@ module _ (c : Control) (m : Memory) (s : ℕ) (bytes : List ℕ) where
   unfolding Bytes.preview Plain.preview
   preview-simulates log sessions h = record { answer = commit-simulates c m s bytes log sessions h .answer; output = refl; next = h }
 
--- a list goes on from control and memory alone, whatever was answered and shown before
-goes-on : (K : List Call) (r p : After) → r .control ≡ p .control → r .memory ≡ p .memory → history r K ≡ history p K
-unfolding history Call.run
-goes-on [] r p e f = refl
-goes-on (x ∷ K) r p e f = rw (e, f)
-
-leaves-same : (K : List Call) (r p : After) → r .control ≡ p .control → r .memory ≡ p .memory
-    → (afterCalls r K .control ≡ afterCalls p K .control) × (afterCalls r K .memory ≡ afterCalls p K .memory)
-unfolding Call.run Call.final
-leaves-same [] r p e f = (e, f)
-leaves-same (x ∷ K) r p e f = rw (e, f) (refl, refl)
-
--- a preview between H and K
-module _ (s : ℕ) (bytes : List ℕ) (K : List Call) where
-  pub preview-between : (H : List Call) (r : After) → let left = afterCalls r H in
-      history r (H ++ (Call.preview s bytes ∷ K))
-      ≡ history r H ++ (event (Call.preview s bytes) (Bytes.commit (left .control) (left .memory) s bytes .answer) [] ∷ history left K)
-  unfolding history Call.run Call.final Bytes.call Bytes.preview
-  preview-between [] r = cc (goes-on K (Bytes.call (r .control) (r .memory) (Call.preview s bytes)) r refl refl)
-  preview-between (x ∷ H) r = cc (preview-between H (Bytes.call (r .control) (r .memory) x))
-
-  pub preview-leaves : (H : List Call) (r : After)
-      → (afterCalls r (H ++ (Call.preview s bytes ∷ K)) .control ≡ afterCalls r (H ++ K) .control)
-      × (afterCalls r (H ++ (Call.preview s bytes ∷ K)) .memory ≡ afterCalls r (H ++ K) .memory)
-  unfolding Call.run Call.final Bytes.call Bytes.preview
-  preview-leaves [] r = leaves-same K (Bytes.call (r .control) (r .memory) (Call.preview s bytes)) r refl refl
-  preview-leaves (x ∷ H) r = preview-leaves H (Bytes.call (r .control) (r .memory) x)
+pub preview-unchanging : (s : ℕ) (bytes : List ℕ) (c : Control) (m : Memory) → (Bytes.call c m (Call.preview s bytes) .control ≡ c) × (Bytes.call c m (Call.preview s bytes) .memory ≡ m)
+unfolding Bytes.call Bytes.preview
+preview-unchanging s bytes c m = (refl, refl)

@@ -13,11 +13,11 @@ use Rattle.carts.specs.Transaction.{Transaction, L}
 use Rattle.carts.proofs.OperationLaws.{Operations}
 use Rattle.carts.proofs.KeepLaws.{Copy, actAll-copy}
 use Rattle.replication.specs.Memory.{Memory, copyAt, withCopy, nth, studioOf}
-use Rattle.replication.specs.Log.{firstRecord, transactionAt, handedIn, transactionsFrom, walk}
+use Rattle.replication.specs.Log.{firstRecord, transactionAt, transactionAfter, handedIn, transactionsFrom, walk}
 use Rattle.replication.specs.Layout.{replicaForm, sessionForm, countsForm}
 use Rattle.replication.specs.Rows.{Row, stopped, refreshRows, refreshStop}
 use Rattle.replication.specs.Calls as Bytes
-use Rattle.replication.specs.Calls.{After, withApplied, withLibrary, transactionAfter}
+use Rattle.replication.specs.Calls.{After, withApplied, withLibrary}
 use Rattle.replication.specs.declared.control.Control.{Control}
 use Rattle.replication.proofs.CopyLaws.{length-copyAt, length-withCopy, copy-same, copy-other}
 use Rattle.replication.proofs.Placement.{transaction-operations}

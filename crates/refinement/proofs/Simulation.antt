@@ -3,7 +3,7 @@ use mathlib.Core.Path.{_≡_, refl}
 use mathlib.Core.List.{List, [], _∷_, _++_, map}
 use Rattle.carts.specs.Transaction.{Transaction}
 use Rattle.replication.specs.Memory.{Memory}
-use Rattle.replication.specs.Call.{Call, Turn, commit, preview, send, refresh, read, collect, forward, run, final}
+use Rattle.replication.specs.Call.{Call, Turn, commit, preview, send, refresh, read, collect, forward, write, run, final}
 use Rattle.replication.specs.Calls as Bytes
 use Rattle.replication.specs.Calls.{After}
 use Rattle.replication.specs.declared.control.Control.{Control}
@@ -18,6 +18,7 @@ use Rattle.refinement.proofs.Refresh.{refresh-keeps, refresh-simulates}
 use Rattle.refinement.proofs.Read.{read-keeps, read-simulates, forward-keeps, forward-simulates, collect-keeps, collect-simulates}
 use Rattle.refinement.proofs.Commit.{commit-keeps, commit-simulates}
 use Rattle.refinement.proofs.Preview.{preview-keeps, preview-simulates}
+use Rattle.refinement.proofs.Write.{write-keeps, write-simulates}
 
 -- from any control and memory of the layout, also where a copy is no L(n)
 pub keeps-layout : (c : Control) (m : Memory) → OfLayout c m → (x : Call) → OfLayout (Bytes.call c m x .control) (Bytes.call c m x .memory)
@@ -29,6 +30,7 @@ keeps-layout c m h (refresh i) = refresh-keeps c m i h
 keeps-layout c m h (read s request out) = read-keeps c m s request out h
 keeps-layout c m h (collect s out) = collect-keeps c m s out h
 keeps-layout c m h (forward s request out) = forward-keeps c m s request out h
+keeps-layout c m h (write n out) = write-keeps c m n out h
 
 pub simulates : (c : Control) (m : Memory) (M : Machine) → Represents c m M → (x : Call) → Simulates (Bytes.call c m x) (Plain.call M x)
 unfolding Bytes.call Plain.call
@@ -43,6 +45,7 @@ simulates c m M h x = by-machine c m (λ M. Simulates (Bytes.call c m x) (Plain.
     case (read s request out) = read-simulates c m s request out
     case (collect s out) = collect-simulates c m s out
     case (forward s request out) = forward-simulates c m s request out
+    case (write n out) = write-simulates c m n out
 
 -- a list of calls: what it leaves, and its answers and outputs
 pub layout-after : (H : List Call) (r : After) → OfLayout (r .control) (r .memory) → OfLayout (Bytes.afterCalls r H .control) (Bytes.afterCalls r H .memory)
@@ -64,6 +67,12 @@ pub simulates-then : (r : After) (p : Step) → Simulates r p → (x : Call) (H 
 simulates-then r p h x H y =
     let one = simulates (r .control) (r .memory) (p .next) (h .next) x in
     (one, simulates _ _ _ (simulates-after H _ _ one .next) y)
+
+-- a list in two parts
+pub after-joined : (H K : List Call) (r : After) → Bytes.afterCalls r (H ++ K) ≡ Bytes.afterCalls (Bytes.afterCalls r H) K
+unfolding run final
+after-joined [] K r = refl
+after-joined (x ∷ H) K r = after-joined H K (Bytes.call (r .control) (r .memory) x)
 
 pub history-joined : (H K : List Call) (r : After) → history r (H ++ K) ≡ history r H ++ history (Bytes.afterCalls r H) K
 unfolding history run final

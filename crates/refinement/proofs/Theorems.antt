@@ -31,6 +31,8 @@ use Rattle.machine.proofs.Entries.{plainHistory}
 use Rattle.machine.proofs.OneCopyOrder.{one-copy}
 use Rattle.machine.specs.Table.{studioBytes, cases2to10, callsOf, Table}
 use Rattle.machine.proofs.Table.{start, started, table}
+use Rattle.machine.proofs.Messages as Messages
+use Rattle.machine.proofs.Messages.{writing}
 use Rattle.machine.specs.Taken.{taking}
 use Rattle.machine.proofs.Taken as Taken
 use Rattle.machine.specs.Forwarded.{hour}
@@ -42,6 +44,8 @@ use Rattle.refinement.proofs.Represented.{log-length}
 use Rattle.refinement.proofs.Setup as Setup
 use Rattle.refinement.proofs.Refused as Refused
 use Rattle.refinement.proofs.Preview as Preview
+use Rattle.refinement.proofs.Write as Write
+use Rattle.refinement.proofs.Unchanging.{call-between, call-leaves}
 use Rattle.refinement.proofs.Simulation as Simulation
 use Rattle.refinement.proofs.Told as Told
 use Rattle.refinement.proofs.Forward as Forward
@@ -91,11 +95,12 @@ module _ (r : After) (H K : List Call) (s : ℕ) (bytes : List ℕ) where
   pub with-preview : let left = afterCalls r H in
       history r (H ++ (Call.preview s bytes ∷ K))
       ≡ history r H ++ (event (Call.preview s bytes) (Bytes.commit (left .control) (left .memory) s bytes .answer) [] ∷ history left K)
-  with-preview = Preview.preview-between s bytes K H r
+  unfolding Bytes.call Bytes.preview
+  with-preview = call-between (Call.preview s bytes) (Preview.preview-unchanging s bytes) K H r
 
   pub preview-leaves : (afterCalls r (H ++ (Call.preview s bytes ∷ K)) .control ≡ afterCalls r (H ++ K) .control)
       × (afterCalls r (H ++ (Call.preview s bytes ∷ K)) .memory ≡ afterCalls r (H ++ K) .memory)
-  preview-leaves = Preview.preview-leaves s bytes K H r
+  preview-leaves = call-leaves (Call.preview s bytes) (Preview.preview-unchanging s bytes) K H r
 
 -- TOLD (02, S-3). From any control and memory, after a commit refused with 8: its session's number is commits; a read of the session straight afterwards that
 -- no row stops waits for them, where its studio has not applied so many.
@@ -152,6 +157,21 @@ module _ (c : Control) (m : Memory) (s : ℕ) (request out : List ℕ) where
         readStop (r .control) (r .memory) s next (length lent) ≡ 0 → Bytes.call (r .control) (r .memory) (Call.read s next lent) .answer ≡ waits (c .commits)
     unfolding Bytes.call
     forwarded-waits = Forward.forwarded-waits c m s request out passes behind
+
+-- THE VAN'S WRITER (02, S-6). From any control and memory it changes neither, refused or not. Between H and K, any parts of any list, all other calls give the same answers and
+-- outputs with it and without it, and the list leaves the same control and memory.
+pub write-unchanging : (n : ℕ) (out : List ℕ) (c : Control) (m : Memory) → (Bytes.call c m (Call.write n out) .control ≡ c) × (Bytes.call c m (Call.write n out) .memory ≡ m)
+write-unchanging = Write.write-unchanging
+
+module _ (r : After) (H K : List Call) (n : ℕ) (out : List ℕ) where
+  pub with-write : let left = afterCalls r H in
+      let there = Bytes.call (left .control) (left .memory) (Call.write n out) in
+      history r (H ++ (Call.write n out ∷ K)) ≡ history r H ++ (event (Call.write n out) (there .answer) (there .output) ∷ history left K)
+  with-write = call-between (Call.write n out) (write-unchanging n out) K H r
+
+  pub write-leaves : (afterCalls r (H ++ (Call.write n out ∷ K)) .control ≡ afterCalls r (H ++ K) .control)
+      × (afterCalls r (H ++ (Call.write n out ∷ K)) .memory ≡ afterCalls r (H ++ K) .memory)
+  write-leaves = call-leaves (Call.write n out) (write-unchanging n out) K H r
 
 -- TITLES. "A title is kept whole or refused." From any control and memory, an accepted commit whose last operation on a cart is a new or a retitle
 -- leaves that title in the head end's copy: its length and its 64 bytes.
@@ -286,3 +306,8 @@ told-then-shown before lengths = answers before 2 studioBytes (setup-answer befo
 pub forwarded : (before : Memory) → lengthsForm before ≡ true → history (setup before 2 studioBytes) (callsOf hour) ≡ hour
 unfolding start plainHistory
 forwarded before lengths = answers before 2 studioBytes (setup-answer before 2 studioBytes lengths ∙ started) (callsOf hour) ∙ Forwarded.forwarded
+
+-- 02, S-6. Messages written on bytes, likewise: of one operation and of two, refused for a number that is not committed and an output that is too short.
+pub messages-written : (before : Memory) → lengthsForm before ≡ true → history (setup before 2 studioBytes) (callsOf writing) ≡ writing
+unfolding start plainHistory
+messages-written before lengths = answers before 2 studioBytes (setup-answer before 2 studioBytes lengths ∙ started) (callsOf writing) ∙ Messages.messages-written

@@ -1,9 +1,9 @@
 -- The output that a call is lent.
 use mathlib.Core.List.{List, []}
 use Prim.Native.Nat.{ℕ}
-use Rattle.replication.specs.Call.{Call, commit, preview, send, refresh, read, collect, forward}
+use Rattle.replication.specs.Call.{Call, commit, preview, send, refresh, read, collect, forward, write}
 
--- "Output, lent to read and collect only", and by S-4, "with read's .. outputs", to forward: [] where none is lent
+-- "Output, lent to read and collect only", by S-4, "with read's .. outputs", to forward, by S-6 to the van's writer: [] where none is lent
 unfoldable pub lent : Call → List ℕ
 lent (commit s bytes) = []
 lent (preview s bytes) = []
@@ -12,3 +12,4 @@ lent (refresh i) = []
 lent (read s request out) = out
 lent (collect s out) = out
 lent (forward s request out) = out
+lent (write n out) = out

@@ -110,6 +110,13 @@ every-transaction p zero log r k l h = let z : ⊥ = omega arith in absurd z
 every-transaction p (suc n) log r zero l h = every-first p (recordsOf log r) (logRecords n log (nextTransaction log r)) h
 every-transaction p (suc n) log r (suc k) l h = every-transaction p n log (nextTransaction log r) k (omega arith) (every-last p (recordsOf log r) (logRecords n log (nextTransaction log r)) h)
 
+-- how many records that transaction has
+pub own-length : (n : ℕ) (log : List ℕ) (r k : ℕ) → k < n → transactionsForm n log r ≡ true → (1 ≤ length (recordsOf log (walk k log r))) × (length (recordsOf log (walk k log r)) ≤ 8)
+unfolding walk
+own-length zero log r k l h = let z : ⊥ = omega arith in absurd z
+own-length (suc n) log r zero l h = let x = chained n log r h in (x .low, x .high)
+own-length (suc n) log r (suc k) l h = own-length n log (nextTransaction log r) k (omega arith) (chained n log r h .rest)
+
 -- the first record of the last transaction is one that the chain passes
 pub last-in : (n : ℕ) (log : List ℕ) (r : ℕ) → transactionsForm (suc n) log r ≡ true → 1 ≤ count (walk n log r) (logRecords (suc n) log r)
 unfolding logRecords walk

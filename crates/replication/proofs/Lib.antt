@@ -12,6 +12,7 @@ pub mod Formed
 pub mod GrowLaws
 pub mod LayoutLaws
 pub mod LinkLaws
+pub mod MessageLaws
 pub mod Occurrences
 pub mod OutputLaws
 pub mod Placement

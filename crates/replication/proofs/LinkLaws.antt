@@ -1,15 +1,16 @@
 -- Links in a record, bytes 12–13 and 14–15: where each is read, and what it leaves of the record.
-use mathlib.Core.Path.{_≡_, refl, _∙_}
+use mathlib.Core.Path.{_≡_, refl, ap, _∙_}
 use mathlib.Core.Bool.{true}
 use mathlib.Core.List.{List}
 use Prim.Native.Nat.{ℕ, _≤_}
 use native.Mathlib.Omega.{arith}
 use lib.ListN.{length}
 use Rattle.carts.specs.Bytes.{zeros, part, over, u16, u16Bytes, allZero}
-use Rattle.carts.specs.Operation.{operationFields}
-use Rattle.carts.proofs.PartLaws.{length-over, take-over, drop-over-after}
+use Rattle.carts.specs.Operation.{operationFields, operationForm}
+use Rattle.carts.proofs.TestLaws.{all-cons, all-nil}
+use Rattle.carts.proofs.PartLaws.{length-over, part-over, take-over, drop-over-after}
 use Rattle.carts.proofs.OperationLaws.{fields-links}
-use Rattle.carts.proofs.ZeroLaws.{zero-first}
+use Rattle.carts.proofs.ZeroLaws.{length-zeros, zero-zeros, zero-first}
 use Rattle.carts.proofs.FieldLaws.{Head, bytes, by-fields}
 use Rattle.replication.specs.Log.{handedIn}
 
@@ -64,3 +65,15 @@ module _ (n : ℕ) (x : List ℕ) (l : length x ≡ 80) where
   pub followed-handed : handedIn (followedBy n x) ≡ handedIn x
   unfolding handedIn u16Bytes zeros
   followed-handed = by-fields (λ x. handedIn (followedBy n x) ≡ handedIn x) 0 (λ h t _. refl) x (omega arith)
+
+-- without links: an operation as it was handed in
+module _ (x : List ℕ) (l : length x ≡ 80) where
+  pub length-handed : length (handedIn x) ≡ 80
+  unfolding handedIn
+  length-handed = length-over x 12 4 (zeros 4) (omega arith) (length-zeros 4) ∙ l
+
+  pub handed-form : operationFields x ≡ true → operationForm (handedIn x) ≡ true
+  unfolding operationForm handedIn
+  handed-form h = all-cons _ _
+      (fields-links _ x (take-over x 12 4 (zeros 4) 12 (omega arith) (omega arith)) (drop-over-after x 12 4 (zeros 4) 16 (omega arith) (length-zeros 4) (omega arith)) ∙ h)
+      (all-cons _ _ (ap allZero (part-over x 12 4 (zeros 4) (omega arith) (length-zeros 4)) ∙ zero-zeros 4) all-nil)

@@ -37,6 +37,14 @@ over-beside s a n m ys zs h e =
     let back : drop (a + n) (over s a n ys) ≡ rest = ap (drop (a + n)) (sym (append-assoc (take a s) ys rest)) ∙ drop-at (take a s ++ ys) rest (a + n) k in
     rw (front, back, drop-drop m n (drop a s)) (simp append-assoc)
 
+-- of n parts of 80 bytes, of which i have been written, the next is written
+pub part-more : (out place rest : List ℕ) (n i : ℕ) → i < n → 80 * n ≤ length out → length place ≡ 80
+    → over out (80 * i) (80 * (n - i)) (place ++ rest) ≡ over (over out (80 * i) (80 * i + 80 - 80 * i) place) (80 * (i + 1)) (80 * (n - (i + 1))) rest
+part-more out place rest n i h l k =
+    let next : 80 * (i + 1) ≡ 80 * i + 80 = omega arith in
+    let size : 80 * (n - i) ≡ 80 + 80 * (n - (i + 1)) = omega arith in
+    sym (rw (add-sub-cancel-left, next, size) (over-beside out (80 * i) 80 (80 * (n - (i + 1))) place rest (omega arith) k))
+
 -- the numbers left of n, of which i have been passed
 abbrev pub Left : List ℕ → ℕ → ℕ → List ℕ
 Left x n i = u16s (n - i) (drop (2 * i) (drop 16 x))
@@ -64,11 +72,9 @@ module _ (copy x : List ℕ) (n i : ℕ) where
       → place ≡ cartAt copy (u16 x (16 + 2 * i)) → whole ≡ over (over out (80 * i) (80 * i + 80 - 80 * i) place) (80 * (i + 1)) (80 * (n - (i + 1))) (shownByNumbers copy (Left x n (i + 1)))
   unfolding shownByNumbers
   shown-more out place h l k inv e =
-      let next : 80 * (i + 1) ≡ 80 * i + 80 = omega arith in
-      let size : 80 * (n - i) ≡ 80 + 80 * (n - (i + 1)) = omega arith in
       let shown = shownByNumbers copy (Left x n (i + 1)) in
       let now : shownByNumbers copy (Left x n i) ≡ place ++ shown = ap (shownByNumbers copy) (numbers-next x n i h) ∙ ap (λ y. y ++ shown) (sym e) in
-      inv ∙ ap₂ (λ m y. over out (80 * i) m y) size now ∙ sym (rw (add-sub-cancel-left, next) (over-beside out (80 * i) 80 (80 * (n - (i + 1))) place shown (omega arith) k))
+      inv ∙ ap (over out (80 * i) (80 * (n - i))) now ∙ part-more out place shown n i h l k
 
   pub found-end : (found : ℕ) {whole : ℕ} → n ≤ i → whole ≡ found + foundByNumbers copy (Left x n i) → found ≡ whole
   unfolding foundByNumbers u16s

@@ -23,7 +23,7 @@ use Rattle.replication.specs.Values.{usable, walkable}
 use Rattle.replication.specs.declared.control.Control.{Control}
 use Rattle.replication.proofs.Formed.{LogFormed, Formed}
 use Rattle.replication.proofs.Occurrences.{count, Distinct, count-nil, count-here, count-other}
-use Rattle.replication.proofs.Chains.{chain-count, chain-walkable, every-transaction}
+use Rattle.replication.proofs.Chains.{chain-count, chain-walkable, every-transaction, own-length}
 use Rattle.replication.proofs.WriteLaws.{length-record, Givens}
 use Rattle.replication.proofs.GrowLaws.{Appended, appended-to}
 
@@ -103,7 +103,7 @@ module _ (c : Control) (m : Memory) (f : Formed c m) where
   pub log-walkable : (k : ℕ) → k ≤ c .commits → walkable k (m .log) (firstRecord c) ≡ true
   log-walkable = chain-walkable (c .commits) (m .log) (firstRecord c) (f .log .form) log-inside
 
-  -- the transaction k further on than the first: its records can act on a copy, and its operations are of their fields
+  -- the transaction k further on than the first: its records can act on a copy, it has 1 to 8 of them, and its operations are of their fields
   module _ (k : ℕ) (l : k < c .commits) where
     pub transaction-usable : every (usable (m .log)) (recordsOf (m .log) (walk k (m .log) (firstRecord c))) ≡ true
     unfolding usable
@@ -111,6 +111,9 @@ module _ (c : Control) (m : Memory) (f : Formed c m) where
         let u = f .log .used in
         let o = fields-cart (recordAt (m .log) q) (f .log .records q a b) in
         all-cons _ _ (within-of 1 512 q a (omega arith)) (all-cons _ _ (within-of 1 128 _ (o .0) (o .1)) all-nil)))
+
+    pub transaction-length : (1 ≤ length (recordsOf (m .log) (walk k (m .log) (firstRecord c)))) × (length (recordsOf (m .log) (walk k (m .log) (firstRecord c))) ≤ 8)
+    transaction-length = own-length (c .commits) (m .log) (firstRecord c) k l (f .log .form)
 
     pub transaction-operations : Operations (transactionAt (m .log) (walk k (m .log) (firstRecord c)))
     unfolding transactionAt

@@ -10,9 +10,9 @@ use Rattle.carts.specs.Bytes.{over, every}
 use Rattle.carts.specs.Operation.{actAll}
 use Rattle.replication.specs.Answer.{refused, done}
 use Rattle.replication.specs.Memory.{Memory, memory, nth, copyAt, withCopy}
-use Rattle.replication.specs.Log.{recordsOf, transactionAt, walk, firstRecord}
+use Rattle.replication.specs.Log.{recordsOf, transactionAt, transactionAfter, walk, firstRecord}
 use Rattle.replication.specs.Rows.{refreshStop}
-use Rattle.replication.specs.Calls.{after, refresh, withApplied, transactionAfter}
+use Rattle.replication.specs.Calls.{after, refresh, withApplied}
 use Rattle.replication.specs.Values.{usable, walkable}
 use Rattle.replication.specs.declared.control.Control.{Control}
 use Rattle.replication.proofs.RowLaws.{unless-stopped, unless-accepted}

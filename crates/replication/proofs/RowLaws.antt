@@ -1,7 +1,7 @@
 -- Laws of rows: the first that stops a call.
 use Prim.Native.Nat.{ℕ, zero, suc, _<_, _≤_}
 use mathlib.Core.Path.{_≡_, refl, sym, _∙_}
-use mathlib.Core.Bool.{Bool, true, false, cond, not, and-false}
+use mathlib.Core.Bool.{Bool, true, false, cond, _||_, not, and-false}
 use mathlib.Core.List.{List, [], _∷_, _++_}
 use native.Mathlib.Omega.{arith}
 use lib.Dec.{eqb}
@@ -85,6 +85,18 @@ decides xs ys v w k e z f = f ∙ sym (passes-on xs ys v k e z)
 
 pub stopped-by : (xs later : List Row) (n : ℕ) (b : Bool) → numbered xs ≡ true → stopped xs ≡ 0 → b ≡ true → stopped (xs ++ (row n b ∷ later)) ≡ n
 stopped-by xs later n b k passes e = sym (decides xs (row n b ∷ later) 0 n k (sym passes) refl (row-stops n b later e))
+
+-- a last row that is wider stops the call with the same number
+pub wider : (xs : List Row) (k : ℕ) (a b : Bool) (v : ℕ) → v ≡ stopped (xs ++ (row k a ∷ [])) → (v ≡ 0 → ⊥) → v ≡ stopped (xs ++ (row k (a || b) ∷ []))
+unfolding stopped
+wider [] k true b v e n = e
+wider [] k false b v e n = absurd (n e)
+wider (x ∷ xs) k a b v e n = go (x .stops) e (wider xs k a b v)
+  where
+    go : (s : Bool) → v ≡ cond s (x .number) (stopped (xs ++ (row k a ∷ []))) → (v ≡ stopped (xs ++ (row k a ∷ [])) → (v ≡ 0 → ⊥) → v ≡ stopped (xs ++ (row k (a || b) ∷ [])))
+        → v ≡ cond s (x .number) (stopped (xs ++ (row k (a || b) ∷ [])))
+    go true f ih = f
+    go false f ih = ih f n
 
 -- a call that a row stops, and one that is accepted
 pub unless-stopped : {A : Type 0} (n : ℕ) (f : ℕ → A) (a : A) → (n ≡ 0 → ⊥) → f n ≡ unless n f a

@@ -4,19 +4,20 @@ use mathlib.Core.Path.{_≡_, refl, ap, _∙_}
 use mathlib.Core.Bool.{Bool, true, _&&_}
 use mathlib.Core.List.{List, [], _∷_, map}
 use native.Mathlib.Omega.{arith}
-use borrow.Author.Tests.{eqb-true}
+use borrow.Author.Tests.{eq-eqb}
 use lib.Dec.{eqb}
-use lib.ListN.{length, getD}
+use lib.ListN.{length, getD, length-map}
 use Rattle.carts.specs.Bytes.{zeros, over, u16, within, every}
-use Rattle.carts.specs.Operation.{act, actAll}
+use Rattle.carts.specs.Operation.{operationForm, act, actAll}
 use Rattle.carts.proofs.TestLaws.{and-left, and-right, all-at, within-low, within-high}
 use Rattle.carts.proofs.PartLaws.{take-over, drop-over-after}
 use Rattle.carts.proofs.ZeroLaws.{length-zeros}
-use Rattle.carts.proofs.OperationLaws.{act-links}
+use Rattle.carts.proofs.OperationLaws.{Operations, sizes-first, operations-first, act-links}
 use Rattle.replication.specs.Memory.{recordAt}
-use Rattle.replication.specs.Log.{nextOperation, nextTransaction, chain, transactionAt, handedIn, transactionsFrom, walk}
+use Rattle.replication.specs.Log.{nextOperation, nextTransaction, chain, recordsOf, transactionAt, handedIn, transactionsFrom, walk}
 use Rattle.replication.specs.Values.{usable}
 use Rattle.replication.proofs.Chains.{chain-cons, chain-zero}
+use Rattle.replication.proofs.LinkLaws.{length-handed, handed-form}
 
 -- what a usable record gives
 pub record Usable (log : List ℕ) (r : ℕ) : Type 0 where
@@ -75,6 +76,11 @@ transactions-at zero log r k h = let z : ⊥ = omega arith in absurd z
 transactions-at (suc n) log r zero h = refl
 transactions-at (suc n) log r (suc k) h = transactions-at n log (nextTransaction log r) k (omega arith)
 
+-- a transaction as it was handed in has an operation for each record
+pub length-handed-in : (log : List ℕ) (r : ℕ) → length (map handedIn (transactionAt log r)) ≡ length (recordsOf log r)
+unfolding transactionAt
+length-handed-in log r = length-map (map (recordAt log) (recordsOf log r)) handedIn ∙ length-map (recordsOf log r) (recordAt log)
+
 -- an operation's links are not read when it acts
 handed-act : (copy op : List ℕ) → length op ≡ 80 → act copy (handedIn op) ≡ act copy op
 unfolding handedIn
@@ -82,9 +88,17 @@ handed-act copy op h =
     act-links (over op 12 4 (zeros 4)) op (take-over op 12 4 (zeros 4) 12 (omega arith) (omega arith)) (drop-over-after op 12 4 (zeros 4) 16 (omega arith) (length-zeros 4) (omega arith)) copy
 
 pub handed-actAll : (copy : List ℕ) (ops : List (List ℕ)) → every (λ op. eqb (length op) 80) ops ≡ true → actAll copy (map handedIn ops) ≡ actAll copy ops
-unfolding actAll every
+unfolding actAll
 handed-actAll copy [] h = refl
 handed-actAll copy (op ∷ ops) h =
-    let n = eqb-true (length op) 80 (and-left (eqb (length op) 80) (every (λ o. eqb (length o) 80) ops) h) in
-    let r = and-right (eqb (length op) 80) (every (λ o. eqb (length o) 80) ops) h in
-    ap (λ (z : List ℕ). actAll z (map handedIn ops)) (handed-act copy op n) ∙ handed-actAll (act copy op) ops r
+    let (size, sizes) = sizes-first op ops h in
+    ap (λ (z : List ℕ). actAll z (map handedIn ops)) (handed-act copy op size) ∙ handed-actAll (act copy op) ops sizes
+
+-- operations of their fields, as they were handed in, are of their form
+pub handed-operations : (ops : List (List ℕ)) → Operations ops → (every (λ op. eqb (length op) 80) (map handedIn ops) ≡ true) × (every operationForm (map handedIn ops) ≡ true)
+unfolding every
+handed-operations [] o = (refl, refl)
+handed-operations (op ∷ ops) o =
+    let (w, later) = operations-first op ops o in
+    let (sizes, forms) = handed-operations ops later in
+    (rw (eq-eqb (length (handedIn op)) 80 (length-handed op (w .size))) sizes, rw (handed-form op (w .size) (w .fields)) forms)

@@ -7,7 +7,8 @@ use Rattle.replication.specs.declared.answer.CountAnswer.the-variants as
 use Rattle.replication.specs.declared.answer.ReadAnswer.{ReadAnswer}
 use Rattle.replication.specs.declared.answer.ReadAnswer.the-variants as Read
 
--- "The result is the number" of a row; a commit's number, sent or applied; "waits, with the session's number"; "state and found"
+-- "The result is the number" of a row; a commit's number, sent or applied, or by S-6 "the message's length"; "waits, with the session's
+-- number"; "state and found"
 pub data Answer : Type 0 where
   refused : ℕ → Answer
   done : ℕ → Answer

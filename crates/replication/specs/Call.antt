@@ -17,6 +17,8 @@ pub data Call : Type 0 where
   collect : ℕ → List ℕ → Call
   -- 02, S-4, "the Forward method .. as a second reading call": session, the request's bytes, output
   forward : ℕ → List ℕ → List ℕ → Call
+  -- 02, S-6, "a writer at the head end": the transaction's number, output
+  write : ℕ → List ℕ → Call
 
 -- a call of a list, and what it left
 pub record Turn (A : Type 0) : Type 0 where

@@ -10,9 +10,10 @@ use Rattle.carts.specs.Bytes.{zeros, over}
 use Rattle.carts.specs.Operation.{operationsOf, actAll}
 use Rattle.replication.specs.Answer.{Answer, refused, done, waits, answered}
 use Rattle.replication.specs.Memory.{Memory, memory, librarySize, sessionsSize, sessionSize, sessionCount, studioCount, copyAt, withCopy, sessionAt, withSession, sequenceOf, withSequence, withNumber, nth, studioOf}
-use Rattle.replication.specs.Log.{transactionAt, walk, firstRecord, freshLog, appended}
+use Rattle.replication.specs.Log.{transactionAfter, freshLog, appended}
+use Rattle.replication.specs.Message.{messageIn}
 use Rattle.replication.specs.Request.{Request, requestOf, needed, foundIn, shownFrom}
-use Rattle.replication.specs.Rows.{unless, setupStop, commitStop, sendStop, refreshStop, readStop, collectStop}
+use Rattle.replication.specs.Rows.{unless, setupStop, commitStop, sendStop, refreshStop, readStop, collectStop, writeStop}
 use Rattle.replication.specs.Call as Call
 use Rattle.replication.specs.declared.control.Control.{Control}
 
@@ -94,10 +95,6 @@ send c m i =
 unfoldable pub withApplied : Control → ℕ → ℕ → Control
 withApplied c i n = control (c .studios) (c .«session_studios») (c .used) (c .commits) (c .sent) (set (c .applied) (i - 1) n)
 
--- the transaction after the first n
-unfoldable pub transactionAfter : Control → List ℕ → ℕ → List (List ℕ)
-transactionAfter c log n = transactionAt log (walk n log (firstRecord c))
-
 unfoldable pub refresh : Control → Memory → ℕ → After
 refresh c m i =
     let k = nth (c .applied) i in
@@ -150,6 +147,12 @@ forward c m s request out =
     let x = sessionAt (m .sessions) s in
     reading c m s request (answerFrom (c .commits) (copyAt (m .library) 0) (requestOf request) c m s (c .commits) x out) out
 
+-- 02, S-6, the van's writer: it "puts one message at its output's start, leaves later bytes, returns the message's length"
+unfoldable pub write : Control → Memory → ℕ → List ℕ → After
+write c m n out =
+    let x = messageIn c (m .log) n in
+    unless (writeStop c m n (length out)) (refusal c m out) (after (done (length x)) c m (over out 0 (length x) x))
+
 unfoldable pub call : Control → Memory → Call.Call → After
 call c m (Call.commit s bytes) = commit c m s bytes
 call c m (Call.preview s bytes) = preview c m s bytes
@@ -158,6 +161,7 @@ call c m (Call.refresh i) = refresh c m i
 call c m (Call.read s request out) = read c m s request out
 call c m (Call.collect s out) = collect c m s out
 call c m (Call.forward s request out) = forward c m s request out
+call c m (Call.write n out) = write c m n out
 
 -- a list of calls, each given what the call before it left and handed back, and what the list leaves
 abbrev pub run : After → List Call.Call → List (Call.Turn After)

@@ -2,6 +2,7 @@
 pub mod Answer
 pub mod Memory
 pub mod Log
+pub mod Message
 pub mod Request
 pub mod Layout
 pub mod Rows

@@ -67,6 +67,10 @@ walk (suc n) log r = walk n log (nextTransaction log r)
 unfoldable pub firstRecord : Control → ℕ
 firstRecord c = cond (eqb (c .commits) 0) 0 1
 
+-- the transaction after the first n
+unfoldable pub transactionAfter : Control → List ℕ → ℕ → List (List ℕ)
+transactionAfter c log n = transactionAt log (walk n log (firstRecord c))
+
 -- r, r + 1, .., n of them
 unfoldable pub upFrom : ℕ → ℕ → List ℕ
 upFrom r zero = []

@@ -1,5 +1,6 @@
 -- Document 01, "Where a call is stopped": for each call its rows, "checked from top to bottom", over what they look at, so that the
--- calls on bytes and the plain machine share them. Rows 1 and 2 are the bytes' own. Row 16 is document 02's, S-2.
+-- calls on bytes and the plain machine share them. Rows 1 and 2 are the bytes' own. Row 16 is document 02's, S-2, row 17 of
+-- the van's writer S-6.
 use mathlib.Core.Bool.{Bool, cond, _||_, not}
 use mathlib.Core.List.{List, [], _∷_, _++_}
 use Prim.Native.Nat.{ℕ, zero, suc, _*_, _-_, _%_}
@@ -10,6 +11,7 @@ use Rattle.carts.specs.Cart.{cartSize}
 use Rattle.carts.specs.Operation.{operationForm, spaced, operationsOf, meetsAll}
 use Rattle.replication.specs.Memory.{Memory, mostOperations, sessionCount, studioCount, window, lengthsForm, copyAt, nth, studioOf}
 use Rattle.replication.specs.Log.{noRoom}
+use Rattle.replication.specs.Message.{messageIn}
 use Rattle.replication.specs.Request.{Request, requestOf, requestForm, isWaiting, needed, waitingIn}
 use Rattle.replication.specs.Layout.{ofLayout}
 use Rattle.replication.specs.declared.control.Control.{Control}
@@ -99,6 +101,11 @@ waitingRows waiting room = row 14 (not (isWaiting waiting)) ∷ row 13 (ltb room
 unfoldable pub collectRows : ℕ → ℕ → Request → ℕ → List Row
 collectRows s studio waiting room = sessionRow s studio ∷ waitingRows waiting room
 
+-- 02, S-6, of the van's writer: "Refusals 17, .. at the writer a number outside 1 to commits or an output too short": the transaction's number,
+-- its message's length, output's length
+unfoldable pub writeRows : ℕ → ℕ → ℕ → ℕ → List Row
+writeRows commits n size room = row 17 (not (within 1 commits n) || ltb room size) ∷ []
+
 -- the number of the row that stops a call on bytes, or 0
 unfoldable pub setupStop : Memory → ℕ → List ℕ → ℕ
 setupStop m studios bytes = stopped (lengthsRow m ∷ setupRows studios bytes)
@@ -117,3 +124,7 @@ readStop c m s request room = stopped (memoryRows c m ++ readRows s (studioOf c 
 
 unfoldable pub collectStop : Control → Memory → ℕ → ℕ → ℕ
 collectStop c m s room = stopped (memoryRows c m ++ collectRows s (studioOf c s) (waitingIn m s) room)
+
+-- "keeps 1 and 2 on their conditions"
+unfoldable pub writeStop : Control → Memory → ℕ → ℕ → ℕ
+writeStop c m n room = stopped (memoryRows c m ++ writeRows (c .commits) n (length (messageIn c (m .log) n)) room)

@@ -7,7 +7,8 @@ pub enum SetupAnswer {
     Refused(u32),
 }
 
-// Commit, preview, send and refresh: the commit's number (of a preview the one that it would have), sent or applied; or refused.
+// Commit, preview, send, refresh and the van's writer: the commit's number (of a preview the one that it would have), sent, applied, or
+// the message's length; or refused.
 pub enum CountAnswer {
     Number(u32),
     Refused(u32),
