@@ -1,0 +1,122 @@
+-- Laws of the writer: its rows, and what it writes where none stops it.
+use mathlib.Core.Path.{_≡_, refl, sym, ap, _∙_}
+use mathlib.Core.Bool.{Bool, true, false, cond, not}
+use mathlib.Core.List.{List, [], _∷_, _++_, map}
+use Prim.Native.Nat.{ℕ, _+_, _-_, _*_, _<_, _≤_}
+use native.Mathlib.Omega.{arith}
+use native.Mathlib.Nat.{add-sub-cancel-left}
+use lib.ListN.{length, take, drop}
+use lib.Dec.{ltb}
+use borrow.Author.Tests.{not-false, lt-ltb, le-ltb}
+use Rattle.carts.specs.Bytes.{u16Bytes, over, within, every}
+use Rattle.carts.proofs.PartLaws.{length-part}
+use Rattle.carts.proofs.TestLaws.{within-low, within-high}
+use Rattle.replication.specs.Answer.{refused, done}
+use Rattle.replication.specs.Memory.{Memory}
+use Rattle.replication.specs.Log.{firstRecord, walk, recordsOf, transactionAt, transactionAfter, handedIn}
+use Rattle.replication.specs.Message.{joined, messageOf, messageIn}
+use Rattle.replication.specs.Rows.{Row, row, stopped, unless, memoryRows, writeRows, writeStop}
+use Rattle.replication.specs.Calls.{after, write}
+use Rattle.replication.specs.Values.{usable, walkable}
+use Rattle.replication.specs.declared.control.Control.{Control}
+use Rattle.replication.proofs.RowLaws.{wider, passed, later-stops, decides, memory-numbered, unless-stopped}
+use Rattle.replication.proofs.DecideLaws.{first-formed, first-who}
+use Rattle.replication.proofs.OutputLaws.{over-beside}
+use Rattle.replication.proofs.Placement.{few-commits, log-walkable, transaction-usable, transaction-length, transaction-operations}
+use Rattle.replication.proofs.Formed.{Formed}
+use Rattle.replication.proofs.TransactionLaws.{length-handed-in, handed-operations}
+use Rattle.replication.proofs.MessageLaws.{length-joined}
+
+-- the part of output that the operations are written to
+pub length-places : (s out : List ℕ) (count : ℕ) → length s ≡ length out → 4 + 80 * count ≤ length out → length (take (4 + 80 * count - 4) (drop 4 s)) ≡ 80 * count
+length-places s out count e h = length-part s 4 (4 + 80 * count - 4) (omega arith) ∙ add-sub-cancel-left 4 (80 * count)
+
+-- row 17, as far as it looks at the number
+abbrev numberRow : ℕ → ℕ → Row
+numberRow commits n = row 17 (not (within 1 commits n))
+
+pub number-wrong : (commits n : ℕ) → within 1 commits n ≡ false → 17 ≡ stopped (numberRow commits n ∷ [])
+unfolding stopped
+number-wrong commits n e = rw e
+
+pub number-right : (commits n : ℕ) → within 1 commits n ≡ true → 0 ≡ stopped (numberRow commits n ∷ [])
+unfolding stopped
+number-right commits n e = rw e
+
+-- what is known of the number, the log and the transaction where neither memory nor the number stops the writer
+pub record Writable (c : Control) (m : Memory) (n : ℕ) : Type 0 where
+  pub low : 1 ≤ n
+  pub few : n ≤ 512
+  pub log : length (m .log) ≡ 40960
+  pub walks : walkable (n - 1) (m .log) (firstRecord c) ≡ true
+  pub acts : every (usable (m .log)) (recordsOf (m .log) (walk (n - 1) (m .log) (firstRecord c))) ≡ true
+  pub short : length (recordsOf (m .log) (walk (n - 1) (m .log) (firstRecord c))) ≤ 8
+
+module _ (c : Control) (m : Memory) (n : ℕ) (out : List ℕ) (v : ℕ) (e : v ≡ stopped (memoryRows c m ++ (numberRow (c .commits) n ∷ []))) where
+  -- by memory or by the number
+  pub write-refused : (v ≡ 0 → ⊥) → after (refused v) c m out ≡ write c m n out
+  unfolding write writeStop writeRows
+  write-refused h =
+      let f = wider (memoryRows c m) 17 (not (within 1 (c .commits) n)) (ltb (length out) (length (messageIn c (m .log) n))) v e h in
+      rw f (unless-stopped _ _ _ (λ z. h (f ∙ z)))
+
+  module _ (z : v ≡ 0) where
+    formed : Formed c m
+    formed = first-formed c m (numberRow (c .commits) n) v e z
+
+    known-number : within 1 (c .commits) n ≡ true
+    known-number = not-false _ (passed 16 _ [] (first-who c m (numberRow (c .commits) n) v e z) .0)
+
+    before : n - 1 < c .commits
+    before = omega (arith, within-low 1 (c .commits) n known-number, within-high 1 (c .commits) n known-number)
+
+    pub write-known : Writable c m n
+    write-known = record {
+      low = within-low 1 (c .commits) n known-number;
+      few = omega (arith, within-high 1 (c .commits) n known-number, few-commits c m formed);
+      log = formed .log .size;
+      walks = log-walkable c m formed (n - 1) (omega (arith, before));
+      acts = transaction-usable c m formed (n - 1) before;
+      short = transaction-length c m formed (n - 1) before .1;
+    }
+
+    -- the message's length, by the count of records
+    module _ (first count : ℕ) (f : first ≡ walk (n - 1) (m .log) (firstRecord c)) (k : count ≡ length (recordsOf (m .log) first)) where
+      abbrev texts : List (List ℕ)
+      texts = map handedIn (transactionAt (m .log) first)
+
+      length-texts : length texts ≡ count
+      length-texts = length-handed-in (m .log) first ∙ sym k
+
+      joined-length : length (joined texts) ≡ 80 * count
+      joined-length =
+          let o = rw (sym f) at (transaction-operations c m formed (n - 1) before) in
+          length-joined texts (handed-operations _ o .0) ∙ ap (λ (k : ℕ). 80 * k) length-texts
+
+      message-is : messageIn c (m .log) n ≡ u16Bytes n ++ (count ∷ 0 ∷ joined texts)
+      unfolding messageIn messageOf transactionAfter
+      message-is = rw (sym f) (ap (λ (k : ℕ). u16Bytes n ++ (k ∷ 0 ∷ joined texts)) length-texts)
+
+      message-length : length (messageIn c (m .log) n) ≡ 4 + 80 * count
+      unfolding u16Bytes
+      message-length = ap length message-is ∙ (let j = joined-length in omega arith)
+
+      -- the writer's own row decides
+      own-row : (b : Bool) → ltb (length out) (4 + 80 * count) ≡ b → cond b 17 0 ≡ writeStop c m n (length out)
+      unfolding writeStop writeRows stopped
+      own-row b g =
+          let memory = later-stops (memoryRows c m) (numberRow (c .commits) n ∷ []) 0 (memory-numbered c m) (sym e ∙ z) .0 in
+          decides (memoryRows c m) _ 0 (cond b 17 0) (memory-numbered c m) (sym memory) refl (rw (known-number, message-length, g))
+
+      pub write-short : length out < 4 + 80 * count → after (refused 17) c m out ≡ write c m n out
+      unfolding write unless
+      write-short h = let s = own-row true (lt-ltb _ _ h) in rw (sym s)
+
+      pub write-accepted : 4 + 80 * count ≤ length out → (new : List ℕ) → new ≡ over (over out 0 4 (u16Bytes n ++ (count ∷ 0 ∷ []))) 4 (4 + 80 * count - 4) (joined texts)
+          → after (done (4 + 80 * count)) c m new ≡ write c m n out
+      unfolding write unless u16Bytes
+      write-accepted h new g =
+          let s = own-row false (le-ltb _ _ h) in
+          let k : 4 + 80 * count - 4 ≡ 80 * count = add-sub-cancel-left 4 (80 * count) in
+          let whole = over-beside out 0 4 (80 * count) (u16Bytes n ++ (count ∷ 0 ∷ [])) (joined texts) (omega arith) refl in
+          rw (sym s, message-length, message-is) (ap (λ (x : List ℕ). after (done (4 + 80 * count)) c m x) ((rw k at g) ∙ whole))
