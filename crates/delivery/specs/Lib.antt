@@ -1,0 +1,2 @@
+-- The statement of document 02's S-6.
+pub mod Delivery

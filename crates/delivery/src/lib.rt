@@ -1,0 +1,1 @@
+// Theory without code: what a van has after any list of messages.
