@@ -6,7 +6,8 @@
  * once the copy has reached the session's number, and waits until then; where it cannot wait, the read is forwarded to the head end. The
  * number is that of the session's last commit, or the count of commits at which the head end refused it one because of a cart's state (8)
  * or answered it, whichever came later. So nobody is handed an old cut that they have just replaced, or told or shown what the head end
- * has and then shown a copy from before.
+ * has and then shown a copy from before. A copy beyond a line that loses, repeats and reorders (an outside-broadcast van) is kept by
+ * messages, one for each transaction: sulyobak_van_write and sulyobak_van_receive.
  *
  * ONE CHAIR IS ONE SESSION. The wait goes by the session's own number, so whoever edits must read in the session that committed. With two
  * sessions in one chair, an edit committed in the first does not raise the second's number: a read in the second is answered at once from
@@ -24,9 +25,11 @@
  *
  * WHAT REMAINS THE CALLER'S. No library can test these:
  *   - every pointer is valid for as many bytes as its length says, and not null where the length is 0; what is not const is writable;
- *   - the buffers of one call do not overlap: the three memories, output, and what is read (operations, request, session_studios);
+ *   - the buffers of one call do not overlap: the three memories, output, the van's copy, and what is read (operations, request,
+ *     message, session_studios);
  *   - one call at a time on the same memory, and nobody else reads or writes it while a call runs (calls on different memories may
- *     run at the same time, and so may previews and layout tests of one memory: they change neither memory nor control);
+ *     run at the same time, and so may previews, layout tests and van_writes, each with an output of its own, of one memory: they change
+ *     neither memory nor control);
  *   - the control that the last call handed back goes into the next one, and memory is kept as that call left it. (Where control
  *     or memory are damaged so that they are no longer of the layout, each call says so with the number 2. A control that is old, but
  *     still of the layout for this memory, cannot be told from the right one.)
@@ -46,7 +49,7 @@ extern "C" {
 /* The version of this interface: functions, structs, numbers and layout of memory. sulyobak_control and sulyobak_answer may change
  * with it, so a header and a library go together (compare the macro with sulyobak_version() at the program's start), and control is stored
  * together with the version that wrote it. docs/FORMAT.md says which versions have the same control and layout. */
-#define SULYOBAK_VERSION 5
+#define SULYOBAK_VERSION 6
 
 /* Stack that every call keeps within, in bytes. Measured on a full system, not proved: examples/run runs examples/c/stack.c, which fails
  * where a call takes more. */
@@ -63,6 +66,8 @@ extern "C" {
 #define SULYOBAK_REQUEST_SIZE 80    /* what a read or forward asks for */
 #define SULYOBAK_COPY_SIZE 10240    /* one copy of the library */
 #define SULYOBAK_OUTPUT_MOST 2560   /* output of this size is long enough for every read and forward */
+#define SULYOBAK_MESSAGE_HEAD 4     /* what stands before the operations of a message */
+#define SULYOBAK_MESSAGE_MOST 644   /* a message of 8 operations; output of this size is long enough for every message */
 
 /* How many there are at most. */
 #define SULYOBAK_STUDIOS 4      /* studios, numbered from 1 */
@@ -92,6 +97,12 @@ extern "C" {
  *   byte 1        how many numbers, 1 to 32; or the length of the title, 1 to 64
  *   bytes 2-15    zero
  *   bytes 16-79   the cart numbers, two bytes each, 1 to 128; or the title; then zeros
+ *
+ * A MESSAGE to a van is 4 + 80 x count bytes, exactly:
+ *   bytes 0-1     number of the transaction, at least 1
+ *   byte 2        count of its operations, 1 to 8
+ *   byte 3        zero
+ *   bytes 4-      the operations, 80 bytes each, of the form above (a title may begin or end with a space: the log may have such titles)
  */
 #define SULYOBAK_OPERATION_NEW 1
 #define SULYOBAK_OPERATION_RETITLE 2
@@ -112,18 +123,27 @@ typedef struct {
 
 /* What a call answers. Words that have no meaning for the kind are 0. */
 typedef struct {
-    uint32_t kind;  /* one of the four below */
+    uint32_t kind;  /* refused, done, answered or waits: below */
     uint32_t value; /* refused: the number, below; done: what the call counts; answered: the state; waits: the session's number */
     uint32_t found; /* answered: how many carts were found */
     sulyobak_control control; /* control for the next call; unchanged where the call was refused (setup's apart), and by preview, read,
-                               * collect, forward and layout */
+                               * collect, forward, layout and van_write */
 } sulyobak_answer;
+
+/* What sulyobak_van_receive answers. */
+typedef struct {
+    uint32_t kind;    /* refused, done (the message is applied) or held */
+    uint32_t value;   /* refused: the number, below; done and held: the message's number */
+    uint32_t applied; /* applied for the next call: the message's number where it is applied, else as it was passed */
+} sulyobak_van_answer;
 
 /* Kinds of answer. */
 #define SULYOBAK_REFUSED 0  /* value says why; nothing was done, no byte was changed (but a session's number, by a commit refused by 8) */
-#define SULYOBAK_DONE 1     /* done; value: the commit's number (of a preview the one it would have), sent, or applied; 0 for setup and layout */
+#define SULYOBAK_DONE 1     /* done; value: the commit's number (of a preview the one it would have), sent, applied, or a message's length; 0
+                             * for setup and layout */
 #define SULYOBAK_ANSWERED 2 /* the read or forward is answered; value: transactions that the copy had taken; found; carts are in output */
 #define SULYOBAK_WAITS 3    /* the read is kept in the session; value: the number that the studio's copy has to reach first */
+#define SULYOBAK_HELD 4     /* the van holds this message's transaction already; nothing was changed */
 
 /* Why a call was refused. They are tested in the order in which each function below lists them. */
 #define SULYOBAK_BAD_LENGTHS 1      /* One of the three memories does not have its exact length. */
@@ -142,6 +162,9 @@ typedef struct {
 #define SULYOBAK_NOTHING_WAITING 14 /* The session has no read waiting. */
 #define SULYOBAK_BAD_STUDIOS 15     /* Studios are 1 to 4, with one byte for each of 16 sessions, none above the number of studios. */
 #define SULYOBAK_SPACED_TITLE 16    /* The title of a new or retitle begins or ends with a space. */
+#define SULYOBAK_BAD_MESSAGE 17     /* van_receive: the message is out of form, or the copy is not 10,240 bytes of the layout.
+                                     * van_write: no such transaction (1 to control.commits), or output is shorter than its message. */
+#define SULYOBAK_MESSAGE_AHEAD 18   /* The message's number is above applied + 1: one before it has not been applied yet. */
 
 /* The version of the linked library: SULYOBAK_VERSION of the header that it was made with. */
 uint32_t sulyobak_version(void);
@@ -243,6 +266,28 @@ sulyobak_answer sulyobak_forward(const uint8_t *library, size_t library_len, con
  * Answers done (value 0), or refused 1, 2. */
 sulyobak_answer sulyobak_layout(const uint8_t *library, size_t library_len, const uint8_t *log, size_t log_len,
                                 const uint8_t *sessions, size_t sessions_len, sulyobak_control control);
+
+/* Writes the message of a committed transaction, for a van. Changes no memory and hands control back as it was passed. The same number
+ * gives the same message for as long as the log stands, whatever is called in between: write it again where it was lost.
+ *   control              as the last call handed it back
+ *   number               of the transaction, 1 to control.commits; it need not have been sent to any studio
+ *   output, output_len   where the message is written, from its start. Bytes after it are left alone.
+ * Answers done (value: the message's length), or refused 1, 2, 17. */
+sulyobak_answer sulyobak_van_write(const uint8_t *library, size_t library_len, const uint8_t *log, size_t log_len,
+                                   const uint8_t *sessions, size_t sessions_len, sulyobak_control control, uint32_t number,
+                                   uint8_t *output, size_t output_len);
+
+/* Receives a message in the van. A fresh van has a copy of 10,240 zero bytes and applied 0; nothing else of the head end is needed.
+ * Messages may be lost, repeated and come in any order (they may not be damaged: a damaged one that is still of the form cannot be told).
+ * The transaction after the applied ones acts on the copy; one that is held already changes nothing, and so does one that comes too soon
+ * (18): have it sent again after those before it. So with messages of one log, from a fresh van on, the copy is always that of the log's
+ * first `applied` transactions.
+ *   copy, copy_len         SULYOBAK_COPY_SIZE bytes: the van's copy
+ *   applied                as the last call handed it back; 0 for a fresh van
+ *   message, message_len   as sulyobak_van_write wrote it
+ * Answers done (value: the message's number, which is applied now), held (value: the message's number, up to applied), or refused 17, 18.
+ * Where it is not done, no byte of the copy is changed and applied comes back as it was passed. */
+sulyobak_van_answer sulyobak_van_receive(uint8_t *copy, size_t copy_len, uint32_t applied, const uint8_t *message, size_t message_len);
 
 #ifdef __cplusplus
 }

@@ -1,6 +1,6 @@
 /*
- * Helpers for sulyobak.h: they make the bytes of operations and requests, and take carts and sessions apart. Everything is static inline,
- * for C99 and C++; nothing is allocated, and nothing but sulyobak.h is needed. The engine tests all of it again.
+ * Helpers for sulyobak.h: they make the bytes of operations and requests, and take carts, sessions and messages apart. Everything is static
+ * inline, for C99 and C++; nothing is allocated, and nothing but sulyobak.h is needed. The engine tests all of it again.
  */
 #ifndef SULYOBAK_UTIL_H
 #define SULYOBAK_UTIL_H
@@ -226,6 +226,22 @@ static inline uint32_t sulyobak_session_cart(const uint8_t *session, size_t plac
 }
 
 /*
+ * A MESSAGE to a van: at least the four bytes before its operations are looked at.
+ */
+
+/* The number of its transaction. */
+static inline uint32_t sulyobak_message_number(const uint8_t *message)
+{
+    return sulyobak_get(message, 2);
+}
+
+/* How many operations it has; its length is SULYOBAK_MESSAGE_HEAD + SULYOBAK_OPERATION_SIZE x so many bytes. */
+static inline uint32_t sulyobak_message_count(const uint8_t *message)
+{
+    return message[2];
+}
+
+/*
  * SENTENCES for people. Each is a string that lasts.
  */
 
@@ -250,6 +266,9 @@ static inline const char *sulyobak_refusal_sentence(uint32_t refusal)
     case SULYOBAK_NOTHING_WAITING: return "the session has no read waiting";
     case SULYOBAK_BAD_STUDIOS: return "studios are 1 to 4, with a studio for each of 16 sessions, none above the number of studios";
     case SULYOBAK_SPACED_TITLE: return "the title begins or ends with a space";
+    case SULYOBAK_BAD_MESSAGE:
+        return "no such transaction, or output shorter than its message; in the van: a message out of form, or a copy not of the layout";
+    case SULYOBAK_MESSAGE_AHEAD: return "the message comes too soon: a transaction before it has not been applied yet";
     default: return "a number that this version does not have";
     }
 }

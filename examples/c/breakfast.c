@@ -8,7 +8,9 @@
  * steps before making it, is told what is wrong with it, mends it and commits it. Part four: the presenter is told that the cart of that
  * edit is taken. The studio's copy still has it empty, so the presenter's read of it waits, and is collected with what is there. Part
  * five: ten seconds before the hour the presenter re-cuts the news bed and cannot wait for the studio. The read is forwarded, and the head
- * end shows the new cut. A plain read then waits until the studio's copy has all that the head end had shown.
+ * end shows the new cut. A plain read then waits until the studio's copy has all that the head end had shown. Part six: a van at the fair
+ * has a copy of its own, beyond a radio link that loses, repeats and reorders messages. The van applies each transaction in its turn and
+ * once, so its presenter sees the carts of one moment, and at last those of the head end.
  */
 #include "sulyobak_util.h"
 
@@ -30,6 +32,10 @@ static sulyobak_control control;
 
 /* What the last read wrote. */
 static uint8_t output[SULYOBAK_OUTPUT_MOST];
+
+/* The van: its copy, and how many transactions it has applied. */
+static uint8_t van_copy[SULYOBAK_COPY_SIZE];
+static uint32_t van_applied;
 
 /* For operations and requests that are made of fixed words: they fit. */
 static void made(int why)
@@ -64,9 +70,8 @@ static void say(const char *what, sulyobak_answer answer)
     }
 }
 
-static void show(size_t place)
+static void show_cart(const uint8_t *cart)
 {
-    const uint8_t *cart = sulyobak_cart_at(output, place);
     char title[SULYOBAK_TITLE_MOST + 1];
     sulyobak_title(cart, title);
     if (!sulyobak_cart_is_held(cart))
@@ -74,6 +79,11 @@ static void show(size_t place)
     else
         printf("    cart %u, audio %u, %u ms: %s\n", (unsigned)sulyobak_cart_number(cart), (unsigned)sulyobak_cart_audio(cart),
                (unsigned)sulyobak_cart_milliseconds(cart), title);
+}
+
+static void show(size_t place)
+{
+    show_cart(sulyobak_cart_at(output, place));
 }
 
 static void commit(const char *what, uint32_t session, const uint8_t *operations, size_t count)
@@ -113,6 +123,26 @@ static void catch_up(void)
 {
     say("  the line sends one transaction to the studio", sulyobak_send(MEMORY, control, STUDIO));
     say("  the studio's copy takes it", sulyobak_refresh(MEMORY, control, STUDIO));
+}
+
+/* The head end writes the message of a transaction, and the link brings it to the van. */
+static void bring(const char *what, uint32_t number)
+{
+    uint8_t message[SULYOBAK_MESSAGE_MOST];
+    sulyobak_answer written = sulyobak_van_write(MEMORY, control, number, message, sizeof message);
+    sulyobak_van_answer answer;
+    if (written.kind == SULYOBAK_REFUSED) {
+        printf("%s\n", sulyobak_refusal_sentence(written.value));
+        exit(1);
+    }
+    answer = sulyobak_van_receive(van_copy, sizeof van_copy, van_applied, message, written.value);
+    van_applied = answer.applied;
+    printf("%-66s ", what);
+    if (answer.kind == SULYOBAK_REFUSED)
+        printf("refused %u\n    message %u: %s\n", (unsigned)answer.value, (unsigned)sulyobak_message_number(message),
+               sulyobak_refusal_sentence(answer.value));
+    else
+        printf("%s %u\n", answer.kind == SULYOBAK_HELD ? "held" : "applied", (unsigned)answer.value);
 }
 
 static void the_title_column(void)
@@ -223,6 +253,33 @@ static void ten_seconds_before_the_hour(void)
     say("control and memory are of the layout", sulyobak_layout(MEMORY, control));
 }
 
+static void the_van(void)
+{
+    const uint8_t *news = sulyobak_cart_at(van_copy, NEWS - 1);
+    uint8_t operation[SULYOBAK_OPERATION_SIZE];
+
+    printf("\nThe van\n");
+    bring("the link brings the first edit", 1);
+    bring("the second is lost; the third comes", 3);
+    bring("the first comes once more", 1);
+    bring("the second is sent again", 2);
+    printf("the van has applied %u of %u; its presenter looks at the news bed\n", (unsigned)van_applied, (unsigned)control.commits);
+    show_cart(news);
+    made(sulyobak_operation_withdraw(operation, JINGLE_B));
+    commit("meanwhile the manager withdraws take B", MANAGER, operation, 1);
+    bring("the third is sent again", 3);
+    bring("the fifth comes before the fourth", 5);
+    bring("the fourth comes", 4);
+    bring("the fifth is sent again", 5);
+    bring("the sixth comes", 6);
+    bring("the second comes once more", 2);
+    bring("the manager's comes", 7);
+    printf("the van has applied %u of %u; its presenter looks at the news bed\n", (unsigned)van_applied, (unsigned)control.commits);
+    show_cart(news);
+    printf("in the van and at the head end: %s\n",
+           memcmp(van_copy, library_memory, sizeof van_copy) == 0 ? "the same carts" : "DIFFERENT carts");
+}
+
 int main(void)
 {
     static const uint8_t studios[SULYOBAK_SESSIONS] = {STUDIO, STUDIO, STUDIO, STUDIO};
@@ -236,5 +293,6 @@ int main(void)
     the_weather_bed();
     the_taken_cart();
     ten_seconds_before_the_hour();
+    the_van();
     return 0;
 }

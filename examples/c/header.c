@@ -7,9 +7,13 @@ typedef char control_is_27_words[sizeof(sulyobak_control) == 27 * 4 ? 1 : -1];
 typedef char answer_is_30_words[sizeof(sulyobak_answer) == 30 * 4 ? 1 : -1];
 typedef char kind_is_first[offsetof(sulyobak_answer, kind) == 0 ? 1 : -1];
 typedef char control_is_last[offsetof(sulyobak_answer, control) == 3 * 4 ? 1 : -1];
+typedef char van_answer_is_3_words[sizeof(sulyobak_van_answer) == 3 * 4 ? 1 : -1];
+typedef char applied_is_last[offsetof(sulyobak_van_answer, applied) == 2 * 4 ? 1 : -1];
 typedef char searched_is_3_words[sizeof(carts_searched) == 3 * 4 ? 1 : -1];
 typedef char letters_are_last[offsetof(carts_searched, letters) == 2 * 4 ? 1 : -1];
 typedef char output_holds_every_read[SULYOBAK_OUTPUT_MOST == SULYOBAK_NUMBERS * SULYOBAK_CART_SIZE ? 1 : -1];
+typedef char output_holds_every_message[SULYOBAK_MESSAGE_MOST ==
+                                        SULYOBAK_MESSAGE_HEAD + SULYOBAK_OPERATIONS * SULYOBAK_OPERATION_SIZE ? 1 : -1];
 typedef char library_is_five_copies[SULYOBAK_LIBRARY_SIZE == 5 * SULYOBAK_COPY_SIZE ? 1 : -1];
 
 #define WRITTEN uint8_t *, size_t
@@ -26,5 +30,7 @@ sulyobak_answer (*const of_a_read[])(READ, READ, WRITTEN, sulyobak_control, uint
 sulyobak_answer (*const of_a_collect[])(READ, READ, WRITTEN, sulyobak_control, uint32_t, WRITTEN) = {sulyobak_collect};
 sulyobak_answer (*const of_a_forward[])(READ, READ, WRITTEN, sulyobak_control, uint32_t, READ, WRITTEN) = {sulyobak_forward};
 sulyobak_answer (*const of_the_layout[])(READ, READ, READ, sulyobak_control) = {sulyobak_layout};
+sulyobak_answer (*const of_a_van_write[])(READ, READ, READ, sulyobak_control, uint32_t, WRITTEN) = {sulyobak_van_write};
+sulyobak_van_answer (*const of_a_van_receive[])(WRITTEN, uint32_t, READ) = {sulyobak_van_receive};
 bool (*const of_a_scan[])(READ) = {carts_all_zero, carts_is_copy, carts_all_operations};
 carts_searched (*const of_a_search[])(READ, READ) = {carts_search};

@@ -19,6 +19,8 @@ static uint8_t session_memory[SULYOBAK_SESSIONS_SIZE];
 static uint8_t operations[SULYOBAK_OPERATIONS * SULYOBAK_OPERATION_SIZE];
 static uint8_t request[SULYOBAK_REQUEST_SIZE];
 static uint8_t output[SULYOBAK_OUTPUT_MOST];
+static uint8_t message[SULYOBAK_MESSAGE_MOST];
+static uint8_t van_copy[SULYOBAK_COPY_SIZE];
 static const uint8_t studios[SULYOBAK_SESSIONS] = {1, 1};
 static sulyobak_answer answer;
 
@@ -47,6 +49,16 @@ static sulyobak_answer forward_as(uint32_t session)
 static sulyobak_answer forward(void) { return forward_as(READER); }
 static sulyobak_answer forward_own(void) { return forward_as(EDITOR); }
 static sulyobak_answer layout(void) { return sulyobak_layout(MEMORY, answer.control); }
+static sulyobak_answer van_write(void)
+{
+    return sulyobak_van_write(MEMORY, answer.control, answer.control.commits, message, sizeof message);
+}
+/* The message just written, in a van that has all before it. */
+static sulyobak_answer van_receive(void)
+{
+    answer.kind = sulyobak_van_receive(van_copy, sizeof van_copy, answer.control.commits - 1, message, sizeof message).kind;
+    return answer;
+}
 
 static void fail(const char *what)
 {
@@ -136,7 +148,10 @@ int main(void)
     measure("layout", layout);
     measure("preview of 8 operations", preview);
     measure("commit of 1 operation", commit_one);
+    memcpy(van_copy, library_memory, sizeof van_copy);
     measure("commit of 8 operations", commit_eight);
+    measure("van_write of 8 operations", van_write);
+    measure("van_receive of the same", van_receive);
     measure("send", send);
     measure("refresh", refresh);
     sulyobak_request_numbers(request, carts, SULYOBAK_NUMBERS);

@@ -163,13 +163,30 @@ static void test_forward(void)
     HOLD(sulyobak_session_number(session) == 4 && sulyobak_session_waiting(session) == 0);
 }
 
+/* A message is of the number and the operations that were committed, and a fresh van applies it. */
+static void test_messages(void)
+{
+    static uint8_t copy[SULYOBAK_COPY_SIZE];
+    uint8_t message[SULYOBAK_MESSAGE_MOST];
+    uint32_t number, applied = 0;
+    for (number = 1; number <= control.commits; number++) {
+        uint32_t length = keep(sulyobak_van_write(MEMORY, control, number, message, sizeof message)).value;
+        sulyobak_van_answer answer = sulyobak_van_receive(copy, sizeof copy, applied, message, length);
+        HOLD(sulyobak_message_number(message) == number && sulyobak_message_count(message) == (number == 1 ? 4u : 1u));
+        HOLD(length == SULYOBAK_MESSAGE_HEAD + sulyobak_message_count(message) * SULYOBAK_OPERATION_SIZE);
+        HOLD(answer.kind == SULYOBAK_DONE && answer.value == number && answer.applied == number);
+        applied = answer.applied;
+    }
+    HOLD(applied == 4 && memcmp(copy, library_memory, sizeof copy) == 0);
+}
+
 /* Every number has a sentence of its own. */
 static void test_sentences(void)
 {
     uint32_t i, j;
-    for (i = 0; i <= 16; i++)
-        for (j = i + 1; j <= 17; j++)
-            HOLD(strcmp(sulyobak_refusal_sentence(i), sulyobak_refusal_sentence(j)) != 0 || (i == 0 && j == 17));
+    for (i = 0; i <= 18; i++)
+        for (j = i + 1; j <= 19; j++)
+            HOLD(strcmp(sulyobak_refusal_sentence(i), sulyobak_refusal_sentence(j)) != 0 || (i == 0 && j == 19));
     for (i = 0; i <= 7; i++)
         for (j = i + 1; j <= 8; j++)
             HOLD(strcmp(sulyobak_made_sentence((int)i), sulyobak_made_sentence((int)j)) != 0);
@@ -186,6 +203,7 @@ int main(void)
     test_sessions();
     test_taken();
     test_forward();
+    test_messages();
     test_sentences();
     printf("util_test: everything held\n");
     return 0;

@@ -5,11 +5,13 @@
 //! behind: the read waits, and is collected with the new cut. One chair is one session: a second session in the producer's chair has
 //! edited nothing, so its read is answered at once with the old cut. Then the producer tries an edit of two steps before making it, is
 //! told what is wrong with it, mends it and commits it. Then the presenter is told that the cart of that edit is taken: the studio's copy
-//! still has it empty, so the presenter's read of it waits, and is collected with what is there. Last, ten seconds before the hour, the
+//! still has it empty, so the presenter's read of it waits, and is collected with what is there. Then, ten seconds before the hour, the
 //! presenter re-cuts the news bed and cannot wait for the studio: the read is forwarded, and the head end shows the new cut. A plain read
-//! then waits until the studio's copy has all that the head end had shown.
+//! then waits until the studio's copy has all that the head end had shown. Last, a van at the fair has a copy of its own, beyond a radio
+//! link that loses, repeats and reorders messages: the van applies each transaction in its turn and once, so its presenter sees the carts
+//! of one moment, and at last those of the head end.
 use std::error::Error;
-use sulyobak::{Cart, Forwarded, Library, Operation, Read, Refusal, Request, Title};
+use sulyobak::{sizes, Cart, Forwarded, Library, Operation, Read, Received, Refusal, Request, Title, Van};
 
 // Sessions, and the studio that all of them sit in.
 const MANAGER: u32 = 1;
@@ -36,6 +38,8 @@ fn main() -> Result<(), Box<dyn Error>> {
     the_taken_cart(&mut wall)?;
     println!();
     ten_seconds_before_the_hour(&mut wall)?;
+    println!();
+    the_van(&mut wall)?;
     Ok(())
 }
 
@@ -141,6 +145,44 @@ fn ten_seconds_before_the_hour(wall: &mut Library) -> Result<(), Box<dyn Error>>
     let shown = wall.forward(PRESENTER, &request)?;
     show_forwarded("the presenter forwards once more", wall, &shown);
     Ok(())
+}
+
+fn the_van(wall: &mut Library) -> Result<(), Box<dyn Error>> {
+    println!("The van");
+    let mut van = Van::new();
+    bring(wall, &mut van, "the link brings the first edit", 1)?;
+    bring(wall, &mut van, "the second is lost; the third comes", 3)?;
+    bring(wall, &mut van, "the first comes once more", 1)?;
+    bring(wall, &mut van, "the second is sent again", 2)?;
+    show_van(wall, &van);
+    println!("commit {}: meanwhile the manager withdraws take B", wall.commit(MANAGER, &[Operation::Withdraw { cart: JINGLE_B }])?);
+    bring(wall, &mut van, "the third is sent again", 3)?;
+    bring(wall, &mut van, "the fifth comes before the fourth", 5)?;
+    bring(wall, &mut van, "the fourth comes", 4)?;
+    bring(wall, &mut van, "the fifth is sent again", 5)?;
+    bring(wall, &mut van, "the sixth comes", 6)?;
+    bring(wall, &mut van, "the second comes once more", 2)?;
+    bring(wall, &mut van, "the manager's comes", 7)?;
+    show_van(wall, &van);
+    let level = van.copy() == &wall.clone().into_parts().library[..sizes::COPY];
+    println!("in the van and at the head end: {}", if level { "the same carts" } else { "DIFFERENT carts" });
+    Ok(())
+}
+
+// The head end writes the message of a transaction, and the link brings it to the van.
+fn bring(wall: &Library, van: &mut Van, what: &str, number: u32) -> Result<(), Refusal> {
+    let message = wall.van_write(number)?;
+    match van.receive(message.as_bytes()) {
+        Ok(Received::Applied { number }) => println!("{what}: applied {number}"),
+        Ok(Received::Held { number }) => println!("{what}: held {number}"),
+        Err(refusal) => println!("{what}: {refusal}"),
+    }
+    Ok(())
+}
+
+fn show_van(wall: &Library, van: &Van) {
+    println!("the van has applied {} of {}; its presenter looks at the news bed", van.applied(), wall.control().commits);
+    show_carts(&[van.cart(NEWS)]);
 }
 
 // The line sends one transaction, and the studio's copy takes it.

@@ -11,8 +11,14 @@ use Rattle.replication.specs.declared.control.Control.{Control}
 use Rattle.replication.specs.declared.answer.SetupAnswer.{SetupAnswer}
 use Rattle.replication.specs.declared.answer.CountAnswer.{CountAnswer}
 use Rattle.replication.specs.declared.answer.ReadAnswer.{ReadAnswer}
+use Rattle.van.specs.Answer as Van
+use Rattle.van.specs.Answer.{receiveAnswer}
+use Rattle.van.specs.Receive as Received
+use Rattle.van.specs.declared.answer.ReceiveAnswer.{ReceiveAnswer}
 use Rattle.sulyobak.specs.Words.{words, wordsOf, answerBy, left, leftBy, layoutWords}
+use Rattle.sulyobak.specs.VanWords.{vanWordsOf, vanAnswerBy, vanLeft, vanLeftBy}
 use Rattle.sulyobak.specs.declared.words.Words.{Words}
+use Rattle.sulyobak.specs.declared.van_words.VanWords.{VanWords}
 
 -- every answer is read back from its words
 pub words-tell : (a : Answer) (c : Control) → answerBy (wordsOf a c) ≡ a
@@ -43,3 +49,16 @@ layout-stopped w c m n e h f = f ∙ simp (← e, ne-eqb n 0 h)
 pub layout-passed : (w : Words) (c : Control) (m : Memory) (n : ℕ) → n ≡ stopped (memoryRows c m) → n ≡ 0 → w ≡ words 1 0 0 c → w ≡ layoutWords c m
 unfolding layoutWords
 layout-passed w c m n e h f = f ∙ simp (← e, eq-eqb n 0 h)
+
+-- the van's words, likewise
+pub van-words-tell : (a : Van.Answer) (k : ℕ) → vanAnswerBy (vanWordsOf a k) ≡ a
+van-words-tell (Van.refused n) k = refl
+van-words-tell (Van.applied n) k = refl
+van-words-tell (Van.held n) k = refl
+
+pub van-crosses : (w : VanWords) (a : Van.Answer) (copy : List ℕ) (k : ℕ) (x : Received.After) → Received.after a (Received.van copy k) ≡ x → w ≡ vanWordsOf a k
+    → vanLeft w copy ≡ vanLeftBy x
+van-crosses w a copy k x e f = ap (λ (v : VanWords). vanLeft v copy) f ∙ ap vanLeftBy e
+
+pub receive-words : (w : VanWords) (a b : ReceiveAnswer) (k : ℕ) → a ≡ b → w ≡ vanWordsOf (receiveAnswer b) k → w ≡ vanWordsOf (receiveAnswer a) k
+receive-words w a b k e f = f ∙ sym (ap (λ (x : ReceiveAnswer). vanWordsOf (receiveAnswer x) k) e)

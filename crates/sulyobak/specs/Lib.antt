@@ -1,2 +1,3 @@
 -- What the calls leave, as C sees it.
 pub mod Words
+pub mod VanWords

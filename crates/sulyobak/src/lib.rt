@@ -1,5 +1,6 @@
 // The engine for C and Rust: include/sulyobak.h says the same to C. Each function passes its arguments on and hands the answer back as
 // words; no test is left to the caller.
+use crate::van_words::VanWords;
 use crate::words::Words;
 use replication::collect;
 use replication::commit;
@@ -11,12 +12,17 @@ use replication::refresh;
 use replication::rows;
 use replication::send;
 use replication::setup;
+use van::receive;
+use van::write;
 ghost use mathlib.Core.Path.{_≡_};
 ghost use mathlib.Core.List.{[]};
 ghost use Rattle.replication.specs.Memory.{memory};
-ghost use Rattle.replication.specs.Calls.{setup, commit, preview, send, refresh, read, collect, forward};
+ghost use Rattle.replication.specs.Calls.{setup, commit, preview, send, refresh, read, collect, forward, write};
+ghost use Rattle.van.specs.Receive.{van, receive};
 ghost use Rattle.sulyobak.specs.Words.{left, leftBy, layoutWords, version};
+ghost use Rattle.sulyobak.specs.VanWords.{vanLeft, vanLeftBy};
 
+pub mod van_words;
 pub mod words;
 
 // The version of this interface, for a program that was compiled with a header of its own.
@@ -169,4 +175,28 @@ pub extern "C" fn sulyobak_layout(
         return Words::new(Words::REFUSED, stopped, control);
     }
     Words::new(Words::DONE, 0, control)
+}
+
+// The message of a committed transaction, for a van. Memory is only read.
+#[no_mangle]
+pub extern "C" fn sulyobak_van_write(
+    library: &[u8],
+    log: &[u8],
+    sessions: &[u8],
+    control: Control,
+    number: u32,
+    output: &mut [u8],
+) -> Words
+    ensures { λ r. ⌜ left r (memory (now (library .entry)) (now (log .entry)) (now (sessions .entry))) (now (output .exit))
+        ≡ leftBy (write control (memory (now (library .entry)) (now (log .entry)) (now (sessions .entry))) number (now (output .entry))) ⌝ }
+{
+    Words::of_count(write::write(control, library, log, sessions, number, output))
+}
+
+// A message, received in the van: it acts on the van's copy where it is the next one.
+#[no_mangle]
+pub extern "C" fn sulyobak_van_receive(copy: &mut [u8], applied: u32, message: &[u8]) -> VanWords
+    ensures { λ r. ⌜ vanLeft r (now (copy .exit)) ≡ vanLeftBy (receive (van (now (copy .entry)) applied) (now (message .entry))) ⌝ }
+{
+    VanWords::of_receive(receive::receive(copy, applied, message))
 }

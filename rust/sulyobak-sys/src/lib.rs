@@ -5,7 +5,7 @@
 pub mod sizes;
 
 /// The version of the interface that these declarations are for: `SULYOBAK_VERSION`.
-pub const VERSION: u32 = 5;
+pub const VERSION: u32 = 6;
 
 /// The counts of a system. The engine is passed them and hands them back; any value may stand in any field, and each has its answer.
 ///
@@ -41,8 +41,21 @@ pub struct Answer {
     pub control: Control,
 }
 
-// The structs of the header have 27 and 30 words.
+/// What [`sulyobak_van_receive`] answers.
+#[repr(C)]
+#[derive(Clone, Copy, Debug, PartialEq, Eq)]
+pub struct VanAnswer {
+    /// [`REFUSED`], [`DONE`] (the message is applied) or [`HELD`].
+    pub kind: u32,
+    /// Refused: the number; done and held: the message's number.
+    pub value: u32,
+    /// Applied for the next call.
+    pub applied: u32,
+}
+
+// The structs of the header have 27, 30 and 3 words.
 const _: () = assert!(core::mem::size_of::<Control>() == 27 * 4 && core::mem::size_of::<Answer>() == 30 * 4);
+const _: () = assert!(core::mem::size_of::<VanAnswer>() == 3 * 4);
 
 /// Nothing was done, and no byte was changed (but a session's number, by a commit refused by 8).
 pub const REFUSED: u32 = 0;
@@ -52,6 +65,8 @@ pub const DONE: u32 = 1;
 pub const ANSWERED: u32 = 2;
 /// The read is kept in the session.
 pub const WAITS: u32 = 3;
+/// The van holds the message's transaction already; nothing was changed.
+pub const HELD: u32 = 4;
 
 extern "C" {
     /// The version of the linked engine: [`VERSION`] of the interface that it was made for.
@@ -178,4 +193,21 @@ extern "C" {
         sessions_len: usize,
         control: Control,
     ) -> Answer;
+
+    /// Writes the message of a committed transaction, for a van.
+    pub fn sulyobak_van_write(
+        library: *const u8,
+        library_len: usize,
+        log: *const u8,
+        log_len: usize,
+        sessions: *const u8,
+        sessions_len: usize,
+        control: Control,
+        number: u32,
+        output: *mut u8,
+        output_len: usize,
+    ) -> Answer;
+
+    /// Receives a message in the van: applies it to the van's copy where it is the next one.
+    pub fn sulyobak_van_receive(copy: *mut u8, copy_len: usize, applied: u32, message: *const u8, message_len: usize) -> VanAnswer;
 }

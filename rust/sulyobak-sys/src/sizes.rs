@@ -12,6 +12,10 @@ pub const COPY: usize = 10_240;
 pub const CART: usize = 80;
 /// Bytes of output that are long enough for every read.
 pub const OUTPUT_MOST: usize = CART * NUMBERS;
+/// Bytes of a message that stand before its operations.
+pub const MESSAGE_HEAD: usize = 4;
+/// Bytes of the longest message: output of this size is long enough for every one.
+pub const MESSAGE_MOST: usize = MESSAGE_HEAD + CART * OPERATIONS;
 /// Carts, numbered from 1.
 pub const CARTS: usize = 128;
 /// Studios at most, numbered from 1.

@@ -50,6 +50,11 @@ pub enum Refusal {
     Studios,
     /// 16: the title of a new or retitle begins or ends with a space.
     SpacedTitle,
+    /// 17: at the van's writer there is no such transaction, or output is shorter than its message; in the van the message is out of
+    /// form, or the copy is not of the layout.
+    Message,
+    /// 18: the message's number is above applied + 1.
+    MessageAhead,
     /// A number that this version of the crate does not know.
     Unknown(u32),
     /// The linked engine is of this version of the interface, and this crate is for [`VERSION`](crate::VERSION): nothing was called.
@@ -58,7 +63,7 @@ pub enum Refusal {
 
 impl Refusal {
     // Every refusal, by its number from 1.
-    const ALL: [Refusal; 16] = [
+    const ALL: [Refusal; 18] = [
         Refusal::Lengths,
         Refusal::Layout,
         Refusal::Nobody,
@@ -75,6 +80,8 @@ impl Refusal {
         Refusal::NothingWaiting,
         Refusal::Studios,
         Refusal::SpacedTitle,
+        Refusal::Message,
+        Refusal::MessageAhead,
     ];
 
     /// The refusal with this number of documents 01 and 02.
@@ -102,6 +109,8 @@ impl Refusal {
             Refusal::NothingWaiting => 14,
             Refusal::Studios => 15,
             Refusal::SpacedTitle => 16,
+            Refusal::Message => 17,
+            Refusal::MessageAhead => 18,
             Refusal::Unknown(number) => number,
             Refusal::Version(_) => 0,
         }
@@ -128,6 +137,10 @@ impl Refusal {
             Refusal::NothingWaiting => "the session has no read waiting",
             Refusal::Studios => "studios are 1 to 4, with a studio for each of 16 sessions, none above the number of studios",
             Refusal::SpacedTitle => "the title begins or ends with a space",
+            Refusal::Message => {
+                "no such transaction, or output shorter than its message; in the van: a message out of form, or a copy not of the layout"
+            }
+            Refusal::MessageAhead => "the message comes too soon: a transaction before it has not been applied yet",
             Refusal::Unknown(_) => "a number that this version of the crate does not have",
             Refusal::Version(_) => "the linked libsulyobak.a is of another version than this crate",
         }
@@ -220,18 +233,33 @@ impl ForwardFound {
     }
 }
 
+/// What a van answers to a message that it does not refuse.
+#[derive(Clone, Copy, Debug, PartialEq, Eq, Hash)]
+pub enum Received {
+    /// The message's transaction is applied: it was the next one.
+    Applied {
+        /// The message's number, which is what the van has applied now.
+        number: u32,
+    },
+    /// The van holds the message's transaction already: nothing was changed.
+    Held {
+        /// The message's number, up to what the van has applied.
+        number: u32,
+    },
+}
+
 #[cfg(test)]
 mod tests {
     use super::Refusal;
 
     #[test]
     fn every_refusal_has_its_number() {
-        for number in 1..=16 {
+        for number in 1..=18 {
             let refusal = Refusal::from_number(number);
             assert_eq!(refusal.number(), number);
             assert!(!matches!(refusal, Refusal::Unknown(_)));
         }
-        for number in [0, 17, u32::MAX] {
+        for number in [0, 19, u32::MAX] {
             assert_eq!(Refusal::from_number(number), Refusal::Unknown(number));
         }
     }

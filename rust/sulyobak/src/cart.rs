@@ -2,7 +2,7 @@ use crate::title::Title;
 use std::fmt;
 use sulyobak_sys::sizes;
 
-/// A cart that is held, as a read shows it.
+/// A cart that is held, as a read or a van's copy shows it.
 #[derive(Clone, Copy, Debug, PartialEq, Eq, Hash)]
 pub struct Cart {
     /// Its number, 1 to 128.
@@ -33,10 +33,14 @@ impl Cart {
         })
     }
 
+    // The same from a slice of 80 bytes.
+    pub(crate) fn from_slice(place: &[u8]) -> Option<Cart> {
+        place.try_into().ok().and_then(Cart::from_bytes)
+    }
+
     // The carts of an answered read's output, one for each place.
     pub(crate) fn all(output: &[u8]) -> Vec<Option<Cart>> {
-        let places = output.chunks_exact(sizes::CART);
-        places.map(|place| <&[u8; sizes::CART]>::try_from(place).ok().and_then(Cart::from_bytes)).collect()
+        output.chunks_exact(sizes::CART).map(Cart::from_slice).collect()
     }
 }
 

@@ -5,7 +5,8 @@
 //! once the copy has reached the session's number, and waits until then; where it cannot wait, the read is forwarded to the head end
 //! ([`Library::forward`]). The number is that of the session's last commit, or the count of commits at which the head end refused it one
 //! because of a cart's state ([`Refusal::WrongState`]) or answered it, whichever came later. So nobody is handed an old cut that they have
-//! just replaced, or told or shown what the head end has and then shown a copy from before.
+//! just replaced, or told or shown what the head end has and then shown a copy from before. A copy beyond a line that loses, repeats and
+//! reorders, in an outside-broadcast van, is kept by messages, one for each transaction ([`Library::van_write`], [`Van::receive`]).
 //!
 //! The engine is written in Rattle and linked as a static library; each of its functions is proved to answer, and to leave in
 //! memory, exactly what its specification gives. This crate is a safe wrapper around it, with no dependency but the
@@ -14,8 +15,9 @@
 //!
 //! - [`Library`] owns its memory: the usual choice.
 //! - [`Memory`] borrows memory that lies elsewhere, such as a mapped file.
-//! - [`Operation`], [`Request`] and [`Title`] are what goes in; [`Read`], [`Forwarded`], [`Cart`] and [`Refusal`] what comes
-//!   out.
+//! - [`Van`] owns the van's copy; it needs nothing of the head end but [`Message`]s.
+//! - [`Operation`], [`Request`] and [`Title`] are what goes in; [`Read`], [`Forwarded`], [`Received`], [`Cart`] and [`Refusal`] what
+//!   comes out.
 //!
 //! **One chair is one session.** The wait goes by the session's own number, so whoever edits must read in the session that committed.
 //! With two sessions in one chair, an edit committed in the first does not raise the second's number: a read in the second is answered at
@@ -57,17 +59,21 @@ mod call;
 mod cart;
 mod library;
 mod memory;
+mod message;
 mod operation;
 mod request;
 mod title;
+mod van;
 mod version;
 mod view;
 
-pub use answer::{ForwardFound, Forwarded, Found, Read, Refusal};
+pub use answer::{ForwardFound, Forwarded, Found, Read, Received, Refusal};
 pub use cart::Cart;
 pub use library::{Library, Parts};
 pub use memory::Memory;
+pub use message::Message;
 pub use operation::Operation;
 pub use request::{Numbers, NumbersError, Request};
 pub use sulyobak_sys::{sizes, Control, VERSION};
 pub use title::{Title, TitleError};
+pub use van::Van;

@@ -1,5 +1,6 @@
 use crate::answer::{Forwarded, Read, Refusal};
 use crate::memory::{self, Memory};
+use crate::message::Message;
 use crate::operation::{self, Operation};
 use crate::request::Request;
 use crate::view::View;
@@ -230,6 +231,52 @@ impl Library {
     /// ```
     pub fn forward(&mut self, session: u32, request: &Request) -> Result<Forwarded, Refusal> {
         self.memory().forward(session, request)
+    }
+
+    /// Writes the message of a committed transaction, for a [`Van`](crate::Van), and changes nothing. The transaction need not have been
+    /// sent to any studio; a number outside 1 to commits is refused ([`Refusal::Message`]).
+    ///
+    /// The same number gives the same message, whatever is called in between: where one was lost on the way, write it again.
+    ///
+    /// ```
+    /// use sulyobak::{Library, Operation, Refusal, Title, Van};
+    ///
+    /// # fn main() -> Result<(), Box<dyn std::error::Error>> {
+    /// let mut library = Library::new(1, &[1])?;
+    /// library.commit(1, &[Operation::New { cart: 7, title: Title::new("Top hour A")?, audio: 501, milliseconds: 8_000 }])?;
+    ///
+    /// let message = library.van_write(1)?;
+    /// assert_eq!((message.number(), message.count(), message.as_bytes().len()), (1, 1, 84));
+    /// assert_eq!(library.van_write(2), Err(Refusal::Message), "not committed yet");
+    ///
+    /// library.commit(1, &[Operation::Withdraw { cart: 7 }])?;
+    /// assert_eq!(library.van_write(1)?, message);
+    /// # Ok(())
+    /// # }
+    /// ```
+    pub fn van_write(&self, number: u32) -> Result<Message, Refusal> {
+        self.view().van_write(number)
+    }
+
+    /// The same into output that the caller lends, such as a packet of the radio link. Returns the message's length; what is after it in
+    /// output stays. Output of [`sizes::MESSAGE_MOST`] bytes is long enough for every message; one that is shorter than the message is
+    /// refused ([`Refusal::Message`]), and left alone.
+    ///
+    /// ```
+    /// use sulyobak::{sizes, Library, Operation, Refusal};
+    ///
+    /// let mut library = Library::new(1, &[1])?;
+    /// let title = "News bed".parse().expect("a title");
+    /// library.commit(1, &[Operation::New { cart: 30, title, audio: 401, milliseconds: 60_000 }])?;
+    ///
+    /// let mut packet = [0; sizes::MESSAGE_MOST];
+    /// let length = library.van_write_into(1, &mut packet)?;
+    /// assert_eq!(packet[..length], *library.van_write(1)?.as_bytes());
+    /// assert_eq!(library.van_write_into(1, &mut packet[..length - 1]), Err(Refusal::Message));
+    /// # Ok::<(), Refusal>(())
+    /// ```
+    pub fn van_write_into(&self, number: u32, output: &mut [u8]) -> Result<usize, Refusal> {
+        self.view().van_write_into(number, output)
     }
 }
 

@@ -1,5 +1,6 @@
 use crate::answer::{ForwardFound, Forwarded, Found, Read, Refusal};
 use crate::call::{call, counted, other_version};
+use crate::message::Message;
 use crate::operation::{self, Operation};
 use crate::request::Request;
 use crate::view::View;
@@ -143,6 +144,17 @@ impl Memory<'_> {
         }
     }
 
+    /// Writes the message of a committed transaction, for a van, and changes nothing: [`Library::van_write`](crate::Library::van_write) has
+    /// an example.
+    pub fn van_write(&self, number: u32) -> Result<Message, Refusal> {
+        self.view().van_write(number)
+    }
+
+    /// The same into output that the caller lends. Returns the message's length; what is after it in output stays.
+    pub fn van_write_into(&self, number: u32, output: &mut [u8]) -> Result<usize, Refusal> {
+        self.view().van_write_into(number, output)
+    }
+
     fn view(&self) -> View<'_> {
         View { library: self.library, log: self.log, sessions: self.sessions, control: self.control }
     }
@@ -173,7 +185,7 @@ impl Memory<'_> {
 }
 
 // So many bytes, not each of them.
-struct Bytes(usize);
+pub(crate) struct Bytes(pub(crate) usize);
 
 impl fmt::Debug for Bytes {
     fn fmt(&self, f: &mut fmt::Formatter<'_>) -> fmt::Result {

@@ -26,6 +26,8 @@ fn version_and_sizes() {
         ("SULYOBAK_REQUEST_SIZE", sizes::CART),
         ("SULYOBAK_COPY_SIZE", sizes::COPY),
         ("SULYOBAK_OUTPUT_MOST", sizes::OUTPUT_MOST),
+        ("SULYOBAK_MESSAGE_HEAD", sizes::MESSAGE_HEAD),
+        ("SULYOBAK_MESSAGE_MOST", sizes::MESSAGE_MOST),
         ("SULYOBAK_STUDIOS", sizes::STUDIOS),
         ("SULYOBAK_SESSIONS", sizes::SESSION_COUNT),
         ("SULYOBAK_CARTS", sizes::CARTS),
@@ -42,7 +44,7 @@ fn version_and_sizes() {
 
 #[test]
 fn sentences() {
-    for number in 1..=16 {
+    for number in 1..=18 {
         let sentence = Refusal::from_number(number).sentence();
         assert!(HELPERS.contains(&format!("return \"{sentence}\";")), "{number}: {sentence}");
     }
