@@ -4,9 +4,9 @@
 
 use crate::cart::{Cart, Copy, encode_cart};
 use crate::control::Outcome;
-use crate::operation::{Operation, Transaction, title_spaced};
+use crate::operation::{Transaction, act_all, title_spaced, transaction_handed_in, transaction_sized};
 use crate::session::{Request, Session};
-use crate::sizes::{RECORDS, TRANSACTION_OPERATIONS, UNIT, WINDOW};
+use crate::sizes::{RECORDS, UNIT, WINDOW};
 use crate::system::{Studio, System};
 use crate::title::same_title;
 
@@ -18,18 +18,15 @@ pub fn commit(system: &mut System, session: u32, operations: &[u8]) -> Ended {
     if session_at(system, place).waiting.is_some() {
         return Err(4);
     }
-    let count = operations.len() / UNIT;
-    let sized = operations.len().is_multiple_of(UNIT) && (1..=TRANSACTION_OPERATIONS).contains(&count);
-    if !sized {
+    if !transaction_sized(operations) {
         return Err(5);
     }
-    let transaction: Option<Transaction> = operations.chunks_exact(UNIT).map(Operation::handed_in).collect();
-    let transaction = transaction.ok_or(6u32)?;
+    let transaction = transaction_handed_in(operations).ok_or(6u32)?;
     if operations.chunks_exact(UNIT).any(title_spaced) {
         return Err(16);
     }
     let used: usize = system.transactions.iter().map(Vec::len).sum();
-    if used + count > RECORDS {
+    if used + transaction.len() > RECORDS {
         return Err(7);
     }
     let outcome = match acted(&system.head_end, &transaction) {
@@ -66,9 +63,7 @@ pub fn refresh(system: &mut System, studio: u32) -> Ended {
     let next = usize::try_from(applied).expect("at most 512");
     let transaction = system.transactions[next].clone();
     let studio = known_studio(system, studio)?;
-    for operation in &transaction {
-        operation.act(&mut studio.copy);
-    }
+    act_all(&transaction, &mut studio.copy);
     studio.applied += 1;
     Ok(Outcome::Done(studio.applied))
 }
@@ -178,16 +173,20 @@ fn put_cart(copy: &Copy, number: u16, unit: &mut [u8]) {
     encode_cart(copy[usize::from(number) - 1].as_ref(), number, unit);
 }
 
+/// The place, from 0, of what is counted from 1.
+pub fn place_of(number: u32) -> Option<usize> {
+    usize::try_from(number).ok().and_then(|number| number.checked_sub(1))
+}
+
 /// The place of a used session, or row 3.
 fn used_session(system: &System, session: u32) -> Result<usize, u32> {
-    let place = usize::try_from(session).ok().and_then(|session| session.checked_sub(1));
     let used = |place: &usize| system.sessions.get(*place).is_some_and(Option::is_some);
-    place.filter(used).ok_or(3)
+    place_of(session).filter(used).ok_or(3)
 }
 
 /// The studio of a number from 1 to S, or row 3.
 fn known_studio(system: &mut System, studio: u32) -> Result<&mut Studio, u32> {
-    let place = usize::try_from(studio).ok().and_then(|studio| studio.checked_sub(1)).ok_or(3u32)?;
+    let place = place_of(studio).ok_or(3u32)?;
     system.studios.get_mut(place).ok_or(3)
 }
 

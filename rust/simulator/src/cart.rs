@@ -1,7 +1,7 @@
 //! Carts, and a copy of 128 of them.
 
 use crate::bytes::{all_zero, put_u16, put_u32, u16_at, u32_at};
-use crate::sizes::UNIT;
+use crate::sizes::{COPY, UNIT};
 use crate::title::Title;
 
 /// Audio number and length in milliseconds, both at least 1.
@@ -62,7 +62,11 @@ pub fn encode_cart(cart: Option<&Cart>, number: u16, unit: &mut [u8]) {
     }
 }
 
+/// The copy, or `None` when it is not 10,240 bytes or a cart is out of its rule.
 pub fn decode_copy(bytes: &[u8]) -> Option<Copy> {
+    if bytes.len() != COPY {
+        return None;
+    }
     let units = bytes.chunks_exact(UNIT);
     (1..).zip(units).map(|(number, unit)| decode_cart(unit, number)).collect()
 }

@@ -1,4 +1,4 @@
-//! The values that cross the interface: control and answer.
+//! The values that cross the interface: control and the answers.
 
 use crate::sizes::{SESSIONS, STUDIOS};
 
@@ -22,20 +22,24 @@ pub struct Control {
 
 /// The kind of a refusal.
 pub const REFUSED: u32 = 0;
-/// The kind of an accepted setup, commit, preview, send or refresh.
+/// The kind of an accepted setup, commit, preview, send or refresh, and of a message
+/// written or applied.
 pub const DONE: u32 = 1;
 /// The kind of an answered read, collect or forward.
 pub const ANSWERED: u32 = 2;
 /// The kind of a read that waits.
 pub const WAITS: u32 = 3;
+/// The kind of a message that the van has applied already.
+pub const HELD: u32 = 4;
 
 /// What a call hands back. Words without a meaning are zero.
 #[repr(C)]
 #[derive(Clone, Copy, PartialEq, Eq, Debug, Default)]
 pub struct Answer {
-    /// One of the four kinds.
+    /// Refused, done, answered or waits.
     pub kind: u32,
-    /// The refusal's number, the count, the state, or the session's number.
+    /// The refusal's number, the count, the message's length, the state, or the session's
+    /// number.
     pub value: u32,
     /// How many were found.
     pub found: u32,
@@ -43,12 +47,24 @@ pub struct Answer {
     pub control: Control,
 }
 
+/// What the van's receiver hands back.
+#[repr(C)]
+#[derive(Clone, Copy, PartialEq, Eq, Debug, Default)]
+pub struct VanAnswer {
+    /// Refused, done or held.
+    pub kind: u32,
+    /// The refusal's number, else the message's.
+    pub value: u32,
+    /// Applied for the next call.
+    pub applied: u32,
+}
+
 /// How a call ended, before it is put into the words of an answer.
 #[derive(Clone, Copy, PartialEq, Eq, Debug)]
 pub enum Outcome {
     /// The row's number.
     Refused(u32),
-    /// The count returned, 0 for setup.
+    /// The count or length returned, 0 for setup.
     Done(u32),
     /// A read, collect or forward is answered.
     Answered {

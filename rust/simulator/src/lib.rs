@@ -1,10 +1,11 @@
-//! The cart wall of document 01, with requests S-1 to S-5 of document 02, by
+//! The cart wall of document 01, with requests S-1 to S-6 of document 02, by
 //! another hand.
 //!
 //! Every call decodes the lent memory and the control into a value, acts on
-//! the value, and encodes it again; a preview throws the value away. The title
-//! search is no such call: it looks at the bytes of one copy. Nothing here was
-//! taken from the engine.
+//! the value, and encodes it again; a preview and the van's writer throw the
+//! value away. The title search and the van's receiver are no such calls: they
+//! are lent one copy, and the search looks at its bytes as they are. Nothing
+//! here was taken from the engine.
 
 mod bytes;
 mod calls;
@@ -17,8 +18,9 @@ mod session;
 mod sizes;
 mod system;
 mod title;
+mod van;
 
-pub use control::{ANSWERED, Answer, Control, DONE, Outcome, REFUSED, WAITS};
+pub use control::{ANSWERED, Answer, Control, DONE, HELD, Outcome, REFUSED, VanAnswer, WAITS};
 pub use search::{Search, search};
 pub use sizes::{CARTS, COPY, LIBRARY, LOG, NUMBERS, RECORDS, SESSION_MEMORY, SESSIONS, STUDIOS, TRANSACTION_OPERATIONS, UNIT, WINDOW};
 
@@ -52,8 +54,7 @@ pub fn commit(library: &mut [u8], log: &mut [u8], sessions: &mut [u8], control: 
 /// Preview: what commit would answer. It reads the memory, writes none of it,
 /// and hands control back as it was passed, also where the answer is 8.
 pub fn preview(library: &mut [u8], log: &mut [u8], sessions: &mut [u8], control: Control, session: u32, operations: &[u8]) -> Answer {
-    let ended = decode(library, log, sessions, &control).and_then(|mut system| calls::commit(&mut system, session, operations));
-    ended.unwrap_or_else(Outcome::Refused).with(control)
+    look(library, log, sessions, control, |system| calls::commit(system, session, operations))
 }
 
 /// Send.
@@ -98,6 +99,18 @@ pub fn forward(
     play(library, log, sessions, control, |system| calls::forward(system, session, request, output))
 }
 
+/// The van's writer: the message of one transaction, at output's start. It reads the
+/// memory, writes none of it, and hands control back as it was passed.
+pub fn van_write(library: &mut [u8], log: &mut [u8], sessions: &mut [u8], control: Control, number: u32, output: &mut [u8]) -> Answer {
+    look(library, log, sessions, control, |system| van::write(system, number, output))
+}
+
+/// The van's receiver: a message acts on the van's copy if its number is applied + 1,
+/// and otherwise changes nothing.
+pub fn van_receive(copy: &mut [u8], applied: u32, message: &[u8]) -> VanAnswer {
+    van::receive(copy, applied, message)
+}
+
 /// Whether control and memory are of the layout, all three lengths being right.
 pub fn of_layout(library: &[u8], log: &[u8], sessions: &[u8], control: &Control) -> bool {
     system::System::decode(library, log, sessions, control).is_some()
@@ -129,6 +142,12 @@ fn decode(library: &[u8], log: &[u8], sessions: &[u8], control: &Control) -> Res
         return Err(1);
     }
     system::System::decode(library, log, sessions, control).ok_or(2)
+}
+
+/// Rows 1 and 2, then the call itself, whose system is thrown away.
+fn look(library: &[u8], log: &[u8], sessions: &[u8], control: Control, call: impl FnOnce(&mut system::System) -> calls::Ended) -> Answer {
+    let ended = decode(library, log, sessions, &control).and_then(|mut system| call(&mut system));
+    ended.unwrap_or_else(Outcome::Refused).with(control)
 }
 
 /// Rows 1 and 2, then the call itself, then the memory it leaves.

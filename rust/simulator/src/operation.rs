@@ -2,7 +2,7 @@
 
 use crate::bytes::{all_zero, put_u16, u16_at};
 use crate::cart::{Cart, Copy, Cut};
-use crate::sizes::CARTS;
+use crate::sizes::{CARTS, TRANSACTION_OPERATIONS, UNIT};
 use crate::title::Title;
 
 #[derive(Clone, Copy, PartialEq, Eq, Debug)]
@@ -78,6 +78,24 @@ impl Operation {
 
     fn place(&self) -> usize {
         usize::from(self.cart) - 1
+    }
+}
+
+/// Whether bytes are as long as 1 to 8 whole operations.
+pub fn transaction_sized(operations: &[u8]) -> bool {
+    let count = operations.len() / UNIT;
+    operations.len().is_multiple_of(UNIT) && (1..=TRANSACTION_OPERATIONS).contains(&count)
+}
+
+/// The operations as handed in, one after the other, or `None` when one is out of form.
+pub fn transaction_handed_in(operations: &[u8]) -> Option<Transaction> {
+    operations.chunks_exact(UNIT).map(Operation::handed_in).collect()
+}
+
+/// The effect of all operations, in their order.
+pub fn act_all(transaction: &[Operation], copy: &mut Copy) {
+    for operation in transaction {
+        operation.act(copy);
     }
 }
 

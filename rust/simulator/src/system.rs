@@ -73,7 +73,7 @@ impl System {
     }
 }
 
-fn as_u32(count: usize) -> u32 {
+pub fn as_u32(count: usize) -> u32 {
     u32::try_from(count).expect("every count here is small")
 }
 

@@ -112,14 +112,9 @@ fn sessions_and_sizes() {
 
 #[test]
 fn an_operation_out_of_form() {
-    let (wall, b) = (committed(1), new(7, "B", 1, 1));
-    let numbers = [(0, 0), (0, 5), (2, 0), (2, 129), (3, 1), (4, 0), (8, 0), (12, 1), (15, 1)].map(|(at, byte)| (b, at, byte));
-    let titles = [(1, 0), (1, 2), (1, 65), (16, 31), (16, 127), (79, 32)].map(|(at, byte)| (b, at, byte));
-    let missing = [(retitle(7, "B"), 1, 0), (recut(7, 1, 1), 4, 0), (recut(7, 1, 1), 8, 0)];
-    let extra = [(retitle(7, "B"), 4, 1), (recut(7, 1, 1), 1, 1), (withdraw(7), 8, 1), (withdraw(7), 16, 32)];
-    for (mut operation, at, byte) in [&numbers[..], &titles, &missing, &extra].concat() {
-        operation[at] = byte;
-        let case = format!("byte {at} as {byte} in {operation:?}");
+    let wall = committed(1);
+    for operation in formless() {
+        let case = format!("{operation:?}");
         alike(&case, &wall, 1, &operation, refused(6));
         alike(&case, &wall, 1, &[withdraw(7), operation].concat(), refused(6));
     }

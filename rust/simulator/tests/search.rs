@@ -28,17 +28,6 @@ fn copy_of(carts: &[(u16, &str)]) -> Vec<u8> {
     copy
 }
 
-/// A copy of 128 carts with one title.
-fn full(title: &str) -> Vec<u8> {
-    (1..=128).flat_map(|number| new(number, title, 501, 8_000)).collect()
-}
-
-/// The 80 bytes of a cart.
-fn cart(copy: &mut [u8], number: u16) -> &mut [u8] {
-    let at = UNIT * (usize::from(number) - 1);
-    &mut copy[at..at + UNIT]
-}
-
 #[test]
 fn no_held_cart_of_the_length() {
     for carts in [&[][..], &[(1, "Be")], &[(128, "Beds")], &[(1, "Be"), (2, "Bed "), (3, "B"), (128, "Bed bed")]] {

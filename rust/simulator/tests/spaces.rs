@@ -5,33 +5,10 @@ mod wall;
 use simulator::{UNIT, operation_in_form, request_in_form, title_spaced};
 use wall::*;
 
-/// 64 bytes, all x but for a space at one place.
-fn long(space: usize) -> String {
-    let mut title = "x".repeat(64);
-    title.replace_range(space..=space, " ");
-    title
-}
-
-/// Titles with a space at an end.
-fn spaced() -> Vec<String> {
-    let short = [" News", "News ", " News ", "  News", "News  ", " ", "  ", "News bed "].map(String::from);
-    [short.to_vec(), vec![long(0), long(63), " ".repeat(64)]].concat()
-}
-
 /// Titles without.
 fn unspaced() -> Vec<String> {
     let short = ["N w", "N  w", "N", "!", "~", "!News!", "0 0", "News bed"].map(String::from);
     [short.to_vec(), vec![long(1), long(62), "x".repeat(64)]].concat()
-}
-
-/// A wall from before S-2: cart 7 has the title, by commit 1 of session 1. The
-/// cart and its record are written over those of a title that is accepted.
-fn stored(title: &str) -> Wall {
-    let mut wall = committed(1);
-    let unit = new(7, title, 501, 8_000);
-    wall.library[480..560].copy_from_slice(&unit);
-    wall.log[..80].copy_from_slice(&unit);
-    wall
 }
 
 #[test]

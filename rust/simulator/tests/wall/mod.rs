@@ -133,6 +133,18 @@ impl Wall {
         let answer = simulator::forward(library, log, sessions, control, session, request, output);
         self.keep(before, answer)
     }
+
+    pub fn van_write(&mut self, number: u32, output: &mut [u8]) -> Words {
+        let (before, given) = (self.clone(), output.to_vec());
+        let (library, log) = (&mut self.library, &mut self.log);
+        let answer = simulator::van_write(library, log, &mut self.sessions, self.control, number, output);
+        self.control = answer.control;
+        assert_eq!(*self, before, "the writer changes neither memory nor control, accepted or refused");
+        if answer.kind == simulator::REFUSED {
+            assert_eq!(output, given, "a refused writer leaves its output");
+        }
+        (answer.kind, answer.value, answer.found)
+    }
 }
 
 fn number_at(session: u32) -> usize {
@@ -202,6 +214,54 @@ pub fn committed(commits: u32) -> Wall {
         assert_eq!(wall.commit(1, &[recut(7, n, n)]), done(n));
     }
     wall
+}
+
+/// A copy of 128 carts with one title.
+pub fn full(title: &str) -> Vec<u8> {
+    (1..=128).flat_map(|number| new(number, title, 501, 8_000)).collect()
+}
+
+/// The 80 bytes of a cart of a copy.
+pub fn cart(copy: &mut [u8], number: u16) -> &mut [u8] {
+    let at = UNIT * (usize::from(number) - 1);
+    &mut copy[at..at + UNIT]
+}
+
+/// 64 bytes, all x but for a space at one place.
+pub fn long(space: usize) -> String {
+    let mut title = "x".repeat(64);
+    title.replace_range(space..=space, " ");
+    title
+}
+
+/// Titles with a space at an end.
+pub fn spaced() -> Vec<String> {
+    let short = [" News", "News ", " News ", "  News", "News  ", " ", "  ", "News bed "].map(String::from);
+    [short.to_vec(), vec![long(0), long(63), " ".repeat(64)]].concat()
+}
+
+/// A wall from before S-2: cart 7 has the title, by commit 1 of session 1. The
+/// cart and its record are written over those of a title that is accepted.
+pub fn stored(title: &str) -> Wall {
+    let mut wall = committed(1);
+    let unit = new(7, title, 501, 8_000);
+    wall.library[480..560].copy_from_slice(&unit);
+    wall.log[..80].copy_from_slice(&unit);
+    wall
+}
+
+/// Operations on cart 7 with one byte out of form.
+pub fn formless() -> Vec<[u8; UNIT]> {
+    let b = new(7, "B", 1, 1);
+    let numbers = [(0, 0), (0, 5), (2, 0), (2, 129), (3, 1), (4, 0), (8, 0), (12, 1), (15, 1)].map(|(at, byte)| (b, at, byte));
+    let titles = [(1, 0), (1, 2), (1, 65), (16, 31), (16, 127), (79, 32)].map(|(at, byte)| (b, at, byte));
+    let missing = [(retitle(7, "B"), 1, 0), (recut(7, 1, 1), 4, 0), (recut(7, 1, 1), 8, 0)];
+    let extra = [(retitle(7, "B"), 4, 1), (recut(7, 1, 1), 1, 1), (withdraw(7), 8, 1), (withdraw(7), 16, 32)];
+    let mut operations = [&numbers[..], &titles, &missing, &extra].concat();
+    for (operation, at, byte) in &mut operations {
+        operation[*at] = *byte;
+    }
+    operations.into_iter().map(|(operation, _, _)| operation).collect()
 }
 
 /// Transaction n is sent to studio 1 and acts there.
