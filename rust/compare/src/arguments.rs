@@ -2,12 +2,13 @@
 
 use crate::call::Call;
 use crate::make::{Maker, spoil, spoil_request};
+use crate::message;
 use crate::random::Random;
 use crate::rows;
 use crate::wall::Wall;
 
 /// The kinds of call that have a weight, by their places among the weights.
-pub const CALLS: usize = 7;
+pub const CALLS: usize = 8;
 const COMMIT: usize = 0;
 const SEND: usize = 1;
 const REFRESH: usize = 2;
@@ -15,6 +16,7 @@ pub const READ: usize = 3;
 const COLLECT: usize = 4;
 pub const PREVIEW: usize = 5;
 pub const FORWARD: usize = 6;
+const VAN_WRITE: usize = 7;
 
 /// The weights by which one kind alone is chosen.
 pub fn only(kind: usize) -> [usize; CALLS] {
@@ -26,7 +28,7 @@ pub fn only(kind: usize) -> [usize; CALLS] {
 /// How a list chooses its arguments.
 #[derive(Clone, Copy)]
 pub struct Taste {
-    /// Weights of commit, send, refresh, read, collect, preview and forward.
+    /// Weights of commit, send, refresh, read, collect, preview, forward and van_write.
     pub weights: [usize; CALLS],
     /// Operations of a commit or a preview, from and to.
     pub sizes: (usize, usize),
@@ -60,6 +62,7 @@ pub fn call(random: &mut Random, maker: &Maker, taste: &Taste, wall: &Wall) -> C
         REFRESH => Call::Refresh { studio: studio(random, taste, wall) },
         READ => read(random, maker, taste, wall),
         FORWARD => forward(random, maker, taste, wall),
+        VAN_WRITE => van_write(random, taste, wall),
         _ => collect(random, taste, wall),
     }
 }
@@ -159,6 +162,24 @@ fn collect(random: &mut Random, taste: &Taste, wall: &Wall) -> Call {
         _ => 80,
     };
     Call::Collect { session, output: output_near(random, taste, asked) }
+}
+
+fn van_write(random: &mut Random, taste: &Taste, wall: &Wall) -> Call {
+    let number = transaction(random, taste, wall);
+    let asked = message::output_asked(&wall.played, number);
+    Call::VanWrite { number, output: output_near(random, taste, asked) }
+}
+
+/// The number of a transaction: often the first of which no message was written.
+fn transaction(random: &mut Random, taste: &Taste, wall: &Wall) -> u32 {
+    let commits = wall.control.commits;
+    let any = random.within(1, commits.max(1) as usize) as u32;
+    if random.percent(taste.fitting) {
+        let next = if wall.written < commits { wall.written + 1 } else { any };
+        return *random.pick(&[next, next, next, 1, commits, any]);
+    }
+    let word = random.word();
+    *random.pick(&[0, 1, commits, commits + 1, commits + 1, 65_536 + any, 65_536 + commits, u32::MAX, word])
 }
 
 fn output_near(random: &mut Random, taste: &Taste, asked: usize) -> usize {

@@ -1,11 +1,14 @@
 //! The boundaries that a run must have met, with how their calls ended.
 
+use crate::keys::{ACTED, PASSED_OVER, RECEIVE_AHEAD, RECEIVE_APPLIED, RECEIVE_BYTES, RECEIVE_CART, RECEIVE_COPY, RECEIVE_COUNT};
 use crate::keys::{APPLIED, Asked, COLLECT_SPACES, COMMIT, DONE, Edit, Key, PREVIEW, READ, READ_ASKED, READ_SPACES, Reading, SENT_OVER};
 use crate::keys::{FORWARD_ASKED, FORWARD_COMMITS, FORWARD_HIGH, FORWARD_IN_LIST, FORWARD_NUMBER, FORWARD_RAISED, FORWARD_SPACES};
 use crate::keys::{FORWARD_STUDIO, FORWARD_UNMADE, HEAD_END, WAITED};
+use crate::keys::{HELD, RECEIVE_NUMBER, RECEIVE_OPERATION, RECEIVE_SPACED, RECEIVE_SPARE, REPEATED, RUN, RUN_HIGH};
 use crate::keys::{NONE, ONE, SEARCH_BOTH, SEARCH_BYTE, SEARCH_BYTE_0, SEARCH_CART, SEARCH_COPY, SEARCH_DIFFERS, SEARCH_FOUND};
 use crate::keys::{RAISED_BEHIND, RAISED_FROM, RAISED_HIGH, REFUSED_AT, REFUSED_IN_LIST};
 use crate::keys::{SEARCH_LAST, SEARCH_LENGTH, SEARCH_LENGTH_BYTE, SEARCH_LETTERS, SEARCH_TITLE, SEVERAL, WRONG_LENGTH};
+use crate::keys::{VAN_WRITE_COMMITS, VAN_WRITE_COUNT, VAN_WRITE_NUMBER, VAN_WRITE_ROOM, VAN_WRITE_SPACED, VAN_WRITE_SPARE};
 
 /// −1 as it is kept in a key.
 const LESS: u32 = u32::MAX;
@@ -14,7 +17,58 @@ const HUGE: u32 = u32::MAX;
 pub fn all() -> Vec<Key> {
     let spaces = [reading(&READ_SPACES, WAITED), reading(&COLLECT_SPACES, WAITED), reading(&FORWARD_SPACES, HEAD_END)].concat();
     let asked = [asked(&READ_ASKED, WAITED), asked(&FORWARD_ASKED, HEAD_END)].concat();
-    [edit(&COMMIT), edit(&PREVIEW), taken(), asked, forward(), spaces, searches(), OTHERS.to_vec()].concat()
+    [edit(&COMMIT), edit(&PREVIEW), taken(), asked, forward(), spaces, searches(), van_write(), receive(), OTHERS.to_vec()].concat()
+}
+
+/// Those of a van_write.
+fn van_write() -> Vec<Key> {
+    numbered(&[
+        (VAN_WRITE_NUMBER, &[1, 2, 255, 256, 257, 512], DONE),
+        (VAN_WRITE_NUMBER, &[0, 513, 65_536, 65_537, HUGE], 17),
+        (VAN_WRITE_COMMITS, &[LESS, 0], DONE),
+        (VAN_WRITE_COMMITS, &[1], 17),
+        (VAN_WRITE_COUNT, &[1, 2, 3, 4, 5, 6, 7, 8], DONE),
+        (VAN_WRITE_COUNT, &[1, 8], 17),
+        (VAN_WRITE_SPARE, &[0, 1], DONE),
+        (VAN_WRITE_SPARE, &[LESS], 17),
+        (VAN_WRITE_ROOM, &[644, 645], DONE),
+        (VAN_WRITE_ROOM, &[0, 643], 17),
+        (VAN_WRITE_SPACED, &[1, 2], DONE),
+    ])
+}
+
+/// Those of a receive, and of the lists for fresh vans. A copy of 75,776 bytes has the right length as its low two bytes.
+fn receive() -> Vec<Key> {
+    let ends = [DONE, HELD, 18].map(|end| {
+        numbered(&[
+            (RECEIVE_NUMBER, &[2, 255, 256, 257, 65_534, 65_535], end),
+            (RECEIVE_COUNT, &[1, 8], end),
+            (RECEIVE_BYTES, &[84, 644], end),
+            (ACTED, &[1, 2, 3, 4], end),
+            (PASSED_OVER, &[1, 2, 3, 4], end),
+            (RECEIVE_SPACED, &[1, 2], end),
+        ])
+    });
+    let others = numbered(&[
+        (RECEIVE_NUMBER, &[1], DONE),
+        (RECEIVE_NUMBER, &[1], HELD),
+        (RECEIVE_APPLIED, &[0, 1, 65_533, 65_534], DONE),
+        (RECEIVE_APPLIED, &[1, 65_534, 65_535, 65_536, HUGE - 1, HUGE], HELD),
+        (RECEIVE_APPLIED, &[0, 1, 65_533], 18),
+        (RECEIVE_AHEAD, &[1], DONE),
+        (RECEIVE_AHEAD, &[0, LESS], HELD),
+        (RECEIVE_AHEAD, &[2, 3], 18),
+        (RECEIVE_COUNT, &[0, 9, 255], 17),
+        (RECEIVE_BYTES, &[0, 1, 2, 3, 4, 83, 85, 643, 645, 724], 17),
+        (RECEIVE_SPARE, &[LESS, 1], 17),
+        (RECEIVE_COPY, &[0, 10_239, 10_241, 75_776], 17),
+        (RECEIVE_OPERATION, &[1, 2, 3, 4, 5, 6, 7, 8], 17),
+        (RECEIVE_CART, &[1, 128], 17),
+        (REPEATED, &[0, 1, 2], HELD),
+        (RUN, &[0, 1, 2, 3, 512], DONE),
+        (RUN_HIGH, &[0, 1, 2], DONE),
+    ]);
+    [ends.concat(), others].concat()
 }
 
 /// Those of a title search. The lengths 320 and 65,537 have a right length as their low byte or bytes, as has a copy of 75,776.

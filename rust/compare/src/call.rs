@@ -12,6 +12,7 @@ pub enum Call {
     Read { session: u32, request: Vec<u8>, output: usize },
     Collect { session: u32, output: usize },
     Forward { session: u32, request: Vec<u8>, output: usize },
+    VanWrite { number: u32, output: usize },
 }
 
 impl Call {
@@ -25,6 +26,7 @@ impl Call {
             Call::Read { .. } => "read",
             Call::Collect { .. } => "collect",
             Call::Forward { .. } => "forward",
+            Call::VanWrite { .. } => "van_write",
         }
     }
 
@@ -37,6 +39,7 @@ impl Call {
             Call::Refresh { .. } => &[1, 2, 3, 11],
             Call::Read { .. } | Call::Forward { .. } => &[1, 2, 3, 4, 12, 13],
             Call::Collect { .. } => &[1, 2, 3, 14, 13],
+            Call::VanWrite { .. } => &[1, 2, 17],
         }
     }
 
@@ -62,6 +65,7 @@ impl Call {
     pub fn output(&self) -> usize {
         match self {
             Call::Read { output, .. } | Call::Collect { output, .. } | Call::Forward { output, .. } => *output,
+            Call::VanWrite { output, .. } => *output,
             _ => 0,
         }
     }
@@ -86,6 +90,7 @@ impl fmt::Display for Call {
             Call::Collect { session, output } => {
                 write!(f, "collect session={session} output={output}")
             }
+            Call::VanWrite { number, output } => write!(f, "van_write number={number} output={output}"),
         }
     }
 }

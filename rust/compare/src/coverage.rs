@@ -28,6 +28,10 @@ pub struct Coverage {
     pub forwards: u64,
     /// Title searches.
     pub searches: u64,
+    /// Receives; fresh vans, and the receives of these.
+    pub receives: u64,
+    pub vans: u64,
+    pub arrived: u64,
 }
 
 impl Coverage {
@@ -68,6 +72,7 @@ impl Coverage {
             self.note_arguments(call, control, before, answer);
             self.note_spaces(call, before, after, answer);
             self.note_wrong_state(call, control, holding, before, answer);
+            self.note_van_write(call, control, after, answer);
         }
     }
 
@@ -104,6 +109,8 @@ impl Coverage {
                 self.count(("collect, kind of read", u32::from(before.session[0]), end));
             }
             Call::Forward { .. } => self.note_asked(&FORWARD_ASKED, call, control, before, answer),
+            // `note_van_write` has its arguments.
+            Call::VanWrite { .. } => {}
         }
     }
 
@@ -259,6 +266,9 @@ impl Coverage {
         self.refusals += other.refusals;
         self.forwards += other.forwards;
         self.searches += other.searches;
+        self.receives += other.receives;
+        self.vans += other.vans;
+        self.arrived += other.arrived;
     }
 }
 
@@ -289,5 +299,6 @@ fn call_place(call: &Call) -> usize {
         Call::Collect { .. } => 5,
         Call::Preview { .. } => 6,
         Call::Forward { .. } => 7,
+        Call::VanWrite { .. } => 8,
     }
 }

@@ -44,6 +44,14 @@ pub fn held_cart(random: &mut Random, unit: &mut [u8]) {
     random.pick(&changes)(random, unit);
 }
 
+/// Puts one field of a cart of the layout out of its rule, held or empty.
+pub fn cart(random: &mut Random, unit: &mut [u8]) {
+    match unit[0] {
+        1 => held_cart(random, unit),
+        _ => unit[random.below(UNIT)] = random.nonzero_byte(),
+    }
+}
+
 /// One unit of a kind, counted from 0 in its memory.
 fn find(random: &mut Random, place: Place, lent: &mut Lent, control: &Control) -> Option<usize> {
     let units = places::find(place, lent, control);

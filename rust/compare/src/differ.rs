@@ -1,8 +1,10 @@
-//! The comparison after a call or a title search, and the place of the first difference.
+//! The comparison after a call, a title search or a receive, and the place of the first difference.
 
+use crate::delivery::Delivery;
 use crate::lent::{Lent, Part};
+use crate::message::HEAD;
 use crate::sought::Sought;
-use simulator::{Answer, COPY, Control, Search, UNIT};
+use simulator::{Answer, COPY, Control, Search, UNIT, VanAnswer};
 
 /// The first difference between the right end of a call and the engine's, in
 /// words; `by` names who says what is right.
@@ -26,6 +28,17 @@ pub fn search_difference(right: (Search, &Sought), played: (Search, &Sought)) ->
     }
     part_difference("simulator", "copy", (&sought.copy, &other.copy), unit_place)
         .or_else(|| part_difference("simulator", "title", (&sought.title, &other.title), unit_place))
+}
+
+/// The first difference between a receive's right end and the engine's; `by` as above.
+pub fn receive_difference(by: &str, right: (VanAnswer, &Delivery), played: (VanAnswer, &Delivery)) -> Option<String> {
+    let (answer, delivery) = right;
+    let (other_answer, other) = played;
+    if answer != other_answer {
+        return Some(format!("answer: {by} {answer:?}, engine {other_answer:?}"));
+    }
+    part_difference(by, "copy", (&delivery.copy, &other.copy), unit_place)
+        .or_else(|| part_difference(by, "message", (&delivery.message, &other.message), message_place))
 }
 
 fn answer_difference(by: &str, right: &Answer, played: &Answer) -> Option<String> {
@@ -97,6 +110,13 @@ fn record_place(at: usize) -> String {
 
 fn session_place(at: usize) -> String {
     format!("session {}, byte {}", at / UNIT + 1, at % UNIT)
+}
+
+fn message_place(at: usize) -> String {
+    match at.checked_sub(HEAD) {
+        None => "head".to_string(),
+        Some(at) => unit_place(at),
+    }
 }
 
 fn unit_place(at: usize) -> String {

@@ -1,9 +1,10 @@
 //! What is played on: the simulator, the linked engine, or a wrong one.
 
 use crate::call::Call;
+use crate::delivery::Delivery;
 use crate::lent::Lent;
 use crate::sought::Sought;
-use simulator::{Answer, Control, Search};
+use simulator::{Answer, Control, Search, VanAnswer};
 
 pub trait Engine {
     /// Plays a call. Its input and output are already lent.
@@ -11,6 +12,9 @@ pub trait Engine {
 
     /// Searches a copy for a title.
     fn search(&mut self, sought: &mut Sought) -> Search;
+
+    /// Receives a message in a van.
+    fn receive(&mut self, delivery: &mut Delivery) -> VanAnswer;
 }
 
 /// Plays a call by one of the two crates that have a function for each.
@@ -28,6 +32,7 @@ macro_rules! play {
             Call::Read { session, .. } => $by::read(library, log, sessions, $control, session, input, output),
             Call::Collect { session, .. } => $by::collect(library, log, sessions, $control, session, output),
             Call::Forward { session, .. } => $by::forward(library, log, sessions, $control, session, input, output),
+            Call::VanWrite { number, .. } => $by::van_write(library, log, sessions, $control, number, output),
         }
     }};
 }
@@ -47,6 +52,10 @@ impl Engine for Simulated {
     fn search(&mut self, sought: &mut Sought) -> Search {
         sought.simulate()
     }
+
+    fn receive(&mut self, delivery: &mut Delivery) -> VanAnswer {
+        delivery.simulate()
+    }
 }
 
 /// The engine of libsulyobak.a, and the search of libcarts_c.a.
@@ -59,5 +68,9 @@ impl Engine for Linked {
 
     fn search(&mut self, sought: &mut Sought) -> Search {
         linked::carts::search(sought.copy.lent(), sought.title.lent())
+    }
+
+    fn receive(&mut self, delivery: &mut Delivery) -> VanAnswer {
+        linked::van_receive(delivery.copy.lent_mut(), delivery.applied, delivery.message.lent())
     }
 }

@@ -10,6 +10,7 @@ use crate::one_copy::History;
 use crate::player::{Mismatch, Player};
 use crate::random::Random;
 use crate::wall::Wall;
+use crate::written;
 use simulator::Answer;
 
 /// What a list is after.
@@ -87,13 +88,16 @@ impl Guide<'_, '_> {
 
     fn follow(&mut self, aim: Aim) -> Result<(), Mismatch> {
         match aim {
-            Aim::Mixed => self.steps(400, &taste([25, 20, 20, 25, 10, 8, 12], (1, 8), 85)),
-            Aim::Waits => self.steps(350, &taste([22, 13, 13, 30, 22, 6, 15], (1, 3), 93)),
-            Aim::Titles => self.steps(350, &taste([25, 18, 20, 30, 7, 6, 15], (1, 3), 93)),
-            Aim::Eights => self.fill(&taste([66, 13, 13, 5, 3, 7, 4], (8, 8), 97), 504),
+            Aim::Mixed => self.steps(400, &taste([25, 20, 20, 25, 10, 8, 12, 12], (1, 8), 85)),
+            Aim::Waits => self.steps(350, &taste([22, 13, 13, 30, 22, 6, 15, 10], (1, 3), 93)),
+            Aim::Titles => self.steps(350, &taste([25, 18, 20, 30, 7, 6, 15, 10], (1, 3), 93)),
+            Aim::Eights => self.fill(&taste([66, 13, 13, 5, 3, 7, 4, 8], (8, 8), 97), 504),
             // Few reads: a session that waits commits nothing, and the studios are far behind.
-            Aim::Ones => self.fill(&taste([85, 6, 6, 1, 1, 5, 3], (1, 1), 97), 511),
-            Aim::Varied => self.fill(&taste([66, 13, 13, 5, 3, 7, 4], (1, 8), 97), 500),
+            Aim::Ones => {
+                self.fill(&taste([85, 6, 6, 1, 1, 5, 3, 4], (1, 1), 97), 511)?;
+                self.write_all()
+            }
+            Aim::Varied => self.fill(&taste([66, 13, 13, 5, 3, 7, 4, 6], (1, 8), 97), 500),
             Aim::Window => self.window(),
             Aim::Older => self.older(),
             Aim::Taken => self.taken(),
@@ -123,10 +127,18 @@ impl Guide<'_, '_> {
         }
         for _ in 0..60 {
             self.overfill()?;
-            self.step(&taste([50, 15, 15, 10, 10, 12, 10], (1, 2), 90))?;
+            self.step(&taste([50, 15, 15, 10, 10, 12, 10, 10], (1, 2), 90))?;
         }
-        self.steps(40, &taste([60, 12, 12, 10, 6, 12, 8], (1, 8), 80))?;
-        self.steps(150, &taste([5, 40, 40, 10, 5, 3, 6], (1, 1), 95))
+        self.steps(40, &taste([60, 12, 12, 10, 6, 12, 8, 8], (1, 8), 80))?;
+        self.steps(150, &taste([5, 40, 40, 10, 5, 3, 6, 8], (1, 1), 95))
+    }
+
+    /// Now and then the messages of all transactions.
+    fn write_all(&mut self) -> Result<(), Mismatch> {
+        match self.random.percent(25) {
+            true => written::write_first(self.player, &mut self.wall, u32::MAX),
+            false => Ok(()),
+        }
     }
 
     /// A preview and its commit that just fit the log, or are one operation too large, aside; often with a cart in the wrong state.
@@ -149,22 +161,23 @@ impl Guide<'_, '_> {
                 if self.wall.control.commits >= target {
                     break;
                 }
-                self.step(&taste([90, 2, 0, 6, 2, 4, 3], (1, 1), 97))?;
+                self.step(&taste([90, 2, 0, 6, 2, 4, 3, 4], (1, 1), 97))?;
             }
-            self.steps(80, &taste([2, 90, 0, 6, 2, 1, 3], (1, 1), 95))?;
-            self.steps(60, &taste([8, 36, 40, 10, 6, 4, 6], (1, 2), 90))?;
+            self.steps(80, &taste([2, 90, 0, 6, 2, 1, 3, 3], (1, 1), 95))?;
+            self.steps(60, &taste([8, 36, 40, 10, 6, 4, 6, 8], (1, 2), 90))?;
         }
         Ok(())
     }
 
     /// Studios that have nearly caught up, then titles exchanged.
     fn older(&mut self) -> Result<(), Mismatch> {
-        let mixed = taste([30, 22, 22, 20, 8, 6, 10], (1, 3), 93);
+        let mixed = taste([30, 22, 22, 20, 8, 6, 10, 10], (1, 3), 93);
         self.steps(60, &mixed)?;
-        self.steps(80, &taste([2, 45, 45, 5, 3, 0, 3], (1, 1), 95))?;
-        self.steps(5, &taste([80, 5, 5, 5, 5, 0, 5], (1, 1), 97))?;
-        if older::exchange_titles(&mut self.random, &self.maker, &mut self.wall, &mut self.history) {
-            self.player.coverage.count((older::NAME, 0, DONE));
+        self.steps(80, &taste([2, 45, 45, 5, 3, 0, 3, 5], (1, 1), 95))?;
+        self.steps(5, &taste([80, 5, 5, 5, 5, 0, 5, 5], (1, 1), 97))?;
+        let Guide { player, random, maker, wall, history } = self;
+        if older::exchange_titles(random, maker, wall, history, &mut player.written) {
+            player.coverage.count((older::NAME, 0, DONE));
         }
         self.steps(300, &mixed)
     }
@@ -172,11 +185,11 @@ impl Guide<'_, '_> {
     /// Edits; then studios that stay behind or catch up; then edits of carts in the wrong state, and reads.
     fn taken(&mut self) -> Result<(), Mismatch> {
         for _ in 0..10 {
-            self.steps(6, &taste([75, 5, 5, 5, 5, 5, 3], (1, 3), 95))?;
+            self.steps(6, &taste([75, 5, 5, 5, 5, 5, 3, 5], (1, 3), 95))?;
             if self.random.percent(50) {
-                self.steps(20, &taste([0, 45, 45, 0, 10, 0, 0], (1, 1), 100))?;
+                self.steps(20, &taste([0, 45, 45, 0, 10, 0, 0, 0], (1, 1), 100))?;
             }
-            let mistaken = Taste { misfits: 70, ..taste([40, 5, 5, 30, 12, 8, 10], (1, 3), 97) };
+            let mistaken = Taste { misfits: 70, ..taste([40, 5, 5, 30, 12, 8, 10, 5], (1, 3), 97) };
             self.steps(10, &mistaken)?;
         }
         Ok(())
@@ -185,11 +198,11 @@ impl Guide<'_, '_> {
     /// Edits; then studios that stay behind or nearly catch up; then forwards, reads and collects, with edits and refreshes between them.
     fn forwards(&mut self) -> Result<(), Mismatch> {
         for _ in 0..10 {
-            self.steps(6, &taste([75, 5, 5, 5, 5, 0, 5], (1, 3), 95))?;
+            self.steps(6, &taste([75, 5, 5, 5, 5, 0, 5, 5], (1, 3), 95))?;
             if self.random.percent(50) {
-                self.steps(14, &taste([0, 45, 45, 0, 10, 0, 0], (1, 1), 100))?;
+                self.steps(14, &taste([0, 45, 45, 0, 10, 0, 0, 0], (1, 1), 100))?;
             }
-            self.steps(14, &taste([12, 12, 14, 18, 14, 2, 28], (1, 2), 97))?;
+            self.steps(14, &taste([12, 12, 14, 18, 14, 2, 28, 5], (1, 2), 97))?;
         }
         Ok(())
     }

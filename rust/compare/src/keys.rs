@@ -13,6 +13,9 @@ pub const ONE: u32 = 105;
 pub const SEVERAL: u32 = 106;
 pub const WRONG_LENGTH: u32 = 107;
 
+/// A receive of a number already applied; one that is applied is [`DONE`].
+pub const HELD: u32 = 108;
+
 /// Subject, the number met, and how the call ended.
 pub type Key = (&'static str, u32, u32);
 
@@ -82,6 +85,50 @@ pub const SEARCH_NUMBER: &str = "search, cart with the title and another number"
 pub const SEARCH_AFTER: &str = "search, cart with the title and a byte after it";
 /// A byte outside 32 to 126 in a title that one cart has.
 pub const SEARCH_BYTE: &str = "search for a title with byte";
+
+/// Of a van_write that rows 1 and 2 let through: its number, that less commits, and one whose low 16 bits alone are a transaction's.
+pub const VAN_WRITE_NUMBER: &str = "van_write, number";
+pub const VAN_WRITE_COMMITS: &str = "van_write, number − commits";
+pub const VAN_WRITE_LOW: &str = "van_write, number of which the low 16 bits are a transaction's";
+/// Where there is the transaction: its operations, output less the message, and output for 8 operations.
+pub const VAN_WRITE_COUNT: &str = "van_write, operations";
+pub const VAN_WRITE_SPARE: &str = "van_write, output − message";
+pub const VAN_WRITE_ROOM: &str = "van_write, output for 8 operations";
+/// One that no studio was sent; and the kind of an operation with a spaced title.
+pub const VAN_WRITE_UNSENT: &str = "van_write of a transaction that no studio was sent";
+pub const VAN_WRITE_SPACED: &str = "van_write, operation with a spaced title, kind";
+
+/// Receives: how they ended, and the bytes of the message.
+pub const RECEIVE: &str = "receive";
+pub const RECEIVE_BYTES: &str = "receive, message bytes";
+/// Where message and copy are in form: the message's number, applied, and the one less the other, between −2 and 3.
+pub const RECEIVE_NUMBER: &str = "receive, number";
+pub const RECEIVE_APPLIED: &str = "receive, applied";
+pub const RECEIVE_AHEAD: &str = "receive, number − applied";
+/// Then the kind of an operation that meets its cart, of one that does not, and of one with a spaced title.
+pub const ACTED: &str = "receive, operation that meets its cart, kind";
+pub const PASSED_OVER: &str = "receive, operation in a wrong state, kind";
+pub const RECEIVE_SPACED: &str = "receive, operation with a spaced title, kind";
+/// Where one fault alone or none is there: the count of operations.
+pub const RECEIVE_COUNT: &str = "receive, operations";
+/// Where one fault alone is there: message bytes less those of its count, copy bytes, the one operation out of form, the one cart.
+pub const RECEIVE_SPARE: &str = "receive, message bytes − those of its count";
+pub const RECEIVE_COPY: &str = "receive, copy bytes";
+pub const RECEIVE_OPERATION: &str = "receive, the one operation of eight out of form at";
+pub const RECEIVE_CART: &str = "receive, the one cart out of form";
+
+/// Lists for fresh vans: a repeat's number below applied, 2 standing for more too; a message applied that came too soon before; one
+/// written before later commits; one with a spaced title.
+pub const REPEATED: &str = "van list, applied − number of a repeat";
+pub const ARRIVED_AGAIN: &str = "van list, message that came too soon before";
+pub const ARRIVED_LATE: &str = "van list, message written before later commits";
+pub const ARRIVED_SPACED: &str = "van list, message with a spaced title";
+/// What is applied after the list, and its high byte; and where the run ends: the next was lost, came too soon, or there is none.
+pub const RUN: &str = "van list, applied";
+pub const RUN_HIGH: &str = "van list, high byte of applied";
+pub const RUN_LOST: &str = "van list, the run ends where one was lost";
+pub const RUN_SOON: &str = "van list, the run ends where the next came too soon";
+pub const RUN_WHOLE: &str = "van list, the run ends with the highest number";
 
 /// The subjects of a call that is handed a request and an output: read or forward.
 pub struct Asked {
@@ -206,8 +253,8 @@ pub const SENT_OVER: &str = "send over spaced titles, studio";
 /// The kind of a record with a spaced title that a refresh has applied.
 pub const APPLIED: &str = "refresh, record with a spaced title, kind";
 
-/// The subjects for the length of each memory, call by call: setup, commit, send, refresh, read, collect, preview, forward.
-pub const LENGTHS: [[&str; 3]; 8] = [
+/// The subjects for the length of each memory, call by call: setup, commit, send, refresh, read, collect, preview, forward, van_write.
+pub const LENGTHS: [[&str; 3]; 9] = [
     ["setup, library bytes", "setup, log bytes", "setup, session bytes"],
     ["commit, library bytes", "commit, log bytes", "commit, session bytes"],
     ["send, library bytes", "send, log bytes", "send, session bytes"],
@@ -216,4 +263,5 @@ pub const LENGTHS: [[&str; 3]; 8] = [
     ["collect, library bytes", "collect, log bytes", "collect, session bytes"],
     ["preview, library bytes", "preview, log bytes", "preview, session bytes"],
     ["forward, library bytes", "forward, log bytes", "forward, session bytes"],
+    ["van_write, library bytes", "van_write, log bytes", "van_write, session bytes"],
 ];

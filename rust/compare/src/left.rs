@@ -1,11 +1,15 @@
-//! What a refused call leaves, and what a forward answers and leaves, by the words of 01 and 02 and not by the simulator. A refused call
-//! changes nothing, with one exception (02's S-3). A forward that no row stops is answered by the session's studio, or by the head end
-//! (02's S-4).
+//! What a refused call leaves, and what a forward, a van_write and a receive answer and leave, by the words of 01 and 02 and not by the
+//! simulator. A refused call changes nothing, with one exception (02's S-3). A forward that no row stops is answered by the session's
+//! studio, or by the head end (02's S-4). A van_write changes nothing but output, a receive nothing but the van's copy (02's S-6).
 
 use crate::call::Call;
+use crate::delivery::Delivery;
+use crate::faults;
 use crate::lent::Lent;
+use crate::message;
 use crate::single;
-use simulator::{ANSWERED, Answer, COPY, Control, REFUSED, UNIT};
+use simulator::{ANSWERED, Answer, COPY, Control, DONE, HELD, REFUSED, UNIT, VanAnswer};
+use std::cmp::Ordering;
 
 /// The answer of a call that this number refuses; `lent` is what it was lent, and becomes what it leaves.
 pub fn by_refusal(number: u32, call: &Call, control: Control, lent: &mut Lent) -> Answer {
@@ -33,6 +37,38 @@ pub fn by_forward(session: u32, request: &[u8], control: Control, lent: &mut Len
     Answer { kind: ANSWERED, value: state, found, control }
 }
 
+/// The answer of a van_write that no row stops; `lent` is what it was lent, and becomes what it leaves. "The writer puts one message at
+/// its output's start, leaves later bytes, returns the message's length."
+pub fn by_van_write(number: u32, control: Control, lent: &mut Lent) -> Answer {
+    let operations = message::operations_in_log(lent, number).expect("the log is of the layout");
+    let message = message::of(number, &operations);
+    lent.output.lent_mut()[..message.len()].copy_from_slice(&message);
+    Answer { kind: DONE, value: message.len() as u32, found: 0, control }
+}
+
+/// The answer of a receive; `delivery` is what it was lent, and becomes what it leaves. "The receiver applies number applied + 1 and
+/// returns it. It answers a number already applied as held and changes nothing."
+pub fn by_receive(delivery: &mut Delivery) -> VanAnswer {
+    match faults::holding(delivery.copy.lent(), delivery.message.lent()).is_empty() {
+        true => by_number(delivery),
+        false => VanAnswer { kind: REFUSED, value: 17, applied: delivery.applied },
+    }
+}
+
+/// The same where message and copy are in form.
+pub fn by_number(delivery: &mut Delivery) -> VanAnswer {
+    let (number, applied) = (delivery.number(), delivery.applied);
+    match u64::from(number).cmp(&(u64::from(applied) + 1)) {
+        Ordering::Greater => VanAnswer { kind: REFUSED, value: 18, applied },
+        Ordering::Less => VanAnswer { kind: HELD, value: number, applied },
+        Ordering::Equal => {
+            let copy = delivery.copy.lent_mut();
+            message::operations(delivery.message.lent()).for_each(|operation| single::act(copy, operation));
+            VanAnswer { kind: DONE, value: number, applied: number }
+        }
+    }
+}
+
 /// The number of a session from 1 to 16.
 fn number(lent: &Lent, session: u32) -> u32 {
     let at = UNIT * (session as usize - 1) + 2;
@@ -43,4 +79,30 @@ fn number(lent: &Lent, session: u32) -> u32 {
 pub fn set_number(lent: &mut Lent, session: u32, number: u32) {
     let at = UNIT * (session as usize - 1) + 2;
     lent.sessions.lent_mut()[at..at + 2].copy_from_slice(&(number as u16).to_le_bytes());
+}
+
+#[cfg(test)]
+mod tests {
+    use super::*;
+
+    /// What a van with this applied and an empty copy answers to a message of new cart 1 with this number, and whether the cart is then held.
+    fn received(applied: u32, number: u32) -> (u32, u32, u32, bool) {
+        let mut operation = [0; UNIT];
+        operation[..9].copy_from_slice(&[1, 1, 1, 0, 5, 0, 0, 0, 6]);
+        operation[16] = b' ';
+        let mut delivery = Delivery::new(&[0; COPY], applied, &message::of(number, &operation));
+        let answer = by_receive(&mut delivery);
+        (answer.kind, answer.value, answer.applied, delivery.copy.byte(0) == 1)
+    }
+
+    #[test]
+    fn a_message_is_applied_held_or_refused() {
+        assert_eq!(received(0, 1), (DONE, 1, 1, true));
+        assert_eq!(received(65_534, 65_535), (DONE, 65_535, 65_535, true));
+        assert_eq!(received(2, 2), (HELD, 2, 2, false));
+        assert_eq!(received(2, 1), (HELD, 1, 2, false));
+        assert_eq!(received(u32::MAX, 1), (HELD, 1, u32::MAX, false));
+        assert_eq!(received(2, 4), (REFUSED, 18, 2, false));
+        assert_eq!(received(2, 0), (REFUSED, 17, 2, false));
+    }
 }

@@ -10,6 +10,7 @@ use crate::make::Maker;
 use crate::player::{Mismatch, Player};
 use crate::random::Random;
 use crate::sweep;
+use crate::written::{self, Written};
 
 const KINDS: [&str; 20] = [
     "mixed",
@@ -38,9 +39,14 @@ pub fn kind(seed: u64) -> &'static str {
     KINDS[(seed % KINDS.len() as u64) as usize]
 }
 
+/// How many lists of its kind come before a seed's, modulo 1,000.
+pub fn turn(seed: u64) -> usize {
+    (seed / KINDS.len() as u64 % 1_000) as usize
+}
+
 pub fn play(player: &mut Player<'_>, seed: u64) -> Result<(), Mismatch> {
     player.begin_list(seed);
-    let turn = (seed / KINDS.len() as u64 % 1_000) as usize;
+    let turn = turn(seed);
     match kind(seed) {
         "mixed" => guided::play(player, seed, Aim::Mixed),
         "waits" => guided::play(player, seed, Aim::Waits),
@@ -62,25 +68,27 @@ pub fn play(player: &mut Player<'_>, seed: u64) -> Result<(), Mismatch> {
     }
 }
 
-/// Only lists from fresh systems, for the one-copy order alone.
+/// Only lists from fresh systems, for the one-copy order alone, and for fresh vans.
 pub fn play_fresh(player: &mut Player<'_>, seed: u64) -> Result<(), Mismatch> {
     player.begin_list(seed);
     let aims = [Aim::Waits, Aim::Titles, Aim::Mixed, Aim::Window, Aim::Older, Aim::Taken, Aim::Forwards];
     guided::play(player, seed, aims[seed as usize % aims.len()])
 }
 
-/// Lists from memory of the layout that no list reaches.
+/// Lists from memory of the layout that no list reaches. The messages of the last one go to vans, the first ones among them.
 fn unreached(player: &mut Player<'_>, seed: u64) -> Result<(), Mismatch> {
     let mut random = Random::new(seed);
-    let taste = Taste { weights: [25, 15, 30, 18, 12, 12, 16], sizes: (1, 8), fitting: 92, misfits: 8 };
+    let taste = Taste { weights: [25, 15, 30, 18, 12, 12, 16, 14], sizes: (1, 8), fitting: 92, misfits: 8 };
     let raised = player.coverage.met(&RAISED);
     for _ in 0..8 {
         let maker = Maker::new(&mut random, 6);
         let mut wall = direct::wall(&mut random, &maker);
+        player.written = Written::before(&wall);
         for _ in 0..50 {
             let call = arguments::call(&mut random, &maker, &taste, &wall);
-            player.play(&mut wall, &call)?;
+            player.play_on(&mut wall, &call)?;
         }
+        written::write_first(player, &mut wall, 5)?;
     }
     if player.coverage.met(&RAISED) > raised {
         player.coverage.count((RAISED_UNREACHED, 0, DONE));

@@ -7,9 +7,11 @@ mod call;
 mod chaos;
 mod coverage;
 mod damage;
+mod delivery;
 mod differ;
 mod direct;
 mod engine;
+mod faults;
 mod forwards;
 mod guided;
 mod keys;
@@ -19,16 +21,19 @@ mod letters;
 mod lists;
 mod log;
 mod make;
+mod message;
 mod older;
 mod one_copy;
 mod options;
 mod places;
 mod player;
 mod random;
+mod receives;
 mod report;
 mod required;
 mod rows;
 mod run;
+mod runs;
 mod searches;
 mod self_check;
 mod single;
@@ -37,8 +42,12 @@ mod spaces;
 mod sweep;
 mod taken;
 mod told;
+mod van_sweep;
+mod van_writes;
+mod vans;
 mod wall;
 mod watch;
+mod written;
 mod wrong;
 
 use engine::{Engine, Linked, Simulated};
@@ -74,7 +83,7 @@ fn exit(passed: bool) -> ExitCode {
 fn one_list(make: Make, seed: u64) -> bool {
     match run::play_lists(&mut *make(), (seed, 1), 1) {
         Ok((coverage, calls)) => {
-            println!("list {seed} ({}): {calls} calls and {} searches, no mismatch", lists::kind(seed), coverage.searches)
+            println!("list {seed} ({}): {}, no mismatch", lists::kind(seed), report::counts(&coverage, calls))
         }
         Err(found) => {
             run::print_mismatch(&found);
@@ -88,7 +97,7 @@ fn compare(make: Make, options: &Options) -> bool {
     match run::play_on_threads(make, options.seed, options.calls, options.threads) {
         Ok((coverage, calls)) => {
             let missing = report::print(&coverage);
-            println!("{calls} calls and {} searches compared, no mismatch", coverage.searches);
+            println!("{} compared, no mismatch", report::counts(&coverage, calls));
             missing == 0
         }
         Err(found) => {

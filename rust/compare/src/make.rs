@@ -1,5 +1,6 @@
-//! Makers of operations, requests and carts, right and spoilt.
+//! Makers of operations, requests, carts and messages, right and spoilt.
 
+use crate::message::{self, HEAD};
 use crate::random::Random;
 use crate::rows;
 use crate::single;
@@ -101,6 +102,12 @@ impl Maker {
             put_title(&mut unit, self.any_title(random));
         }
         unit
+    }
+
+    /// A message of so many operations as records have them.
+    pub fn message(&self, random: &mut Random, number: u32, count: usize) -> Vec<u8> {
+        let operations: Vec<u8> = (0..count).flat_map(|_| self.logged(random)).collect();
+        message::of(number, &operations)
     }
 
     /// A held cart at its place, its title of both sorts.
@@ -247,4 +254,32 @@ pub fn spoil_request(random: &mut Random, request: &mut Vec<u8>) {
         6 => request.resize(*random.pick(&[0, 1, 2, 79, 81, 160]), 0),
         _ => request[random.below(UNIT)] = random.byte(),
     }
+}
+
+/// Cuts or lengthens a message in form, or changes one field of it; it may stay in form.
+pub fn spoil_message(random: &mut Random, message: &mut Vec<u8>) {
+    let (length, count) = (message.len(), message[2]);
+    match random.below(10) {
+        0 => message.truncate(*random.pick(&[0, 1, 2, 3, 4, 5, length - UNIT])),
+        1 => message.truncate(length - 1),
+        2 => message.push(*random.pick(&[0, 0, 1, 255])),
+        3 => message.extend_from_within(HEAD..HEAD + UNIT),
+        4 => message[2] = *random.pick(&[0, count - 1, count + 1, 9, 128 + count, 255]),
+        5 => with_count(message, *random.pick(&[0, 0, 9, 9, 9, 255])),
+        6 => message[3] = random.nonzero_byte(),
+        7 => message[..2].fill(0),
+        8 => {
+            let unit = HEAD + UNIT * random.below(usize::from(count));
+            spoil(random, &mut message[unit..unit + UNIT]);
+        }
+        _ => message[random.below(length)] = random.byte(),
+    }
+}
+
+/// Gives a message this count of operations, each a copy of the first.
+fn with_count(message: &mut Vec<u8>, count: u8) {
+    message[2] = count;
+    let operations = message[HEAD..HEAD + UNIT].repeat(usize::from(count));
+    message.truncate(HEAD);
+    message.extend(operations);
 }

@@ -1,5 +1,5 @@
 //! Memory from before 02's S-2. In a list from a fresh system some titles change places with spaced ones, in every copy,
-//! record and request alike, and in the history: an engine without row 16 would have left them so.
+//! record, request and message alike, and in the history: an engine without row 16 would have left them so.
 
 use crate::lent::Lent;
 use crate::make::{Maker, put_title};
@@ -7,6 +7,7 @@ use crate::one_copy::History;
 use crate::random::Random;
 use crate::rows::{title, title_spaced};
 use crate::wall::Wall;
+use crate::written::Written;
 use simulator::{COPY, UNIT};
 use std::collections::BTreeMap;
 
@@ -38,8 +39,9 @@ impl Exchange {
     }
 }
 
-/// Exchanges titles of a list; says whether the head end and a studio then have the same cart with a spaced title.
-pub fn exchange_titles(random: &mut Random, maker: &Maker, wall: &mut Wall, history: &mut History) -> bool {
+/// Exchanges titles of a list, and of the messages that it has written; says whether the head end and a studio then have the same cart
+/// with a spaced title.
+pub fn exchange_titles(random: &mut Random, maker: &Maker, wall: &mut Wall, history: &mut History, written: &mut Written) -> bool {
     let exchange = Exchange::new(random, maker);
     let Lent { library, log, sessions, .. } = &mut wall.played;
     for part in [library, log] {
@@ -48,6 +50,7 @@ pub fn exchange_titles(random: &mut Random, maker: &Maker, wall: &mut Wall, hist
     sessions.lent_mut().chunks_exact_mut(UNIT).for_each(|unit| exchange.request(unit));
     wall.mirror();
     history.change(|unit| exchange.unit(unit), |request| exchange.request(request));
+    written.change(|unit| exchange.unit(unit));
 
     let mut copies = wall.played.library.lent().chunks_exact(COPY);
     let head_end = copies.next().unwrap_or_default();

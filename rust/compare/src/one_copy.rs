@@ -61,8 +61,8 @@ impl History {
         History { entries: Vec::new(), waited: vec![Vec::new(); 17] }
     }
 
-    /// Takes in one call of H; `output` is as it stood when the call ended. Waits, sends, refreshes, previews and refusals have no entry,
-    /// but for a commit's refusal 8.
+    /// Takes in one call of H; `output` is as it stood when the call ended. Waits, sends, refreshes, previews, written messages and
+    /// refusals have no entry, but for a commit's refusal 8.
     pub fn note(&mut self, number: u64, call: &Call, answer: &Answer, output: &[u8]) {
         match (call, answer.kind) {
             (Call::Commit { session, operations }, DONE) => {
@@ -282,11 +282,12 @@ mod tests {
     }
 
     #[test]
-    fn a_preview_has_no_entry() {
+    fn a_preview_or_a_written_message_has_no_entry() {
         let mut history = history(answer(ANSWERED, 1, 1), &new_cart_1());
         let preview = Call::Preview { session: 1, operations: vec![0; 80] };
         history.note(3, &preview, &answer(DONE, 2, 0), &[]);
         history.note(4, &preview, &answer(REFUSED, 8, 0), &[]);
+        history.note(4, &Call::VanWrite { number: 1, output: 84 }, &answer(DONE, 84, 0), &[0; 84]);
         history.note(5, &read_cart_1(1), &answer(ANSWERED, 1, 1), &new_cart_1());
         assert_eq!((history.len(), history.check()), (3, Ok(())));
     }

@@ -1,8 +1,9 @@
-//! Plays a call or a title search on the simulator and on the engine and compares them.
+//! Plays a call, a title search or a receive on the simulator and on the engine and compares them.
 
 use crate::call::Call;
 use crate::coverage::Coverage;
-use crate::differ::{answer_text, first_difference, search_difference};
+use crate::delivery::Delivery;
+use crate::differ::{answer_text, first_difference, receive_difference, search_difference};
 use crate::engine::{Engine, simulate};
 use crate::keys::{FORWARD_IN_LIST, HEAD_END, PREVIEWED, PREVIEWED_IN_LIST, READ, REFUSED_IN_LIST};
 use crate::left;
@@ -12,7 +13,8 @@ use crate::rows;
 use crate::sought::Sought;
 use crate::wall::Wall;
 use crate::watch;
-use simulator::{Answer, Control, REFUSED};
+use crate::written::Written;
+use simulator::{Answer, Control, REFUSED, VanAnswer};
 
 /// Where and how engine and simulator parted.
 #[derive(Debug)]
@@ -24,12 +26,14 @@ pub struct Mismatch {
 
 pub struct Player<'e> {
     engine: &'e mut dyn Engine,
-    /// Without it only the one-copy order is checked.
+    /// Without it only the one-copy order and what S-6 says of fresh vans are checked.
     compares: bool,
     pub coverage: Coverage,
-    /// Calls and searches of this list, and calls of all lists.
+    /// Calls, searches and receives of this list, and calls of all lists.
     pub call_number: u64,
     pub calls: u64,
+    /// What the list has written for vans.
+    pub written: Written,
     scratch: Option<Wall>,
     /// What the call now played was lent.
     before: Lent,
@@ -37,13 +41,14 @@ pub struct Player<'e> {
 
 impl<'e> Player<'e> {
     pub fn new(engine: &'e mut dyn Engine, compares: bool) -> Player<'e> {
-        let coverage = Coverage::default();
-        Player { engine, compares, coverage, call_number: 0, calls: 0, scratch: None, before: Lent::zeros() }
+        let (coverage, written) = (Coverage::default(), Written::default());
+        Player { engine, compares, coverage, call_number: 0, calls: 0, written, scratch: None, before: Lent::zeros() }
     }
 
     /// Begins the list of a seed.
     pub fn begin_list(&mut self, seed: u64) {
         self.call_number = 0;
+        self.written = Written::default();
         watch::list_begins(seed);
     }
 
@@ -58,9 +63,7 @@ impl<'e> Player<'e> {
             true => self.compare(wall, call)?,
             false => self.engine.play(call, wall.control, &mut wall.played),
         };
-        wall.control = answer.control;
-        wall.previewed = call.previewed().map(|commit| (commit, answer));
-        wall.told.follow(call, number, &answer);
+        wall.follow(call, number, &answer);
         Ok(answer)
     }
 
@@ -88,11 +91,18 @@ impl<'e> Player<'e> {
         Ok(answer)
     }
 
+    /// Plays a call of a list, and keeps the message that it may have written.
+    pub fn play_on(&mut self, wall: &mut Wall, call: &Call) -> Result<Answer, Mismatch> {
+        let answer = self.play(wall, call)?;
+        self.written.note(call, &answer, wall.played.output.lent());
+        Ok(answer)
+    }
+
     /// Plays a call of H and takes it into the history.
     pub fn play_in(&mut self, history: &mut History, wall: &mut Wall, call: &Call) -> Result<Answer, Mismatch> {
         let previewed = wall.answer_previewed(call);
         let number = rows::session_number(&rows::stored(call, &wall.played));
-        let answer = self.play(wall, call)?;
+        let answer = self.play_on(wall, call)?;
         if previewed.is_some() {
             self.coverage.count_end(PREVIEWED_IN_LIST, &answer);
         }
@@ -140,13 +150,33 @@ impl<'e> Player<'e> {
         Ok(())
     }
 
+    /// Receives a message in a van, which is no call; the delivery holds what the engine leaves.
+    pub fn receive(&mut self, delivery: &mut Delivery) -> Result<VanAnswer, Mismatch> {
+        self.call_number += 1;
+        watch::call_begins(self.call_number, delivery);
+        if !self.compares {
+            return Ok(self.engine.receive(delivery));
+        }
+        let before = delivery.clone();
+        let (mut simulated, mut by_words) = (before.clone(), before.clone());
+        let (expected, right) = (simulated.simulate(), left::by_receive(&mut by_words));
+        let answer = self.engine.receive(delivery);
+        let difference = receive_difference("simulator", (expected, &simulated), (answer, delivery))
+            .or_else(|| receive_difference("left.rs", (right, &by_words), (answer, delivery)));
+        if let Some(words) = difference {
+            return Err(self.mismatch(before.to_string(), words));
+        }
+        self.coverage.note_receive(&before, answer);
+        Ok(answer)
+    }
+
     /// Checks the one-copy order of a whole list.
     pub fn check_order(&mut self, history: &History) -> Result<(), Mismatch> {
         self.coverage.count_order(history);
         history.check().map_err(|(call_number, words)| Mismatch { call_number, call: "(the whole list)".to_string(), words })
     }
 
-    fn mismatch(&self, call: String, words: String) -> Mismatch {
+    pub fn mismatch(&self, call: String, words: String) -> Mismatch {
         Mismatch { call_number: self.call_number, call, words }
     }
 
@@ -173,11 +203,12 @@ impl<'e> Player<'e> {
         Err(self.mismatch(call.to_string(), words))
     }
 
-    /// A refused call and a forward leave what `left.rs` says, apart from the simulator.
+    /// A refused call, a forward and a van_write leave what `left.rs` says, apart from the simulator.
     fn check_left(&mut self, call: &Call, control: Control, answer: &Answer, played: &Lent) -> Result<(), Mismatch> {
         let right = match call {
             _ if answer.kind == REFUSED => left::by_refusal(answer.value, call, control, &mut self.before),
             Call::Forward { session, request, .. } => left::by_forward(*session, request, control, &mut self.before),
+            Call::VanWrite { number, .. } => left::by_van_write(*number, control, &mut self.before),
             _ => return Ok(()),
         };
         match first_difference("left.rs", (&right, &self.before), (answer, played)) {
@@ -235,6 +266,25 @@ mod tests {
             assert_eq!(passes(call, value, &raised), raises, "{call} refused {value}");
             assert_eq!(passes(call, value, &Lent::zeros()), !raises, "{call} refused {value}");
         }
+    }
+
+    #[test]
+    fn a_van_write_must_leave_nothing_but_its_message() {
+        let (control, call) = (Control { commits: 1, ..Control::default() }, Call::VanWrite { number: 1, output: 85 });
+        let passes = |value: u32, later: u8, link: u8| {
+            let mut engine = Simulated;
+            let mut player = Player::new(&mut engine, true);
+            player.before.log.lent_mut()[..3].copy_from_slice(&[4, 0, 7]);
+            player.before.output.set(&[9; 85]);
+            let mut played = player.before.clone();
+            played.output.set(&[&[1, 0, 1, 0, 4, 0, 7][..], &[0; 9], &[link], &[0; 67], &[later]].concat());
+            let answer = Answer { kind: simulator::DONE, value, found: 0, control };
+            player.check_left(&call, control, &answer, &played).is_ok()
+        };
+        assert!(passes(84, 9, 0), "the message, and the later byte as it was");
+        assert!(!passes(80, 9, 0), "another length");
+        assert!(!passes(84, 0, 0), "the later byte is cleared");
+        assert!(!passes(84, 9, 2), "a link is left in");
     }
 
     #[test]

@@ -20,8 +20,14 @@ pub fn print(coverage: &Coverage) -> usize {
     for (call, row, other, reason) in required::EXCLUDED {
         println!("{:>9}  {call}: rows {row} and {other} at once: {reason}", "-");
     }
-    let Coverage { orders, entries, refusals, forwards, .. } = coverage;
+    let Coverage { orders, entries, refusals, forwards, vans, arrived, .. } = coverage;
     println!("one-copy orders: {orders}, entries in them: {entries}, of these refusals 8: {refusals}, forwards: {forwards}");
+    println!("fresh vans: {vans}, messages for them: {arrived}");
     println!("required lines: {}, not met: {missing}", lines.len());
     missing
+}
+
+/// How much was played.
+pub fn counts(coverage: &Coverage, calls: u64) -> String {
+    format!("{calls} calls, {} searches and {} receives", coverage.searches, coverage.receives)
 }

@@ -2,14 +2,17 @@
 
 use crate::boundaries;
 use crate::damage;
+use crate::faults::FAULTS;
+use crate::keys::{ARRIVED_AGAIN, ARRIVED_LATE, ARRIVED_SPACED, HELD, RECEIVE, RUN_LOST, RUN_SOON, RUN_WHOLE};
 use crate::keys::{COLLECT_FORWARDED, COLLECT_KEPT, FORWARD_AGAIN, FORWARD_AGAIN_ALONE, FORWARD_TOLD, MIXED};
 use crate::keys::{COLLECT_TOLD, RAISED, RAISED_UNREACHED, READ_TOLD, READ_TOLD_ALONE};
 use crate::keys::{DONE, HEAD_END, Key, LENGTHS, PREVIEWED, PREVIEWED_IN_LIST, READ, WAITED};
 use crate::keys::{NONE, ONE, SEARCH_AFTER, SEARCH_NUMBER, SEVERAL, WRONG_LENGTH};
-use crate::keys::{READ_FORWARDED, READ_FORWARDED_ALONE, READ_STRAIGHT};
+use crate::keys::{READ_FORWARDED, READ_FORWARDED_ALONE, READ_STRAIGHT, VAN_WRITE_LOW, VAN_WRITE_UNSENT};
 use crate::older;
 use crate::places;
 use crate::sweep;
+use crate::van_sweep;
 use std::fmt;
 
 pub enum Line {
@@ -46,6 +49,7 @@ fn end_text(end: u32) -> String {
         ONE => "one".to_string(),
         SEVERAL => "several".to_string(),
         WRONG_LENGTH => "a wrong length".to_string(),
+        HELD => "held".to_string(),
         row => format!("refused {row}"),
     }
 }
@@ -64,7 +68,7 @@ pub const EXCLUDED: [(&str, u32, u32, &str); 5] = [
 /// The rows of commit and of preview, by their numbers.
 const EDIT_ROWS: &[u32] = &[1, 2, 3, 4, 5, 6, 7, 8, 16];
 
-const CALLS: [(&str, &[u32], &[u32]); 8] = [
+const CALLS: [(&str, &[u32], &[u32]); 9] = [
     ("setup", &[1, 15], &[DONE]),
     ("commit", EDIT_ROWS, &[DONE]),
     ("preview", EDIT_ROWS, &[DONE]),
@@ -73,6 +77,7 @@ const CALLS: [(&str, &[u32], &[u32]); 8] = [
     ("read", &[1, 2, 3, 4, 12, 13], &[READ, WAITED]),
     ("collect", &[1, 2, 3, 13, 14], &[READ, WAITED]),
     ("forward", &[1, 2, 3, 4, 12, 13], &[READ, HEAD_END]),
+    ("van_write", &[1, 2, 17], &[DONE]),
 ];
 
 /// Every line a run must have met.
@@ -95,13 +100,15 @@ pub fn lines() -> Vec<Line> {
         }
     }
     lines.extend((0..5).map(|copy| Line::Met((damage::COPIES, copy, 2))));
-    let sweeps = places::ALL.iter().map(|(_, name)| *name).chain(sweep::INPUTS);
+    let sweeps = places::ALL.iter().map(|(_, name)| *name).chain(sweep::INPUTS).chain(van_sweep::SWEEPS);
     lines.extend(sweeps.map(|name| Line::Ended((name, 0, DONE))));
     lines.extend(damage::names().map(|name| Line::Ended((name, 0, 2))));
     lines.push(Line::Ended((older::NAME, 0, DONE)));
     lines.extend(told().map(Line::Ended));
     lines.extend(forwarded().map(Line::Ended));
     lines.extend([SEARCH_NUMBER, SEARCH_AFTER].map(|subject| Line::Ended((subject, 0, ONE))));
+    lines.extend(faulty().map(Line::Met));
+    lines.extend(vans().map(Line::Ended));
     lines
 }
 
@@ -134,6 +141,32 @@ fn forwarded() -> [Key; 13] {
         (FORWARD_TOLD, 0, HEAD_END),
         (COLLECT_KEPT, 0, READ),
         (MIXED, 0, DONE),
+    ]
+}
+
+/// Each reason for refusal 17 at the receiver, alone, with a number that else is held, applied or refused with 18. A number 0 else is held.
+fn faulty() -> impl Iterator<Item = Key> {
+    let places = FAULTS.iter().flat_map(|(subject, _)| (0..=2).map(|ahead| (*subject, ahead, 17)));
+    places.filter(|(subject, ahead, _)| *subject != FAULTS[0].0 || *ahead == 0)
+}
+
+/// What has no number beside it: of van_write, of receives, and of the lists for fresh vans.
+fn vans() -> [Key; 14] {
+    [
+        (VAN_WRITE_LOW, 0, 17),
+        (VAN_WRITE_UNSENT, 0, DONE),
+        (RECEIVE, 0, 17),
+        (RECEIVE, 0, 18),
+        (RECEIVE, 0, DONE),
+        (RECEIVE, 0, HELD),
+        (ARRIVED_AGAIN, 0, DONE),
+        (ARRIVED_LATE, 0, DONE),
+        (ARRIVED_LATE, 0, HELD),
+        (ARRIVED_LATE, 0, 18),
+        (ARRIVED_SPACED, 0, DONE),
+        (RUN_LOST, 0, DONE),
+        (RUN_SOON, 0, DONE),
+        (RUN_WHOLE, 0, DONE),
     ]
 }
 

@@ -3,12 +3,15 @@
 //! Where a row's words need something that an earlier row has found wanting,
 //! the bytes that are there are taken: memory is cut or filled with zeros to
 //! its length, operations are the whole 80-byte units, and an output is too
-//! short for an unknown request if it is shorter than 80.
+//! short for an unknown request if it is shorter than 80, for an unknown
+//! transaction if it is shorter than the message of one operation.
 
 use crate::call::Call;
 use crate::lent::{Lent, Part};
+use crate::message;
 use crate::single;
 use simulator::{ANSWERED, Answer, COPY, Control, LIBRARY, LOG, SESSION_MEMORY, UNIT};
+use std::borrow::Cow;
 
 /// The rows of this call that hold before it, row 2 apart.
 pub fn holding(call: &Call, control: &Control, lent: &Lent) -> Vec<u32> {
@@ -19,16 +22,17 @@ pub fn holding(call: &Call, control: &Control, lent: &Lent) -> Vec<u32> {
 /// Row 2 for memory of any length.
 pub fn out_of_layout(control: &Control, lent: &Lent) -> bool {
     let library = sized(&lent.library, LIBRARY);
-    let log = sized(&lent.log, LOG);
+    let log = log(lent);
     let sessions = sized(&lent.sessions, SESSION_MEMORY);
     !simulator::of_layout(&library, &log, &sessions, control)
 }
 
 /// The first bytes of a memory, zeros past its end.
-fn sized(part: &Part, length: usize) -> Vec<u8> {
-    let mut bytes = part.lent().to_vec();
-    bytes.resize(length, 0);
-    bytes
+fn sized(part: &Part, length: usize) -> Cow<'_, [u8]> {
+    match part.lent().get(..length) {
+        Some(bytes) => Cow::Borrowed(bytes),
+        None => Cow::Owned((0..length).map(|at| part.byte(at)).collect()),
+    }
 }
 
 fn row_holds(row: u32, call: &Call, control: &Control, lent: &Lent) -> bool {
@@ -46,6 +50,9 @@ fn row_holds(row: u32, call: &Call, control: &Control, lent: &Lent) -> bool {
         (15, Call::Setup { studios, session_studios }) => {
             let above = session_studios.iter().any(|studio| u32::from(*studio) > *studios);
             !(1..=4).contains(studios) || session_studios.len() != 16 || above
+        }
+        (17, Call::VanWrite { number, output }) => {
+            !(1..=control.commits).contains(number) || *output < message::output_asked(lent, *number)
         }
         _ => false,
     }
@@ -140,9 +147,14 @@ pub fn title(unit: &[u8]) -> &[u8] {
     unit[16..].get(..usize::from(unit[1])).unwrap_or(&[])
 }
 
+/// The log's 512 records, for memory of any length.
+pub fn log(lent: &Lent) -> Cow<'_, [u8]> {
+    sized(&lent.log, LOG)
+}
+
 /// The head end's copy, for memory of any length.
 pub fn head_end(lent: &Lent) -> Vec<u8> {
-    sized(&lent.library, COPY)
+    sized(&lent.library, COPY).into_owned()
 }
 
 /// Row 8; operations out of form are passed over.

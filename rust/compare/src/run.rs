@@ -5,6 +5,7 @@ use crate::engine::Engine;
 use crate::lists;
 use crate::player::{Mismatch, Player};
 use crate::searches;
+use crate::vans;
 
 /// As much stack as a main thread has.
 const STACK: usize = 8 << 20;
@@ -14,13 +15,12 @@ pub struct Found {
     pub mismatch: Mismatch,
 }
 
-/// Plays lists and searches of seeds `seed`, `seed` + step, … until enough calls were made.
+/// Plays lists, searches and vans of seeds `seed`, `seed` + step, … until enough calls were made.
 pub fn play_lists(engine: &mut dyn Engine, (seed, step): (u64, u64), calls: u64) -> Result<(Coverage, u64), Found> {
     let mut player = Player::new(engine, true);
     let mut seed = seed;
     while player.calls < calls {
-        let played = lists::play(&mut player, seed).and_then(|()| searches::play(&mut player, seed));
-        played.map_err(|mismatch| Found { seed, mismatch })?;
+        play_seed(&mut player, seed).map_err(|mismatch| Found { seed, mismatch })?;
         seed = seed.wrapping_add(step);
     }
     let calls = player.calls;
@@ -44,6 +44,13 @@ pub fn play_on_threads(make: fn() -> Box<dyn Engine>, seed: u64, calls: u64, thr
         sum.1 += calls;
     }
     Ok(sum)
+}
+
+/// The list of a seed, and the searches and vans after it.
+fn play_seed(player: &mut Player<'_>, seed: u64) -> Result<(), Mismatch> {
+    lists::play(player, seed)?;
+    searches::play(player, seed)?;
+    vans::play(player, seed)
 }
 
 pub fn print_mismatch(found: &Found) {

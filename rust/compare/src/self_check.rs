@@ -2,9 +2,10 @@
 
 use crate::engine::Simulated;
 use crate::lists;
-use crate::player::Player;
+use crate::player::{Mismatch, Player};
 use crate::run::{self, Found};
-use crate::wrong::{self, Mistake, Wrong};
+use crate::vans;
+use crate::wrong::{self, Alone, Mistake, Wrong};
 use std::sync::Mutex;
 use std::sync::atomic::{AtomicUsize, Ordering};
 
@@ -60,25 +61,23 @@ fn try_mistake(mistake: &Mistake) -> (bool, String) {
             (true, format!("caught  {}\n          {place}: {}", mistake.name, mismatch.words))
         }
     };
-    if mistake.breaks_order {
-        match order_alone(mistake) {
-            Some(words) => line.push_str(&format!("\n          {words}")),
-            None => {
-                caught = false;
-                line.push_str("\n          MISSED by the one-copy order alone");
-            }
-        }
-    }
+    let alone = match mistake.alone {
+        Alone::Nothing => return (caught, line),
+        Alone::Order => caught_alone(mistake, lists::play_fresh),
+        Alone::Vans => caught_alone(mistake, |player, seed| lists::play_fresh(player, seed).and_then(|()| vans::play_fresh(player, seed))),
+    };
+    caught &= alone.is_some();
+    line.push_str(&format!("\n          {}", alone.unwrap_or("MISSED without the simulator".to_string())));
     (caught, line)
 }
 
-/// How the one-copy order alone, without the simulator, catches a mistake.
-fn order_alone(mistake: &Mistake) -> Option<String> {
+/// How lists from fresh systems, without the simulator, catch a mistake.
+fn caught_alone(mistake: &Mistake, play: fn(&mut Player<'_>, u64) -> Result<(), Mismatch>) -> Option<String> {
     let mut engine = Wrong::new(mistake);
     let mut player = Player::new(&mut engine, false);
     let mut seed = SEED;
     while player.calls < PATIENCE {
-        if let Err(mismatch) = lists::play_fresh(&mut player, seed) {
+        if let Err(mismatch) = play(&mut player, seed) {
             return Some(format!("list {seed} alone, {}", mismatch.words));
         }
         seed += 1;

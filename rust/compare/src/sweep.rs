@@ -18,7 +18,7 @@ const EVEN: Taste = Taste { weights: [1; CALLS], sizes: (1, 8), fitting: 92, mis
 const BYTES: [u8; 15] = [0, 1, 2, 3, 4, 5, 31, 32, 33, 64, 65, 126, 127, 128, 255];
 
 /// The values that a byte is given in turn.
-fn values(old: u8) -> impl Iterator<Item = u8> {
+pub fn values(old: u8) -> impl Iterator<Item = u8> {
     let near = [old.wrapping_add(1), old.wrapping_sub(1), old ^ 128];
     BYTES.into_iter().chain(near).filter(move |value| *value != old)
 }

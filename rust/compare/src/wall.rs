@@ -4,7 +4,7 @@ use crate::call::Call;
 use crate::lent::Lent;
 use crate::rows;
 use crate::told::Sessions;
-use simulator::{Answer, Control};
+use simulator::{Answer, Control, DONE};
 
 #[derive(Clone)]
 pub struct Wall {
@@ -14,12 +14,14 @@ pub struct Wall {
     /// If the latest call was a preview: the commit that it was of, and its answer.
     pub previewed: Option<(Call, Answer)>,
     pub told: Sessions,
+    /// How many of the messages 1, 2, 3, … were written in turn.
+    pub written: u32,
 }
 
 impl Wall {
     pub fn zeros() -> Wall {
         let (control, told) = (Control::default(), Sessions::default());
-        Wall { simulated: Lent::zeros(), played: Lent::zeros(), control, previewed: None, told }
+        Wall { simulated: Lent::zeros(), played: Lent::zeros(), control, previewed: None, told, written: 0 }
     }
 
     pub fn copy_from(&mut self, other: &Wall) {
@@ -28,6 +30,18 @@ impl Wall {
         self.control = other.control;
         self.previewed.clone_from(&other.previewed);
         self.told.clone_from(&other.told);
+        self.written = other.written;
+    }
+
+    /// Takes in a call that was played; `number` is its session's before it.
+    pub fn follow(&mut self, call: &Call, number: u32, answer: &Answer) {
+        self.control = answer.control;
+        self.previewed = call.previewed().map(|commit| (commit, *answer));
+        self.told.follow(call, number, answer);
+        let next = self.written + 1;
+        if matches!((call, answer.kind), (Call::VanWrite { number, .. }, DONE) if *number == next) {
+            self.written = next;
+        }
     }
 
     /// Gives the simulator the engine's memory, after the latter was changed.

@@ -2,7 +2,7 @@
 
 pub mod carts;
 
-use simulator::{Answer, Control};
+use simulator::{Answer, Control, VanAnswer};
 use sulyobak_sys as sys;
 
 #[inline]
@@ -99,4 +99,21 @@ pub fn forward(
 #[inline]
 pub fn layout(library: &mut [u8], log: &mut [u8], sessions: &mut [u8], control: Control) -> Answer {
     call!(sulyobak_layout, library, log, sessions, passed(control))
+}
+
+/// The van's writer.
+#[inline]
+pub fn van_write(library: &mut [u8], log: &mut [u8], sessions: &mut [u8], control: Control, number: u32, output: &mut [u8]) -> Answer {
+    call!(sulyobak_van_write, library, log, sessions, passed(control), number, output.as_mut_ptr(), output.len())
+}
+
+/// The van's receiver.
+#[inline]
+pub fn van_receive(copy: &mut [u8], applied: u32, message: &[u8]) -> VanAnswer {
+    let (lent, received) = ((copy.as_mut_ptr(), copy.len()), (message.as_ptr(), message.len()));
+    // SAFETY: each pointer comes with its length from one slice that is borrowed for the whole call; the copy is borrowed mutably, so that
+    // it is apart from the message and nobody else uses it.
+    let answer = unsafe { sys::sulyobak_van_receive(lent.0, lent.1, applied, received.0, received.1) };
+    let sys::VanAnswer { kind, value, applied } = answer;
+    VanAnswer { kind, value, applied }
 }

@@ -1,11 +1,12 @@
 //! What every wrong engine is made with.
 
 use crate::call::Call;
+use crate::delivery::Delivery;
 use crate::engine::simulate;
 use crate::left;
 use crate::lent::Lent;
 use crate::sought::Sought;
-use simulator::{Answer, Control, Search};
+use simulator::{Answer, Control, Search, VanAnswer};
 use std::collections::BTreeMap;
 
 /// What a wrong engine keeps between calls.
@@ -17,31 +18,62 @@ pub struct Notes {
 
 pub type Play = fn(&mut Notes, &Call, Control, &mut Lent) -> Answer;
 pub type Seek = fn(&mut Sought) -> Search;
+pub type Receive = fn(&mut Delivery) -> VanAnswer;
 
-/// A mistake: its name, and the simulator with it, in calls or in searches.
+/// What catches a mistake without the simulator beside it.
+#[derive(Clone, Copy, PartialEq, Eq)]
+pub enum Alone {
+    Nothing,
+    /// The one-copy order: for one of 01's "Mistakes this trade has made", or one that demand 3 shows.
+    Order,
+    /// What 02's S-6 says of fresh vans.
+    Vans,
+}
+
+/// A mistake: its name, and the simulator with it, in calls, in searches or in receives.
 #[derive(Clone, Copy)]
 pub struct Mistake {
     pub name: &'static str,
     pub play: Play,
     pub search: Seek,
-    /// One of 01's "Mistakes this trade has made", or one that demand 3 shows:
-    /// the one-copy order alone must catch it too.
-    pub breaks_order: bool,
+    pub receive: Receive,
+    pub alone: Alone,
+}
+
+/// The simulator under this name, with no mistake yet.
+const fn simulated(name: &'static str) -> Mistake {
+    Mistake {
+        name,
+        play: |_, call, control, lent| right(call, control, lent),
+        search: |sought| sought.simulate(),
+        receive: |delivery| delivery.simulate(),
+        alone: Alone::Nothing,
+    }
 }
 
 /// A mistake that the comparison must catch.
 pub const fn mistake(name: &'static str, play: Play) -> Mistake {
-    Mistake { name, play, search: |sought| sought.simulate(), breaks_order: false }
+    Mistake { play, ..simulated(name) }
 }
 
 /// A mistake that the one-copy order alone must catch as well.
 pub const fn order_mistake(name: &'static str, play: Play) -> Mistake {
-    Mistake { name, play, search: |sought| sought.simulate(), breaks_order: true }
+    Mistake { alone: Alone::Order, ..mistake(name, play) }
 }
 
 /// A mistake of the title search.
 pub const fn search_mistake(name: &'static str, search: Seek) -> Mistake {
-    Mistake { name, play: |_, call, control, lent| right(call, control, lent), search, breaks_order: false }
+    Mistake { search, ..simulated(name) }
+}
+
+/// A mistake of the van's receiver.
+pub const fn receive_mistake(name: &'static str, receive: Receive) -> Mistake {
+    Mistake { receive, ..simulated(name) }
+}
+
+/// A mistake, in calls or in receives, that fresh vans alone must catch as well.
+pub const fn van_mistake(mistake: Mistake) -> Mistake {
+    Mistake { alone: Alone::Vans, ..mistake }
 }
 
 /// An answer of a number without a control change.

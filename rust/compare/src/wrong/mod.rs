@@ -8,19 +8,22 @@ mod layouts;
 mod mistake;
 mod previews;
 mod reads;
+mod receives;
 mod searches;
 mod setups;
 mod spaces;
 mod studios;
 mod taken;
+mod van_writes;
 
 use crate::call::Call;
+use crate::delivery::Delivery;
 use crate::engine::Engine;
 use crate::lent::Lent;
 use crate::sought::Sought;
-pub use mistake::Mistake;
-use mistake::{Notes, Play, Seek};
-use simulator::{Answer, Control, Search};
+use mistake::Notes;
+pub use mistake::{Alone, Mistake};
+use simulator::{Answer, Control, Search, VanAnswer};
 
 pub fn all() -> Vec<Mistake> {
     let groups = [
@@ -35,28 +38,33 @@ pub fn all() -> Vec<Mistake> {
         setups::MISTAKES,
         bounds::MISTAKES,
         searches::MISTAKES,
+        van_writes::MISTAKES,
+        receives::MISTAKES,
     ];
     groups.concat()
 }
 
 pub struct Wrong {
-    play: Play,
-    search: Seek,
+    mistake: Mistake,
     notes: Notes,
 }
 
 impl Wrong {
     pub fn new(mistake: &Mistake) -> Wrong {
-        Wrong { play: mistake.play, search: mistake.search, notes: Notes::default() }
+        Wrong { mistake: *mistake, notes: Notes::default() }
     }
 }
 
 impl Engine for Wrong {
     fn play(&mut self, call: &Call, control: Control, lent: &mut Lent) -> Answer {
-        (self.play)(&mut self.notes, call, control, lent)
+        (self.mistake.play)(&mut self.notes, call, control, lent)
     }
 
     fn search(&mut self, sought: &mut Sought) -> Search {
-        (self.search)(sought)
+        (self.mistake.search)(sought)
+    }
+
+    fn receive(&mut self, delivery: &mut Delivery) -> VanAnswer {
+        (self.mistake.receive)(delivery)
     }
 }
