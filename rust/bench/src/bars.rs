@@ -43,6 +43,8 @@ pub struct Bars {
     pub layout: Bar,
     calls: [(Kind, Bar); 6],
     pub setup: Bar,
+    pub van_write: Bar,
+    pub van_receive: Bar,
 }
 
 impl Bars {
@@ -58,6 +60,8 @@ impl Bars {
                 (Kind::ForwardTitle, Bar::new("forward by title / layout test", 1.3)),
             ],
             setup: Bar::new("setup / memset of 93,440 bytes", 1.5),
+            van_write: Bar::new("van_write / layout test, full memory", 1.4),
+            van_receive: Bar::new("van_receive of 8 operations / form test of its copy", 1.5),
         }
     }
 
@@ -74,6 +78,8 @@ impl Bars {
         for (_, bar) in &self.calls {
             bar.print();
         }
-        self.setup.print();
+        for bar in [&self.setup, &self.van_write, &self.van_receive] {
+            bar.print();
+        }
     }
 }

@@ -13,6 +13,7 @@ pub enum Call {
     Read { session: u32, request: [u8; UNIT] },
     Collect { session: u32 },
     Forward { session: u32, request: [u8; UNIT] },
+    VanWrite { number: u32 },
 }
 
 /// Plays a call by one of the two crates that have a function for each, or the layout test by `$layout`.
@@ -30,6 +31,7 @@ macro_rules! play {
             Call::Read { session, request } => $by::read(library, log, sessions, control, *session, request, $output),
             Call::Collect { session } => $by::collect(library, log, sessions, control, *session, $output),
             Call::Forward { session, request } => $by::forward(library, log, sessions, control, *session, request, $output),
+            Call::VanWrite { number } => $by::van_write(library, log, sessions, control, *number, $output),
         }
     }};
 }

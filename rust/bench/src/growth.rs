@@ -7,17 +7,18 @@ use crate::units;
 use crate::wall::{self, Wall};
 use std::rc::Rc;
 
-/// The engine's call and its layout test on the same memory, by how many there are of what grows.
+/// The engine's call and the test that it is held to on the same memory (the layout test, or a van's form test), by how many there are of
+/// what grows.
 pub struct Point {
     pub at: u32,
-    pub layout: Timing,
+    pub test: Timing,
     pub call: Timing,
 }
 
 pub fn point(race: &mut Race, name: &str, at: u32, wall: &Wall, call: Call) -> Point {
     let shared = measure::share(wall);
-    let layout = measure::layout(race, &shared);
-    Point { at, layout, call: measure::engine(race, name, &Rc::new(call), &shared) }
+    let test = measure::layout(race, &shared);
+    Point { at, test, call: measure::engine(race, name, &Rc::new(call), &shared) }
 }
 
 /// Refresh of one operation by how many transactions the studio has applied: the walk's length. Memory is the same.

@@ -20,6 +20,7 @@ mod tables;
 mod titles;
 mod undo;
 mod units;
+mod van;
 mod wall;
 
 use bars::Bars;
@@ -30,6 +31,7 @@ use scans::Scan;
 use stages::Stages;
 use states::State;
 use titles::Row;
+use van::Van;
 use wall::Wall;
 
 fn rounds() -> u32 {
@@ -51,6 +53,7 @@ struct Entered {
     stages: Stages,
     growth: [(&'static str, Vec<Point>); 3],
     titles: Vec<Row>,
+    van: Van,
     scans: Vec<Scan>,
 }
 
@@ -69,6 +72,7 @@ impl Entered {
                 ("read, by numbers asked", growth::numbers(race, full)),
             ],
             titles: titles::enter(race),
+            van: Van::enter(race, full),
             scans: scans::enter(race, typical, full).into_iter().chain(searches::enter(race)).collect(),
         }
     }
@@ -93,6 +97,7 @@ impl Entered {
             tables::points(race, name, points);
         }
         tables::titles(race, &self.titles, &mut bars);
+        tables::van(race, &self.van, &mut bars);
         tables::scans(race, &self.scans);
         bars.print();
     }

@@ -27,8 +27,8 @@ pub fn share(wall: &Wall) -> Shared {
 /// A call in the race, and putting memory back after it, where that is needed.
 #[derive(Clone, Copy)]
 pub struct Timing {
-    call: Entry,
-    back: Option<Entry>,
+    pub call: Entry,
+    pub back: Option<Entry>,
 }
 
 impl Timing {
@@ -48,7 +48,7 @@ fn undo_of(call: &Call, shared: &Shared) -> Undo {
     let mut before = shared.borrow().wall.clone();
     let mut after = before.clone();
     simulate(call, &mut after.memory, &before.control, &mut [0; 2560]);
-    Undo::between(&mut before.memory, &mut after.memory)
+    Undo::between(&before.memory.parts(), &after.memory.parts())
 }
 
 fn add_call(race: &mut Race, player: Player, call: &Rc<Call>, undo: &Rc<Undo>, shared: &Shared) -> Entry {
@@ -56,13 +56,13 @@ fn add_call(race: &mut Race, player: Player, call: &Rc<Call>, undo: &Rc<Undo>, s
     race.add(move || {
         let Lent { wall, output } = &mut *shared.borrow_mut();
         black_box(player(black_box(&call), &mut wall.memory, &wall.control, output));
-        undo.run(&mut wall.memory);
+        undo.run(&mut wall.memory.parts());
     })
 }
 
 fn add_undo(race: &mut Race, undo: &Rc<Undo>, shared: &Shared) -> Option<Entry> {
     let (undo, shared) = (Rc::clone(undo), Rc::clone(shared));
-    undo.is_needed().then(|| race.add(move || black_box(&undo).run(&mut shared.borrow_mut().wall.memory)))
+    undo.is_needed().then(|| race.add(move || black_box(&undo).run(&mut shared.borrow_mut().wall.memory.parts())))
 }
 
 /// A call that must be accepted, by engine and simulator.

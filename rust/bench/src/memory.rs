@@ -10,3 +10,9 @@ pub struct Memory {
     pub log: [u8; LOG],
     pub sessions: [u8; SESSION_MEMORY],
 }
+
+impl Memory {
+    pub fn parts(&mut self) -> [&mut [u8]; 3] {
+        [&mut self.library, &mut self.log, &mut self.sessions]
+    }
+}

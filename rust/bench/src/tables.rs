@@ -1,6 +1,6 @@
 //! The tables that are printed.
 
-use crate::bars::Bars;
+use crate::bars::{Bar, Bars};
 use crate::clock::{Entry, Race};
 use crate::growth::Point;
 use crate::measure::{Both, Layout, Measured};
@@ -8,6 +8,7 @@ use crate::scans::Scan;
 use crate::stages::Stages;
 use crate::states::{FULL, Kind, State};
 use crate::titles::Row;
+use crate::van::Van;
 
 /// Prints a line, and returns the engine's time as a multiple of the floor's.
 pub fn layout(race: &Race, name: &str, layout: &Layout) -> f64 {
@@ -57,11 +58,11 @@ pub fn stages(race: &Race, stages: &Stages) {
     }
 }
 
-/// A point's columns, and its call as a multiple of its layout test.
+/// A point's columns, and its call as a multiple of the test that it is held to.
 fn columns(race: &Race, point: &Point) -> (String, f64) {
-    let (layout, call) = (point.layout.time(race), point.call.time(race));
-    let ratio = call / layout;
-    (format!("{:>8} {layout:>8.0} {call:>7.0} {:>7.0} {ratio:>9.3}", point.at, call - layout), ratio)
+    let (test, call) = (point.test.time(race), point.call.time(race));
+    let ratio = call / test;
+    (format!("{:>8} {test:>8.0} {call:>7.0} {:>7.0} {ratio:>9.3}", point.at, call - test), ratio)
 }
 
 pub fn points(race: &Race, name: &str, points: &[Point]) {
@@ -79,6 +80,23 @@ pub fn titles(race: &Race, rows: &[Row], bars: &mut Bars) {
         let (columns, ratio) = columns(race, point);
         println!("  {name:<46} {found:>5} {columns}");
         bars.see(Kind::Title, FULL, ratio, &format!("read, title: {name}"));
+    }
+}
+
+pub fn van(race: &Race, van: &Van, bars: &mut Bars) {
+    println!("\nVan, full memory: the last transaction's message");
+    println!("                                number   layout   write  beyond  x layout");
+    held(race, &van.written, &mut bars.van_write);
+    println!("\nVan, full copy: a message of 8 operations that is applied");
+    println!("                                number  is_copy receive  beyond x is_copy");
+    held(race, &van.received, &mut bars.van_receive);
+}
+
+fn held(race: &Race, rows: &[(&str, Point)], bar: &mut Bar) {
+    for (name, point) in rows {
+        let (columns, ratio) = columns(race, point);
+        println!("  {name:<27} {columns}");
+        bar.see(ratio, name.to_string());
     }
 }
 

@@ -1,4 +1,4 @@
-//! The bytes of operations and requests.
+//! The bytes of operations, requests and messages.
 
 use simulator::UNIT;
 
@@ -49,4 +49,10 @@ pub fn by_numbers(count: usize) -> [u8; UNIT] {
 
 pub fn by_title(letters: &[u8]) -> [u8; UNIT] {
     unit(2, 0, 0, letters)
+}
+
+/// The message of a transaction.
+pub fn message(number: u16, operations: &[[u8; UNIT]]) -> Vec<u8> {
+    let head = [number.to_le_bytes(), [operations.len() as u8, 0]].concat();
+    [head, operations.concat()].concat()
 }
