@@ -1,13 +1,16 @@
 -- What a line of a transcript leaves: the engine's call that it asks for, on the bytes that belong to the line. The calls
--- are documents 01's and 02's, by crates/replication/specs/Calls.antt.
+-- are documents 01's and 02's, by crates/replication/specs/Calls.antt; the van's receiver is that of crates/van/specs/Receive.antt.
 use mathlib.Core.Bool.{Bool, true, false, cond}
 use mathlib.Core.List.{List}
-use Prim.Native.Nat.{ℕ, _*_, _-_}
-use Rattle.carts.specs.Bytes.{part, over}
-use Rattle.replication.specs.Answer.{Answer, setupAnswer, countAnswer, readAnswer}
-use Rattle.replication.specs.Memory.{Memory, sessionCount, sessionSize, recordSize}
-use Rattle.replication.specs.Calls.{After, setup, commit, preview, send, refresh, read, collect, forward}
+use Prim.Native.Nat.{ℕ, _+_, _*_, _-_}
+use Rattle.carts.specs.Bytes.{zeros, part, over}
+use Rattle.replication.specs.Answer.{Answer, refused, done, waits, answered, setupAnswer, countAnswer, readAnswer}
+use Rattle.replication.specs.Memory.{Memory, sessionCount, sessionSize, recordSize, mostOperations}
+use Rattle.replication.specs.Calls.{After, setup, commit, preview, send, refresh, read, collect, forward, write}
 use Rattle.replication.specs.declared.control.Control.{Control}
+use Rattle.van.specs.Message.{headSize}
+use Rattle.van.specs.Answer as Received
+use Rattle.van.specs.Receive.{Van, freshVan, receive}
 use Rattle.lines.specs.Text.{partIn}
 use Rattle.lines.specs.declared.cursor.Mistake.{Mistake}
 use Rattle.lines.specs.declared.parse.Call.{Call}
@@ -18,7 +21,7 @@ use Rattle.report.specs.declared.turn.Came.{Came}
 use Rattle.report.specs.declared.turn.Came.the-variants as Came
 
 -- what is told of a line: the answer and what its call named (studios; session and how many operations; studio and whether
--- it is a send; session), or that it made no call
+-- it is a send; session; edit), with the van's applied number after a message that was received, or that it made no call
 pub data Told : Type 0 where
   setUp : Answer → ℕ → Told
   committed : Answer → ℕ → ℕ → Told
@@ -28,6 +31,8 @@ pub data Told : Type 0 where
   shown : Told
   unread : Mistake → ℕ → Told
   nothing : Told
+  unwritten : Answer → ℕ → Told
+  received : Received.Answer → ℕ → ℕ → Told
 
 -- the code's cases, their answers as `Answer`; nothing is lost by it (proofs/MakeLaws.antt, `told-once`)
 abbrev pub told : Came → Told
@@ -39,8 +44,10 @@ told (Came.Read a session) = looked (readAnswer a) session
 told Came.Show = shown
 told (Came.Unreadable mistake at) = unread mistake at
 told Came.Nothing = nothing
+told (Came.Unwritten row edit) = unwritten (refused row) edit
+told (Came.Received result edit) = received (Received.receiveAnswer (result .answer)) (result .applied) edit
 
--- what a line leaves: what is told of it, control, the three memories, and the block of a read ([] where none is lent)
+-- what a line leaves of the system: what is told of it, control, the three memories, and the block of a read ([] where none is lent)
 pub record Made : Type 0 where
   pub told : Told
   pub control : Control
@@ -79,15 +86,61 @@ readLeaves c m s forwards request block = askLeaves s (readOrForward forwards c 
 unfoldable pub collectLeaves : Control → Memory → ℕ → List ℕ → List ℕ → Made
 collectLeaves c m s store block = askLeaves s (collect c m s) (partIn store (slotSize * (s - 1)) slotSize) block
 
--- a line's call, with its bytes at the start of the payload and the requests of reads that wait in the store
-unfoldable pub lineLeaves : Control → Memory → List ℕ → Call → List ℕ → List ℕ → Made
-lineLeaves c m store (Call.Setup studios) payload block = leaves (λ a. setUp a studios) (setup m studios (partIn payload 0 sessionCount)) block
-lineLeaves c m store (Call.Commit s n) payload block = leaves (λ a. committed a s n) (commit c m s (partIn payload 0 (recordSize * n))) block
-lineLeaves c m store (Call.Preview s n) payload block = leaves (λ a. previewed a s n) (preview c m s (partIn payload 0 (recordSize * n))) block
-lineLeaves c m store (Call.Send i) payload block = leaves (λ a. moved a i true) (send c m i) block
-lineLeaves c m store (Call.Refresh i) payload block = leaves (λ a. moved a i false) (refresh c m i) block
-lineLeaves c m store (Call.Read s forwards) payload block = readLeaves c m s forwards (partIn payload 0 sessionSize) block
-lineLeaves c m store (Call.Collect s) payload block = collectLeaves c m s store block
-lineLeaves c m store Call.Show payload block = made shown c m block
-lineLeaves c m store (Call.Unreadable mistake at) payload block = made (unread mistake at) c m block
-lineLeaves c m store Call.Nothing payload block = made nothing c m block
+-- what a line leaves of the system, and of the van's copy
+pub record Left : Type 0 where
+  pub made : Made
+  pub copy : List ℕ
+
+abbrev pub beside : List ℕ → Made → Left
+beside copy x = record { made = x; copy = copy }
+
+-- the van's copy by what a setup answers: "A fresh van has an empty copy" (02, S-6); its applied number is the journal's
+unfoldable pub copyAfter : Answer → List ℕ → List ℕ
+copyAfter (done n) copy = freshVan .copy
+copyAfter (refused n) copy = copy
+copyAfter (waits n) copy = copy
+copyAfter (answered state found) copy = copy
+
+-- "Setup (S and 16 studio bytes)"
+unfoldable pub setupLeaves : Memory → List ℕ → ℕ → List ℕ → List ℕ → Left
+setupLeaves m copy studios places block =
+    let a = setup m studios places in
+    beside (copyAfter (a .answer) copy) (leaves (λ x. setUp x studios) a block)
+
+-- what becomes of the message of an edit: what is told of it, and the van's copy
+pub record Delivery : Type 0 where
+  pub told : Told
+  pub copy : List ℕ
+
+abbrev pub delivery : Told → List ℕ → Delivery
+delivery t copy = record { told = t; copy = copy }
+
+-- by what the writer answers: so many bytes of its output are received by the van; or there is no message
+unfoldable pub delivered : Van → ℕ → List ℕ → Answer → Delivery
+delivered v edit output (done size) =
+    let r = receive v (partIn output 0 size) in
+    delivery (received (r .answer) (r .van .applied) edit) (r .van .copy)
+delivered v edit output (refused row) = delivery (unwritten (refused row) edit) (v .copy)
+delivered v edit output (waits n) = delivery (unwritten (waits n) edit) (v .copy)
+delivered v edit output (answered state found) = delivery (unwritten (answered state found) edit) (v .copy)
+
+-- "build a writer at the head end and a receiver" (02, S-6): the writer's output is long enough for every message
+unfoldable pub vanLeaves : Control → Memory → Van → ℕ → List ℕ → Left
+vanLeaves c m v edit block =
+    let w = write c m edit (zeros (headSize + recordSize * mostOperations)) in
+    let d = delivered v edit (w .output) (w .answer) in
+    beside (d .copy) (made (d .told) (w .control) (w .memory) block)
+
+-- a line's call, with its bytes at the start of the payload and the requests of reads that wait in the store; a van beside it
+unfoldable pub lineLeaves : Control → Memory → Van → List ℕ → Call → List ℕ → List ℕ → Left
+lineLeaves c m v store (Call.Setup studios) payload block = setupLeaves m (v .copy) studios (partIn payload 0 sessionCount) block
+lineLeaves c m v store (Call.Commit s n) payload block = beside (v .copy) (leaves (λ a. committed a s n) (commit c m s (partIn payload 0 (recordSize * n))) block)
+lineLeaves c m v store (Call.Preview s n) payload block = beside (v .copy) (leaves (λ a. previewed a s n) (preview c m s (partIn payload 0 (recordSize * n))) block)
+lineLeaves c m v store (Call.Send i) payload block = beside (v .copy) (leaves (λ a. moved a i true) (send c m i) block)
+lineLeaves c m v store (Call.Refresh i) payload block = beside (v .copy) (leaves (λ a. moved a i false) (refresh c m i) block)
+lineLeaves c m v store (Call.Read s forwards) payload block = beside (v .copy) (readLeaves c m s forwards (partIn payload 0 sessionSize) block)
+lineLeaves c m v store (Call.Collect s) payload block = beside (v .copy) (collectLeaves c m s store block)
+lineLeaves c m v store Call.Show payload block = beside (v .copy) (made shown c m block)
+lineLeaves c m v store (Call.Unreadable mistake at) payload block = beside (v .copy) (made (unread mistake at) c m block)
+lineLeaves c m v store Call.Nothing payload block = beside (v .copy) (made nothing c m block)
+lineLeaves c m v store (Call.Van edit) payload block = vanLeaves c m v edit block

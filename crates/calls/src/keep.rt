@@ -1,6 +1,7 @@
 // What came of a line, kept in the journal.
 use journal::progress::Progress;
 use lines::text;
+use replication::answer::CountAnswer;
 use replication::answer::CountResult;
 use replication::answer::ReadResult;
 use replication::answer::SetupResult;
@@ -46,5 +47,10 @@ pub fn keep(
         Came::Unreadable(_, _) => p.unreadable(),
         Came::Show => p,
         Came::Nothing => p,
+        Came::Unwritten(row, _) => {
+            let answer = CountAnswer::Refused(row);
+            p.after_move(CountResult { answer, control })
+        }
+        Came::Received(result, _) => p.after_receive(control, result),
     }
 }

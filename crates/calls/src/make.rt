@@ -1,4 +1,5 @@
 // The calls of a transcript, made on the engine.
+use crate::deliver;
 use journal::history;
 use journal::history::Entry;
 use journal::progress;
@@ -23,28 +24,33 @@ ghost use mathlib.Core.Bool.{true, false};
 ghost use mathlib.Core.List.{[]};
 ghost use Prim.Native.Nat.{_*_};
 ghost use lib.ListN.{length};
+ghost use Rattle.carts.specs.Cart.{copySize};
 ghost use Rattle.replication.specs.Memory.{memory, sessionCount, sessionSize, recordSize};
 ghost use Rattle.replication.specs.Answer.{readAnswer};
-ghost use Rattle.replication.specs.Calls.{after, setup, commit, preview, send, refresh};
+ghost use Rattle.replication.specs.Calls.{after, commit, preview, send, refresh};
+ghost use Rattle.van.specs.Receive.{van};
 ghost use Rattle.lines.specs.Text.{partIn};
 ghost use Rattle.journal.specs.History.{mostBytes};
-ghost use Rattle.calls.specs.Make.{setUp, committed, previewed, moved, told, made, leaves, readOrForward, readLeaves, collectLeaves, lineLeaves};
+ghost use Rattle.calls.specs.Make.{committed, previewed, moved, told, made, leaves, readOrForward, readLeaves, collectLeaves, beside, setupLeaves, lineLeaves};
 
-// A setup, with the studios of its sessions at the start of the payload.
+// A setup, with the studios of its sessions at the start of the payload, and the van beside it.
 fn make_setup(
     library: &mut [u8],
     log: &mut [u8],
     sessions: &mut [u8],
+    copy: &mut [u8],
     studios: u32,
     payload: &[u8],
 ) -> Turn
-    ensures { λ r. ⌜ made (told (r .came)) (r .control) (memory (now (library .exit)) (now (log .exit)) (now (sessions .exit))) []
-        ≡ leaves (λ a. setUp a studios) (setup (memory (now (library .entry)) (now (log .entry)) (now (sessions .entry))) studios (partIn (now (payload .entry)) 0 sessionCount)) [] ⌝ }
+    requires { ⌜ length (now copy) ≡ copySize ⌝ }
+    ensures { λ r. ⌜ beside (now (copy .exit)) (made (told (r .came)) (r .control) (memory (now (library .exit)) (now (log .exit)) (now (sessions .exit))) [])
+        ≡ setupLeaves (memory (now (library .entry)) (now (log .entry)) (now (sessions .entry))) (now (copy .entry)) studios (partIn (now (payload .entry)) 0 sessionCount) [] ⌝ }
 {
     let places = text::part_of(payload, 0, Session::COUNT as usize);
     let result = setup(library, log, sessions, studios, places);
     let answer = result.answer;
     let control = result.control;
+    deliver::set_up(answer, copy);
     Turn {
         came: Came::Setup(answer, studios),
         control,
@@ -221,23 +227,26 @@ fn no_call(control: Control, came: Came) -> Turn
 }
 
 // The call of a line, with its bytes at the start of the payload. A read, a collect or a forward has its request and its
-// output in the block; the requests of reads that wait are in the store.
+// output in the block; the requests of reads that wait are in the store. Beside the system is the van, its copy and its applied
+// number.
 pub fn make(
     control: Control,
     library: &mut [u8],
     log: &mut [u8],
     sessions: &mut [u8],
+    copy: &mut [u8],
+    applied: u32,
     store: &[u8],
     call: Call,
     payload: &[u8],
     block: &mut [u8],
 ) -> Turn
-    requires { ⌜ length (now block) ≡ mostBytes ⌝ }
-    ensures { λ r. ⌜ made (told (r .came)) (r .control) (memory (now (library .exit)) (now (log .exit)) (now (sessions .exit))) (now (block .exit))
-        ≡ lineLeaves control (memory (now (library .entry)) (now (log .entry)) (now (sessions .entry))) (now (store .entry)) call (now (payload .entry)) (now (block .entry)) ⌝ }
+    requires { ⌜ (length (now copy) ≡ copySize) × (length (now block) ≡ mostBytes) ⌝ }
+    ensures { λ r. ⌜ beside (now (copy .exit)) (made (told (r .came)) (r .control) (memory (now (library .exit)) (now (log .exit)) (now (sessions .exit))) (now (block .exit)))
+        ≡ lineLeaves control (memory (now (library .entry)) (now (log .entry)) (now (sessions .entry))) (van (now (copy .entry)) applied) (now (store .entry)) call (now (payload .entry)) (now (block .entry)) ⌝ }
 {
     match call {
-        Call::Setup(studios) => make_setup(library, log, sessions, studios, payload),
+        Call::Setup(studios) => make_setup(library, log, sessions, copy, studios, payload),
         Call::Commit {
             session,
             operations,
@@ -280,5 +289,6 @@ pub fn make(
         Call::Show => no_call(control, Came::Show),
         Call::Unreadable { mistake, at } => no_call(control, Came::Unreadable(mistake, at)),
         Call::Nothing => no_call(control, Came::Nothing),
+        Call::Van(edit) => deliver::deliver(control, library, log, sessions, copy, applied, edit),
     }
 }

@@ -14,6 +14,9 @@ use Rattle.replication.specs.declared.answer.CountAnswer.{CountAnswer}
 use Rattle.replication.specs.declared.answer.CountAnswer.the-variants as Count
 use Rattle.replication.specs.declared.answer.ReadAnswer.{ReadAnswer}
 use Rattle.replication.specs.declared.answer.ReadAnswer.the-variants as Read
+use Rattle.van.specs.Receive.{freshVan}
+use Rattle.van.specs.declared.answer.ReceiveAnswer.{ReceiveAnswer}
+use Rattle.van.specs.declared.answer.ReceiveAnswer.the-variants as Receive
 use Rattle.lines.specs.Text.{partIn}
 use Rattle.journal.specs.History.{addedCells, addedStore, addedHistory, emptyHistory, keptIn, slotSize, commitKind, readKind, refusedKind}
 use Rattle.journal.specs.declared.history.Entry.{Entry}
@@ -34,23 +37,27 @@ counted t Waited = record { accepted = t .accepted; waited = oneMore (t .waited)
 counted t Refused = record { accepted = t .accepted; waited = t .waited; refused = oneMore (t .refused); unreadable = t .unreadable; same = t .same }
 counted t Unreadable = record { accepted = t .accepted; waited = t .waited; refused = t .refused; unreadable = oneMore (t .unreadable); same = t .same }
 
--- before the first line: no system and no entry
+-- before the first line: no system, no entry, and a fresh van
 unfoldable pub start : Progress
-start = record { line = 0; control = controlOf 0 (zeros sessionCount); history = emptyHistory; tally = record { accepted = 0; waited = 0; refused = 0; unreadable = 0; same = true } }
+start = record { line = 0; control = controlOf 0 (zeros sessionCount); history = emptyHistory; tally = record { accepted = 0; waited = 0; refused = 0; unreadable = 0; same = true }; «van_applied» = freshVan .applied }
 
 -- the entries of a system were compared: all are the same on the single library, or not
 unfoldable pub compared : Progress → Bool → Progress
 compared p same =
     let t = p .tally in
-    record { line = p .line; control = p .control; history = p .history; tally = record { accepted = t .accepted; waited = t .waited; refused = t .refused; unreadable = t .unreadable; same = t .same && same } }
+    record { line = p .line; control = p .control; history = p .history; tally = record { accepted = t .accepted; waited = t .waited; refused = t .refused; unreadable = t .unreadable; same = t .same && same }; «van_applied» = p .«van_applied» }
 
 -- one line more
 unfoldable pub nextLine : Progress → Progress
-nextLine p = record { line = oneMore (p .line); control = p .control; history = p .history; tally = p .tally }
+nextLine p = record { line = oneMore (p .line); control = p .control; history = p .history; tally = p .tally; «van_applied» = p .«van_applied» }
 
 -- after a line: control and history as they are then, and its outcome counted
 unfoldable pub stepped : Progress → Control → History → Outcome → Progress
-stepped p control history outcome = record { line = p .line; control = control; history = history; tally = counted (p .tally) outcome }
+stepped p control history outcome = record { line = p .line; control = control; history = history; tally = counted (p .tally) outcome; «van_applied» = p .«van_applied» }
+
+-- the van has applied so many edits
+unfoldable pub withVan : Progress → ℕ → Progress
+withVan p applied = record { line = p .line; control = p .control; history = p .history; tally = p .tally; «van_applied» = applied }
 
 -- what an answer leaves: the entries' numbers, the store, and what is carried on
 pub record Kept : Type 0 where
@@ -70,12 +77,12 @@ unfoldable pub withEntry : Progress → Control → Outcome → Entry → List �
 withEntry p control outcome e payload cells store =
     kept (addedCells (p .history) e payload cells store) (addedStore (p .history) e payload cells store) (stepped p control (addedHistory (p .history) e payload cells store) outcome)
 
--- a setup: accepted, the entries begin anew; refused, memory is unchanged, and the control that there was is kept
+-- a setup: accepted, the entries begin anew, and "A fresh van has an empty copy and applied 0" (02, S-6); refused, memory is unchanged, and the control that there was is kept
 unfoldable pub afterSetup : Progress → Control → SetupAnswer → Progress
-afterSetup p control Setup.Ready = stepped p control emptyHistory Accepted
+afterSetup p control Setup.Ready = withVan (stepped p control emptyHistory Accepted) (freshVan .applied)
 afterSetup p control (Setup.Refused n) = stepped p (p .control) (p .history) Refused
 
--- a call without an entry: a send, a refresh or a preview
+-- a call without an entry: a send, a refresh, a preview, or a message that could not be written
 unfoldable pub afterMove : Progress → Control → CountAnswer → Progress
 afterMove p control (Count.Number n) = stepped p control (p .history) Accepted
 afterMove p control (Count.Refused n) = stepped p control (p .history) Refused
@@ -101,6 +108,12 @@ unfoldable pub afterRead : Progress → Control → ReadAnswer → ℕ → List 
 afterRead p control (Read.Answered state found) session block cells store = withEntry p control Accepted (entryOf readKind (p .line) session state found) (readBytes block) cells store
 afterRead p control (Read.Waits n) session block cells store = kept cells (keptIn store session (partIn block 0 slotSize)) (stepped p control (p .history) Waited)
 afterRead p control (Read.Refused n) session block cells store = kept cells store (stepped p control (p .history) Refused)
+
+-- a message in the van, with the applied number after it: it is no entry
+unfoldable pub afterReceive : Progress → Control → ℕ → ReceiveAnswer → Progress
+afterReceive p control applied (Receive.Applied n) = stepped (withVan p applied) control (p .history) Accepted
+afterReceive p control applied (Receive.Held n) = stepped (withVan p applied) control (p .history) Accepted
+afterReceive p control applied (Receive.Refused n) = stepped (withVan p applied) control (p .history) Refused
 
 -- a request, where it is one, at the start of a block
 unfoldable pub requestIn : List ℕ → List ℕ → List ℕ

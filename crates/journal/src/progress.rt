@@ -11,12 +11,14 @@ use replication::answer::ReadResult;
 use replication::answer::SetupAnswer;
 use replication::answer::SetupResult;
 use replication::control::Control;
+use van::answer::ReceiveAnswer;
+use van::answer::ReceiveResult;
 ghost use mathlib.Core.Path.{_≡_};
 ghost use Prim.Native.Nat.{_*_, _<_, _≤_};
 ghost use lib.ListN.{length};
 ghost use Rattle.journal.specs.History.{slotSize};
 ghost use Rattle.journal.specs.declared.progress.Outcome.the-variants.{Unreadable};
-ghost use Rattle.journal.specs.Progress.{oneMore, counted, start, compared, nextLine, stepped, kept, entryOf, withEntry, afterSetup, afterMove, afterCommit, placesOf, afterRead, requestIn};
+ghost use Rattle.journal.specs.Progress.{oneMore, counted, start, compared, nextLine, stepped, withVan, kept, entryOf, withEntry, afterSetup, afterMove, afterCommit, placesOf, afterRead, afterReceive, requestIn};
 
 // What came of a line: a call was accepted, waits or was refused, or the line could not be read.
 pub enum Outcome {
@@ -35,12 +37,13 @@ pub struct Tally {
     pub same: bool,
 }
 
-// What is carried from line to line; memory is lent beside it.
+// What is carried from line to line, the van's applied number last; memory is lent beside it.
 pub struct Progress {
     pub line: u32,
     pub control: Control,
     pub history: History,
     pub tally: Tally,
+    pub van_applied: u32,
 }
 
 // One more, in 32 bits.
@@ -93,7 +96,7 @@ impl Tally {
 }
 
 impl Progress {
-    // Before the first line: no system and no entry.
+    // Before the first line: no system, no entry, and a fresh van.
     pub fn new() -> Progress
         ensures { λ r. ⌜ r ≡ start ⌝ }
     {
@@ -108,6 +111,7 @@ impl Progress {
                 unreadable: 0,
                 same: true,
             },
+            van_applied: 0,
         }
     }
 
@@ -141,7 +145,17 @@ impl Progress {
             control,
             history,
             tally: tally.counted(outcome),
+            van_applied: self.van_applied,
         }
+    }
+
+    // The van has applied so many edits.
+    fn with_van(self, applied: u32) -> Progress
+        ensures { λ r. ⌜ r ≡ withVan self applied ⌝ }
+    {
+        let mut next = self;
+        next.van_applied = applied;
+        next
     }
 
     // After a call that is an entry, one more where there is room.
@@ -163,14 +177,17 @@ impl Progress {
         self.stepped(control, next, outcome)
     }
 
-    // A setup was answered: accepted, the entries begin anew; refused, the system before it goes on.
+    // A setup was answered: accepted, the entries begin anew, and the van; refused, the system before it goes on.
     pub fn after_setup(self, result: SetupResult) -> Progress
         ensures { λ r. ⌜ (r ≡ afterSetup self (result .control) (result .answer)) × (r .history .entries ≤ self .history .entries) ⌝ }
     {
         let answer = result.answer;
         let control = result.control;
         match answer {
-            SetupAnswer::Ready => self.stepped(control, History::new(), Outcome::Accepted),
+            SetupAnswer::Ready => {
+                let next = self.stepped(control, History::new(), Outcome::Accepted);
+                next.with_van(0)
+            }
             SetupAnswer::Refused(_) => {
                 let before = self.control;
                 let history = self.history;
@@ -179,7 +196,7 @@ impl Progress {
         }
     }
 
-    // A call without an entry was answered: a send, a refresh or a preview.
+    // A call without an entry was answered: a send, a refresh, a preview, or a message that could not be written.
     pub fn after_move(self, result: CountResult) -> Progress
         ensures { λ r. ⌜ (r ≡ afterMove self (result .control) (result .answer)) × (r .history .entries ≤ self .history .entries) ⌝ }
     {
@@ -250,6 +267,20 @@ impl Progress {
                 self.stepped(control, history, Outcome::Waited)
             }
             ReadAnswer::Refused(_) => self.stepped(control, history, Outcome::Refused),
+        }
+    }
+
+    // The van received a message: applied and held are accepted, and neither is an entry.
+    pub fn after_receive(self, control: Control, result: ReceiveResult) -> Progress
+        ensures { λ r. ⌜ (r ≡ afterReceive self control (result .applied) (result .answer)) × (r .history .entries ≤ self .history .entries) ⌝ }
+    {
+        let answer = result.answer;
+        let next = self.with_van(result.applied);
+        let history = self.history;
+        match answer {
+            ReceiveAnswer::Applied(_) => next.stepped(control, history, Outcome::Accepted),
+            ReceiveAnswer::Held(_) => next.stepped(control, history, Outcome::Accepted),
+            ReceiveAnswer::Refused(_) => next.stepped(control, history, Outcome::Refused),
         }
     }
 

@@ -5,7 +5,7 @@ use mathlib.Core.List.{[], _∷_, _++_}
 use Rattle.carts.specs.Bytes.{zeros, u16Bytes, within, pairwise, every}
 use Rattle.carts.specs.Cart.{printable}
 use Rattle.lines.specs.declared.cursor.Mistake.the-variants.{UnknownWord, UnknownOperation, NumberMissing, NumberTooLarge, ColonMissing, AudioMissing, LengthMissing, TitleMissing, TitleOpen, TitleEmpty, TooManyOperations, TooManyNumbers, TooMuch}
-use Rattle.lines.specs.declared.parse.Call.the-variants.{Nothing, Show, Setup, Commit, Preview, Send, Refresh, Read, Collect, Unreadable}
+use Rattle.lines.specs.declared.parse.Call.the-variants.{Nothing, Show, Setup, Commit, Preview, Send, Refresh, Read, Collect, Van, Unreadable}
 use Rattle.lines.specs.Text.{runLength, numeral, numberOf}
 use Rattle.lines.specs.Cursor.{pastWord, pastMark, numberAt, titleFrom, titleAt, isOver, endedAt}
 use Rattle.lines.specs.Words.{bytesOf}
@@ -19,6 +19,7 @@ pub record Calls : Type 0 where
   send : lineOf (bytesOf "send 1") ≡ line (Send 1) []
   refresh : lineOf (bytesOf "refresh 2") ≡ line (Refresh 2) []
   collect : lineOf (bytesOf "  collect\t16") ≡ line (Collect 16) []
+  van : lineOf (bytesOf "van 4294967295 # no such edit") ≡ line (Van 4294967295) []
   by-numbers : lineOf (bytesOf "read 1: 7 300") ≡ line (Read 1 false) (1 ∷ 2 ∷ zeros 14 ++ (7 ∷ 0 ∷ 44 ∷ 1 ∷ zeros 60))
   by-title : lineOf (bytesOf "read 1: 'A \"B\"'") ≡ line (Read 1 false) (2 ∷ 5 ∷ zeros 14 ++ (65 ∷ 32 ∷ 34 ∷ 66 ∷ 34 ∷ zeros 59))
   forward-numbers : lineOf (bytesOf "forward 17: 7 300") ≡ line (Read 17 true) (1 ∷ 2 ∷ zeros 14 ++ (7 ∷ 0 ∷ 44 ∷ 1 ∷ zeros 60))
@@ -35,6 +36,7 @@ calls = record {
   send = refl;
   refresh = refl;
   collect = refl;
+  van = refl;
   by-numbers = refl;
   by-title = refl;
   forward-numbers = refl;
@@ -48,6 +50,7 @@ pub record Mistakes : Type 0 where
   unknown-operation : callOf (bytesOf "commit 1: recut 7") ≡ Unreadable UnknownOperation 10
   number-missing : callOf (bytesOf "send") ≡ Unreadable NumberMissing 4
   number-large : callOf (bytesOf "send 4294967296") ≡ Unreadable NumberTooLarge 5
+  van-edits : callOf (bytesOf "van 1 2") ≡ Unreadable TooMuch 6
   colon-missing : callOf (bytesOf "read 1 7") ≡ Unreadable ColonMissing 7
   forward-unreadable : callOf (bytesOf "forward 1") ≡ Unreadable ColonMissing 9
   preview-unreadable : callOf (bytesOf "preview 1 withdraw 7") ≡ Unreadable ColonMissing 10
@@ -67,6 +70,7 @@ mistakes = record {
   unknown-operation = refl;
   number-missing = refl;
   number-large = refl;
+  van-edits = refl;
   colon-missing = refl;
   forward-unreadable = refl;
   preview-unreadable = refl;

@@ -15,7 +15,7 @@ use Rattle.lines.specs.declared.cursor.Taken.{Taken}
 use Rattle.lines.specs.declared.cursor.Quoted.{Quoted}
 use Rattle.lines.specs.declared.parse.Counted.{Counted}
 use Rattle.lines.specs.declared.parse.Call.{Call}
-use Rattle.lines.specs.declared.parse.Call.the-variants.{Nothing, Show, Setup, Commit, Preview, Send, Refresh, Read, Collect, Unreadable}
+use Rattle.lines.specs.declared.parse.Call.the-variants.{Nothing, Show, Setup, Commit, Preview, Send, Refresh, Read, Collect, Van, Unreadable}
 use Rattle.lines.specs.Text.{inClass}
 use Rattle.lines.specs.Cursor.{newAt, movedTo, stoppedBy, nextPlace, nextByte, nextWord, wordEnd, pastWord, pastMark, numberAt, titleAt, lettersOf, isOver, endedAt}
 use Rattle.lines.specs.Build.{operationBytes, numbersBytes, studioBytes, mostNumbers, mostStudios}
@@ -136,14 +136,15 @@ readAt s c forwards =
     let read = requestAt s (pastMark s (session .cursor) 58 ColonMissing) in
     line (wholeCall s (read .cursor) (Read (session .value) forwards)) (read .items)
 
--- a call that has one number: a studio or a session
+-- a call that has one number: a studio, a session, or the edit whose message goes to the van (02, S-6)
 unfoldable pub numberCallAt : List ℕ → Cursor → List ℕ → Call
 numberCallAt s c word =
     let n = numberAt s c anyNumber in
     cond (says word "send") (wholeCall s (n .cursor) (Send (n .value)))
     (cond (says word "refresh") (wholeCall s (n .cursor) (Refresh (n .value)))
     (cond (says word "collect") (wholeCall s (n .cursor) (Collect (n .value)))
-    (Unreadable UnknownWord 0)))
+    (cond (says word "van") (wholeCall s (n .cursor) (Van (n .value)))
+    (Unreadable UnknownWord 0))))
 
 -- a line, by its first word
 unfoldable pub lineOf : List ℕ → Line
@@ -182,6 +183,7 @@ callFits (Send n) = Unit {0}
 callFits (Refresh n) = Unit {0}
 callFits (Read s forwards) = Unit {0}
 callFits (Collect n) = Unit {0}
+callFits (Van n) = Unit {0}
 callFits (Unreadable m at) = Unit {0}
 
 -- memory before and after a line was read in it: r is the line's call

@@ -29,6 +29,7 @@ pub enum Call {
     Refresh(u32),
     Read { session: u32, forwards: bool },
     Collect(u32),
+    Van(u32),
     Unreadable { mistake: Mistake, at: usize },
 }
 
@@ -278,7 +279,7 @@ fn read(s: &[u8], c: Cursor, payload: &mut [u8], forwards: bool) -> Call
     whole(s, end, call)
 }
 
-// A call that has one number: a studio or a session.
+// A call that has one number: a studio, a session or an edit.
 fn by_number(s: &[u8], c: Cursor, word: &[u8]) -> Call
     ensures { λ r. ⌜ (r ≡ numberCallAt (now (s .entry)) c (now (word .entry))) × callFits r ⌝ }
 {
@@ -291,6 +292,9 @@ fn by_number(s: &[u8], c: Cursor, word: &[u8]) -> Call
     }
     if text::same(word, b"collect") {
         return whole(s, n.cursor, Call::Collect(n.value));
+    }
+    if text::same(word, b"van") {
+        return whole(s, n.cursor, Call::Van(n.value));
     }
     Call::Unreadable {
         mistake: Mistake::UnknownWord,

@@ -2,6 +2,7 @@
 // one-copy order replayed on a single library. docs/TRANSCRIPT.md has the format and the limits.
 mod play;
 
+use carts::cart::Cart;
 use journal::history::Entry;
 use journal::progress::Progress;
 use lines::input;
@@ -14,20 +15,22 @@ use replication::session::Session;
 ghost use mathlib.Core.Path.{_≡_};
 ghost use Prim.Native.Nat.{_≤_};
 ghost use lib.ListN.{length};
+ghost use Rattle.carts.specs.Cart.{copySize};
 ghost use Rattle.journal.specs.History.{mostEntries, cellsSize};
 
-// A line, where it is whole.
+// A line, where it is whole; `copy` is the van's.
 fn play_line(
     p: Progress,
     library: &mut [u8],
     log: &mut [u8],
     sessions: &mut [u8],
+    copy: &mut [u8],
     cells: &mut [u32],
     store: &mut [u8],
     line: &[u8],
     is_whole: bool,
 ) -> Progress
-    requires { ⌜ (length (now cells) ≡ cellsSize) × (p .history .entries ≤ mostEntries) ⌝ }
+    requires { ⌜ (length (now copy) ≡ copySize) × (length (now cells) ≡ cellsSize) × (p .history .entries ≤ mostEntries) ⌝ }
     ensures { λ r. ⌜ r .history .entries ≤ mostEntries ⌝ }
 {
     if !is_whole {
@@ -37,7 +40,17 @@ fn play_line(
     let mut payload = [0u8; Record::TRANSACTION_SIZE];
     let call = parse::parse(line, &mut payload);
     report::transcript::echo(next.line, line, call);
-    play::play_call(next, library, log, sessions, cells, store, call, &payload)
+    play::play_call(
+        next,
+        library,
+        log,
+        sessions,
+        copy,
+        cells,
+        store,
+        call,
+        &payload,
+    )
 }
 
 // Every line; the last is left out where the text was cut in it.
@@ -45,12 +58,13 @@ fn play_lines(
     library: &mut [u8],
     log: &mut [u8],
     sessions: &mut [u8],
+    copy: &mut [u8],
     cells: &mut [u32],
     store: &mut [u8],
     bytes: &[u8],
     cut: bool,
 ) -> Progress
-    requires { ⌜ length (now cells) ≡ cellsSize ⌝ }
+    requires { ⌜ (length (now copy) ≡ copySize) × (length (now cells) ≡ cellsSize) ⌝ }
     ensures { λ r. ⌜ r .history .entries ≤ mostEntries ⌝ }
 {
     let mut player = Progress::new();
@@ -60,7 +74,17 @@ fn play_lines(
         let next = end + 1;
         let is_whole = !cut | (end < bytes.len());
         let line = &bytes[at..end];
-        player = play_line(player, library, log, sessions, cells, store, line, is_whole);
+        player = play_line(
+            player,
+            library,
+            log,
+            sessions,
+            copy,
+            cells,
+            store,
+            line,
+            is_whole,
+        );
         at = next;
     }
     player
@@ -71,28 +95,31 @@ fn play_all(
     library: &mut [u8],
     log: &mut [u8],
     sessions: &mut [u8],
+    copy: &mut [u8],
     cells: &mut [u32],
     store: &mut [u8],
     bytes: &[u8],
     cut: bool,
 )
-    requires { ⌜ length (now cells) ≡ cellsSize ⌝ }
+    requires { ⌜ (length (now copy) ≡ copySize) × (length (now cells) ≡ cellsSize) ⌝ }
 {
-    let player = play_lines(library, log, sessions, cells, store, bytes, cut);
+    let player = play_lines(library, log, sessions, copy, cells, store, bytes, cut);
     print::end::tell_end(player, sessions, cells, store, cut);
 }
 
-// All memory is on the stack.
+// All memory is on the stack: the system's, the van's copy, and the entries'.
 fn play_text(bytes: &[u8], cut: bool) {
     let mut library = [0u8; Control::LIBRARY_SIZE];
     let mut log = [0u8; Record::LOG_SIZE];
     let mut sessions = [0u8; Session::MEMORY_SIZE];
+    let mut copy = [0u8; Cart::COPY_SIZE];
     let mut cells = [0u32; Entry::CELLS];
     let mut store = [0u8; 262144];
     play_all(
         &mut library,
         &mut log,
         &mut sessions,
+        &mut copy,
         &mut cells,
         &mut store,
         bytes,

@@ -12,6 +12,8 @@ use replication::answer::SetupAnswer;
 use replication::control::Control;
 use report::cart;
 use report::show;
+use van::answer::ReceiveAnswer;
+use van::answer::ReceiveResult;
 use words::line;
 ghost use Prim.Native.Nat.{_<_, _≤_};
 ghost use Rattle.journal.specs.History.{mostEntries};
@@ -193,5 +195,29 @@ pub fn read(answer: ReadAnswer, control: Control, session: u32, block: &[u8]) {
         ReadAnswer::Answered { state, found } => { answered(control, session, block, state, found) }
         ReadAnswer::Waits(edit) => waits(edit),
         ReadAnswer::Refused(row) => refusals::print::refusal_of_session(false, row, session),
+    }
+}
+
+fn van_applied(edit: u32) {
+    let mut page = io::buffer();
+    let n = words::answer::van_applied(&mut page, edit);
+    line::told(&page, n);
+}
+
+fn van_holds(edit: u32) {
+    let mut page = io::buffer();
+    let n = words::answer::van_holds(&mut page, edit);
+    line::told(&page, n);
+}
+
+// What the van answered to the message of an edit, with its applied number.
+pub fn received(result: ReceiveResult, edit: u32) {
+    let answer = result.answer;
+    match answer {
+        ReceiveAnswer::Applied(number) => van_applied(number),
+        ReceiveAnswer::Held(number) => van_holds(number),
+        ReceiveAnswer::Refused(row) => {
+            refusals::print::refusal_of_message(row, edit, result.applied)
+        }
     }
 }

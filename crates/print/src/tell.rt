@@ -38,13 +38,23 @@ fn tell_edit(
     answer::edited(previews, answer, library, session, ops);
 }
 
-// A read, a collect or a forward was answered, a line shows the state or cannot be read.
-fn tell_other(before: Progress, came: Came, library: &[u8], sessions: &[u8], block: &[u8]) {
+// A read, a collect or a forward was answered, a line shows the state or cannot be read, or an edit's message was not written or was
+// received; with the van's copy.
+fn tell_other(
+    before: Progress,
+    came: Came,
+    library: &[u8],
+    sessions: &[u8],
+    copy: &[u8],
+    block: &[u8],
+) {
     let control = before.control;
     match came {
         Came::Read(answer, session) => answer::read(answer, control, session, block),
-        Came::Show => show::show(control, library, sessions),
+        Came::Show => show::show(control, library, sessions, copy, before.van_applied),
         Came::Unreadable(mistake, at) => refusals::print::unreadable(before.line, mistake, at),
+        Came::Unwritten(row, edit) => refusals::print::refusal_of_edit(row, edit),
+        Came::Received(result, edit) => answer::received(result, edit),
         _ => {}
     }
 }
@@ -55,6 +65,7 @@ pub fn tell(
     came: Came,
     library: &[u8],
     sessions: &[u8],
+    copy: &[u8],
     cells: &[u32],
     store: &[u8],
     payload: &[u8],
@@ -73,7 +84,7 @@ pub fn tell(
             tell_edit(true, answer, library, session, operations, payload);
         }
         Came::Moved(answer, studio, is_sent) => answer::moved(answer, studio, is_sent),
-        _ => tell_other(before, came, library, sessions, block),
+        _ => tell_other(before, came, library, sessions, copy, block),
     }
     true
 }

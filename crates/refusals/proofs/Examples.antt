@@ -3,27 +3,31 @@ use mathlib.Core.Path.{_≡_, refl}
 use mathlib.Core.Bool.{true, false}
 use Rattle.lines.specs.declared.cursor.Mistake.the-variants.{NumberMissing}
 use Rattle.lines.specs.Words.{bytesOf}
-use Rattle.words.specs.Page.{digitsOf, decimal}
+use Rattle.words.specs.Page.{digitsOf, decimal, countOf}
 use Rattle.refusals.specs.Sentences.{refusalSentence}
-use Rattle.refusals.specs.Refusals.{leadOf, refusalText, noSessionText, atOperationText, unreadableText}
+use Rattle.refusals.specs.Refusals.{leadOf, refusalText, noSessionText, noEditText, aheadText, atOperationText, unreadableText}
 
 pub record Refusals : Type 0 where
   refused : refusalText false 9 ≡ bytesOf "  refused (9): every edit has been sent to this studio\n"
-  unnamed : refusalText false 17 ≡ bytesOf "  refused (17): unknown\n"
+  unnamed : refusalText false 19 ≡ bytesOf "  refused (19): unknown\n"
   previewed : refusalText true 4 ≡ bytesOf "  would be refused (4): a read of this session is waiting; collect it first\n"
   spaced : refusalText true 16 ≡ bytesOf "  would be refused (16): the title begins or ends with a space\n"
   no-session : noSessionText true 17 ≡ bytesOf "  would be refused (3): there is no session 17, or it is unused\n"
+  no-edit : noEditText 9 ≡ bytesOf "  refused (17): there is no edit 9\n"
+  ahead : aheadText 1 3 ≡ bytesOf "  refused (18): the van has applied 1 edit, and edit 3 is not the next\n"
   unreadable : unreadableText 3 5 NumberMissing ≡ bytesOf "  line 3, column 5 cannot be read: a number is missing\n"
   operation : atOperationText 2 8 ≡ bytesOf "    it is operation 2 of the commit, on cart 8\n"
 
 pub refusals : Refusals
-unfolding digitsOf decimal refusalSentence leadOf refusalText noSessionText atOperationText unreadableText
+unfolding digitsOf decimal countOf refusalSentence leadOf refusalText noSessionText noEditText aheadText atOperationText unreadableText
 refusals = record {
   refused = refl;
   unnamed = refl;
   previewed = refl;
   spaced = refl;
   no-session = refl;
+  no-edit = refl;
+  ahead = refl;
   unreadable = refl;
   operation = refl;
 }

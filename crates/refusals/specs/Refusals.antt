@@ -4,7 +4,7 @@ use mathlib.Core.List.{List, _++_}
 use Prim.Native.Nat.{ℕ}
 use Rattle.lines.specs.declared.cursor.Mistake.{Mistake}
 use Rattle.lines.specs.Words.{bytesOf}
-use Rattle.words.specs.Page.{decimal, numbered}
+use Rattle.words.specs.Page.{decimal, numbered, countOf}
 use Rattle.refusals.specs.Sentences.{refusalSentence, mistakeSentence}
 
 -- before the refusal of a preview, and of any other call
@@ -15,13 +15,21 @@ leadOf previews = cond previews (bytesOf "  would be ") (bytesOf "  ")
 unfoldable pub refusalText : Bool → ℕ → List ℕ
 refusalText previews n = leadOf previews ++ numbered "refused (" n ++ bytesOf "): " ++ refusalSentence n ++ bytesOf "\n"
 
--- refusal 3 of a call that names a session, or a studio; the operation for which a commit is refused, counted from 1, and its cart
+-- refusal 3 of a call that names a session, or a studio
 unfoldable pub noSessionText : Bool → ℕ → List ℕ
 noSessionText previews session = leadOf previews ++ numbered "refused (3): there is no session " session ++ bytesOf ", or it is unused\n"
 
 unfoldable pub noStudioText : ℕ → List ℕ
 noStudioText studio = numbered "  refused (3): there is no studio " studio ++ bytesOf "\n"
 
+-- refusal 17 at the van's writer, "a number outside 1 to commits"; refusal 18 at the receiver, "a number above applied + 1" (02, S-6)
+unfoldable pub noEditText : ℕ → List ℕ
+noEditText edit = numbered "  refused (17): there is no edit " edit ++ bytesOf "\n"
+
+unfoldable pub aheadText : ℕ → ℕ → List ℕ
+aheadText applied edit = bytesOf "  refused (18): the van has applied " ++ countOf applied (bytesOf "edit") ++ numbered ", and edit " edit ++ bytesOf " is not the next\n"
+
+-- the operation for which a commit is refused, counted from 1, and its cart
 unfoldable pub atOperationText : ℕ → ℕ → List ℕ
 atOperationText i cart = numbered "    it is operation " i ++ numbered " of the commit, on cart " cart ++ bytesOf "\n"
 

@@ -26,12 +26,14 @@ refusalSentence n =
     (cond (eqb n 14) (bytesOf "no read of this session is waiting")
     (cond (eqb n 15) (bytesOf "a system has 1 to 4 studios, and each session one of them or 0")
     (cond (eqb n 16) (bytesOf "the title begins or ends with a space")
-    (bytesOf "unknown"))))))))))))))))
+    (cond (eqb n 17) (bytesOf "there is no such edit, or a message or the van's copy is out of form")
+    (cond (eqb n 18) (bytesOf "the van has not applied the edit before this one")
+    (bytesOf "unknown"))))))))))))))))))
 
 -- what is wrong with a line
 abbrev pub mistakeSentence : Mistake → List ℕ
 mistakeSentence None = bytesOf "nothing is wrong"
-mistakeSentence UnknownWord = bytesOf "the line begins with none of setup, commit, preview, send, refresh, read, collect, forward, show"
+mistakeSentence UnknownWord = bytesOf "the line begins with none of setup, commit, preview, send, refresh, read, collect, forward, van, show"
 mistakeSentence UnknownOperation = bytesOf "an operation begins with new, retitle, re-cut or withdraw"
 mistakeSentence NumberMissing = bytesOf "a number is missing"
 mistakeSentence NumberTooLarge = bytesOf "a number is too large"

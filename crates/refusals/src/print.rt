@@ -41,6 +41,28 @@ pub fn refusal_of_studio(row: u32, studio: u32) {
     line::told(&page, n);
 }
 
+// Refusal 17 of the van's writer names the edit.
+pub fn refusal_of_edit(row: u32, edit: u32) {
+    if row != 17 {
+        refusal(row);
+        return;
+    }
+    let mut page = io::buffer();
+    let n = refusal::no_edit(&mut page, edit);
+    line::told(&page, n);
+}
+
+// Refusal 18 of the van's receiver names the edit, and how many the van has applied.
+pub fn refusal_of_message(row: u32, edit: u32, applied: u32) {
+    if row != 18 {
+        refusal(row);
+        return;
+    }
+    let mut page = io::buffer();
+    let n = refusal::ahead(&mut page, applied, edit);
+    line::told(&page, n);
+}
+
 // Operation i, counted from 1, and its cart.
 pub fn at_operation(ops: &[u8], i: u32) {
     if i == 0 {

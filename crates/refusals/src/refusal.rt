@@ -5,7 +5,7 @@ ghost use Prim.Native.Nat.{_+_, _<_, _≤_};
 ghost use lib.ListN.{length};
 ghost use Rattle.words.specs.Page.{pageSize, Put, Told};
 ghost use Rattle.refusals.specs.Sentences.{refusalSentence};
-ghost use Rattle.refusals.specs.Refusals.{leadOf, refusalText, noSessionText, noStudioText, atOperationText};
+ghost use Rattle.refusals.specs.Refusals.{leadOf, refusalText, noSessionText, noStudioText, noEditText, aheadText, atOperationText};
 
 // What refusals 1 to 3 mean; there is no refusal 0.
 fn put_to_3(out: &mut [u8], at: usize, n: u32) -> usize
@@ -71,7 +71,7 @@ fn put_to_15(out: &mut [u8], at: usize, n: u32) -> usize
     )
 }
 
-// What refusal 16 means; 17 to 19 are given to no refusal yet.
+// What refusals 16 to 18 mean; 19 is given to no refusal yet.
 fn put_to_19(out: &mut [u8], at: usize, n: u32) -> usize
     requires { ⌜ (at + 128 ≤ length (now out)) × (16 ≤ n) × (n < 20) ⌝ }
     ensures { λ r. ⌜ Put (refusalSentence n) (now (out .entry)) at (now (out .exit)) r × (r ≤ at + 128) ⌝ }
@@ -81,8 +81,8 @@ fn put_to_19(out: &mut [u8], at: usize, n: u32) -> usize
         at,
         n - 16,
         b"the title begins or ends with a space",
-        b"unknown",
-        b"unknown",
+        b"there is no such edit, or a message or the van's copy is out of form",
+        b"the van has not applied the edit before this one",
         b"unknown",
     )
 }
@@ -153,6 +153,29 @@ pub fn no_studio(out: &mut [u8], studio: u32) -> usize
     ensures { λ r. ⌜ Told (noStudioText studio) (now (out .entry)) (now (out .exit)) r ⌝ }
 {
     page::put_between(out, 0, b"  refused (3): there is no studio ", studio, b"\n")
+}
+
+// Refusal 17 of an edit whose message cannot be written.
+pub fn no_edit(out: &mut [u8], edit: u32) -> usize
+    requires { ⌜ length (now out) ≡ pageSize ⌝ }
+    ensures { λ r. ⌜ Told (noEditText edit) (now (out .entry)) (now (out .exit)) r ⌝ }
+{
+    page::put_between(out, 0, b"  refused (17): there is no edit ", edit, b"\n")
+}
+
+// Refusal 18 of the message of an edit, by a van that has applied so many.
+pub fn ahead(out: &mut [u8], applied: u32, edit: u32) -> usize
+    requires { ⌜ length (now out) ≡ pageSize ⌝ }
+    ensures { λ r. ⌜ Told (aheadText applied edit) (now (out .entry)) (now (out .exit)) r ⌝ }
+{
+    let a = page::put_counted(
+        out,
+        0,
+        b"  refused (18): the van has applied ",
+        applied,
+        b"edit",
+    );
+    page::put_between(out, a, b", and edit ", edit, b" is not the next\n")
 }
 
 // The operation for which a commit is refused, counted from 1, and its cart.

@@ -39,6 +39,10 @@ headText commits used = bytesOf "  head end: " ++ countOf commits (bytesOf "edit
 unfoldable pub studioText : ℕ → ℕ → ℕ → ℕ → List ℕ
 studioText i sent applied behind = numbered "  studio " i ++ numbered ": sent " sent ++ numbered ", applied " applied ++ behindText behind ++ bytesOf "\n"
 
+-- how many edits the van has applied
+unfoldable pub vanText : ℕ → ℕ → List ℕ
+vanText applied behind = numbered "  van: applied " applied ++ behindText behind ++ bytesOf "\n"
+
 -- the edit that a session's read waits for is the session's number
 unfoldable pub untilText : List ℕ → List ℕ
 untilText own = numbered " waits for edit " (u16 own 2) ++ bytesOf "\n"

@@ -76,6 +76,14 @@ fn studio_line(control: Control, library: &[u8], i: u32)
     carts_of(library, i as usize);
 }
 
+// The van's line, and the held carts of its copy.
+fn van_line(control: Control, copy: &[u8], applied: u32) {
+    let mut page = io::buffer();
+    let n = state::van(&mut page, applied, answer::behind(control.commits, applied));
+    line::told(&page, n);
+    carts_of(copy, 0);
+}
+
 fn session_line(control: Control, sessions: &[u8], j: u32)
     requires { ⌜ (1 ≤ j) × (j ≤ sessionCount) ⌝ }
 {
@@ -108,7 +116,8 @@ fn sessions_of(control: Control, sessions: &[u8]) {
     }
 }
 
-pub fn show(control: Control, library: &[u8], sessions: &[u8]) {
+// The state of a system and of the van beside it: its copy, and how many edits it has applied.
+pub fn show(control: Control, library: &[u8], sessions: &[u8], copy: &[u8], applied: u32) {
     let mut page = io::buffer();
     if control.studios == 0 {
         let n = state::no_system(&mut page);
@@ -119,6 +128,7 @@ pub fn show(control: Control, library: &[u8], sessions: &[u8]) {
     line::told(&page, n);
     carts_of(library, 0);
     studios(control, library);
+    van_line(control, copy, applied);
     sessions_of(control, sessions);
 }
 

@@ -8,7 +8,7 @@ ghost use Prim.Native.Nat.{_+_, _≤_};
 ghost use lib.ListN.{length};
 ghost use Rattle.carts.specs.Cart.{cartSize};
 ghost use Rattle.words.specs.Page.{pageSize, Put, Told};
-ghost use Rattle.report.specs.Lines.{noSystemText, headText, studioText, untilText, waitingText, stillWaitingText, sessionText};
+ghost use Rattle.report.specs.Lines.{noSystemText, headText, studioText, vanText, untilText, waitingText, stillWaitingText, sessionText};
 
 // There is no system.
 pub fn no_system(out: &mut [u8]) -> usize
@@ -36,6 +36,16 @@ pub fn studio(out: &mut [u8], i: u32, sent: u32, applied: u32, behind: u32) -> u
     let b = page::put_numbered(out, a, b", applied ", applied);
     let c = answer::put_behind(out, b, behind);
     page::put(out, c, b"\n")
+}
+
+// How many edits the van has applied, and how many its copy is behind the head end.
+pub fn van(out: &mut [u8], applied: u32, behind: u32) -> usize
+    requires { ⌜ length (now out) ≡ pageSize ⌝ }
+    ensures { λ r. ⌜ Told (vanText applied behind) (now (out .entry)) (now (out .exit)) r ⌝ }
+{
+    let a = page::put_numbered(out, 0, b"  van: applied ", applied);
+    let b = answer::put_behind(out, a, behind);
+    page::put(out, b, b"\n")
 }
 
 // The edit that a session's read waits for, and the line's end.

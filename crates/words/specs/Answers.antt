@@ -53,3 +53,10 @@ untitledText = bytesOf "    no cart has this title\n"
 
 unfoldable pub severalText : ℕ → List ℕ
 severalText found = numbered "    " found ++ bytesOf " carts have this title, so none is shown\n"
+
+-- the van "applies number applied + 1 and returns it", or "answers a number already applied as held" (02, S-6)
+unfoldable pub vanAppliedText : ℕ → List ℕ
+vanAppliedText n = numbered "  the van has applied edit " n ++ bytesOf "\n"
+
+unfoldable pub vanHoldsText : ℕ → List ℕ
+vanHoldsText n = numbered "  the van holds edit " n ++ bytesOf " already\n"

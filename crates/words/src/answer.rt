@@ -6,7 +6,7 @@ ghost use lib.ListN.{length};
 ghost use mathlib.Core.List.{_++_};
 ghost use Rattle.lines.specs.Words.{bytesOf};
 ghost use Rattle.words.specs.Page.{pageSize, Put, Told, decimal, numbered};
-ghost use Rattle.words.specs.Answers.{freshText, endedText, goesOnText, committedText, previewedText, sentText, appliedText, behindText, answeredText, headEndText, waitsText, untitledText, severalText};
+ghost use Rattle.words.specs.Answers.{freshText, endedText, goesOnText, committedText, previewedText, sentText, appliedText, behindText, answeredText, headEndText, waitsText, untitledText, severalText, vanAppliedText, vanHoldsText};
 
 // A setup was accepted.
 pub fn fresh(out: &mut [u8], studios: u32) -> usize
@@ -142,4 +142,20 @@ pub fn several(out: &mut [u8], found: u32) -> usize
         found,
         b" carts have this title, so none is shown\n",
     )
+}
+
+// The van has applied the edit of a message.
+pub fn van_applied(out: &mut [u8], n: u32) -> usize
+    requires { ⌜ length (now out) ≡ pageSize ⌝ }
+    ensures { λ r. ⌜ Told (vanAppliedText n) (now (out .entry)) (now (out .exit)) r ⌝ }
+{
+    page::put_between(out, 0, b"  the van has applied edit ", n, b"\n")
+}
+
+// The van had applied the edit of a message before.
+pub fn van_holds(out: &mut [u8], n: u32) -> usize
+    requires { ⌜ length (now out) ≡ pageSize ⌝ }
+    ensures { λ r. ⌜ Told (vanHoldsText n) (now (out .entry)) (now (out .exit)) r ⌝ }
+{
+    page::put_between(out, 0, b"  the van holds edit ", n, b" already\n")
 }

@@ -58,6 +58,18 @@ enum-told-2 c = search needs
 enum-told-3 : tie.Need-enum-told-3
 enum-told-3 c = search needs
 
+enum-known-came-6 : tie.Need-enum-known-came-6
+enum-known-came-6 c = search needs
+
+after-move-requires-3 : tie.Need-after-move-requires-3
+after-move-requires-3 c κs = search needs
+
+enum-known-came-7 : tie.Need-enum-known-came-7
+enum-known-came-7 c = search needs
+
+after-receive-requires : tie.Need-after-receive-requires
+after-receive-requires c κs = search needs
+
 returns : tie.Need-returns
 unfolding cameKept
 returns c = let s = c .before .before .before .before .before .before .before .before .before in
@@ -118,6 +130,16 @@ unfolding cameKept
 returns-8 c = let s = c .before .before .before .before .before .before .before in
     (by-came _ _ _ _ _ _ (c .enum-told3 .given .1) refl, s .pre .1)
 
+returns-9 : tie.Need-returns-9
+unfolding cameKept
+returns-9 c = let s = c .before .before .before .before .before .before .before .before .before in
+    (by-came _ _ _ _ _ _ (c .before .before .came6 .given .1) (same-entries (s .args .cells .now) (s .args .store .now) (c .after-move3 .ensures .0)), omega (arith, c .after-move3 .ensures .1, s .pre .1))
+
+returns-10 : tie.Need-returns-10
+unfolding cameKept
+returns-10 c = let s = c .before .before .before .before .before .before .before .before .before in
+    (by-came _ _ _ _ _ _ (c .before .before .came7 .given .1) (same-entries (s .args .cells .now) (s .args .store .now) (c .after-receive .ensures .0)), omega (arith, c .after-receive .ensures .1, s .pre .1))
+
 pub keep-spec : {M : Type 1} → statement M
 keep-spec =
     tie.close
@@ -139,6 +161,10 @@ keep-spec =
     unreadable-requires
     enum-told-2
     enum-told-3
+    enum-known-came-6
+    after-move-requires-3
+    enum-known-came-7
+    after-receive-requires
     returns
     same-length
     same-length-2
@@ -150,4 +176,6 @@ keep-spec =
     returns-5
     returns-6
     returns-7
-    returns-8)
+    returns-8
+    returns-9
+    returns-10)

@@ -1,5 +1,5 @@
-use Rattle.calls.specs.Make.{lineLeaves}
-use Rattle.calls.proofs.MakeLaws.{with-block, without-call, by-case}
+use Rattle.calls.specs.Make.{setupLeaves, vanLeaves, lineLeaves}
+use Rattle.calls.proofs.MakeLaws.{with-copy, with-block, with-van, without-call, by-case}
 use borrow.Author.Needs.{needs}
 use Rattle.calls.proofs.make.make.Statement.{statement}
 use Rattle.calls.proofs.make.make.Tie as tie
@@ -64,6 +64,12 @@ enum-told-2 c = search needs
 no-call-requires-3 : tie.Need-no-call-requires-3
 no-call-requires-3 c κs = search needs
 
+enum-known-call-9 : tie.Need-enum-known-call-9
+enum-known-call-9 c = search needs
+
+deliver-requires : tie.Need-deliver-requires
+deliver-requires c κs = search needs
+
 same-length : tie.Need-same-length
 same-length c = search needs
 
@@ -73,15 +79,15 @@ same-length-2 c = search needs
 same-length-3 : tie.Need-same-length-3
 same-length-3 c = search needs
 
-returns : tie.Need-returns
-unfolding lineLeaves
-returns c = let called = c .before .before .before .before .before .before in
-    let arm = called .before .before .before .before .before in
-    let start = arm .before .before .before .before .before .before .before .before in
-    by-case _ _ _ _ _ (arm .call .given .1) (with-block (start .args .block .now) (called .make-setup .ensures))
-
 same-length-4 : tie.Need-same-length-4
 same-length-4 c = search needs
+
+returns : tie.Need-returns
+unfolding lineLeaves setupLeaves
+returns c = let called = c .before .before .before .before .before .before .before .before in
+    let arm = called .before .before .before .before .before .before in
+    let start = arm .before .before .before .before .before .before .before .before .before in
+    by-case _ _ _ _ _ _ (arm .call .given .1) (with-van (start .args .block .now) (called .make-setup .ensures))
 
 same-length-5 : tie.Need-same-length-5
 same-length-5 c = search needs
@@ -89,15 +95,15 @@ same-length-5 c = search needs
 same-length-6 : tie.Need-same-length-6
 same-length-6 c = search needs
 
+same-length-7 : tie.Need-same-length-7
+same-length-7 c = search needs
+
 returns-2 : tie.Need-returns-2
 unfolding lineLeaves
 returns-2 c = let called = c .before .before .before .before .before .before in
     let arm = called .before .before .before .before .before in
-    let start = arm .before .before .before .before .before .before .before .before in
-    by-case _ _ _ _ _ (arm .call2 .given .1) (with-block (start .args .block .now) (called .make-commit .ensures))
-
-same-length-7 : tie.Need-same-length-7
-same-length-7 c = search needs
+    let start = arm .before .before .before .before .before .before .before .before .before in
+    by-case _ _ _ _ _ _ (arm .call2 .given .1) (with-block (start .args .copy .now) (start .args .block .now) (called .make-commit .ensures))
 
 same-length-8 : tie.Need-same-length-8
 same-length-8 c = search needs
@@ -105,14 +111,14 @@ same-length-8 c = search needs
 same-length-9 : tie.Need-same-length-9
 same-length-9 c = search needs
 
+same-length-10 : tie.Need-same-length-10
+same-length-10 c = search needs
+
 returns-3 : tie.Need-returns-3
 unfolding lineLeaves
 returns-3 c = let arm = c .before .before .before .before .before in
-    let start = arm .before .before .before .before .before .before .before .before in
-    by-case _ _ _ _ _ (arm .call3 .given .1) (with-block (start .args .block .now) (c .make-preview .ensures))
-
-same-length-10 : tie.Need-same-length-10
-same-length-10 c = search needs
+    let start = arm .before .before .before .before .before .before .before .before .before in
+    by-case _ _ _ _ _ _ (arm .call3 .given .1) (with-block (start .args .copy .now) (start .args .block .now) (c .make-preview .ensures))
 
 same-length-11 : tie.Need-same-length-11
 same-length-11 c = search needs
@@ -120,14 +126,14 @@ same-length-11 c = search needs
 same-length-12 : tie.Need-same-length-12
 same-length-12 c = search needs
 
+same-length-13 : tie.Need-same-length-13
+same-length-13 c = search needs
+
 returns-4 : tie.Need-returns-4
 unfolding lineLeaves
 returns-4 c = let arm = c .before .before .before .before .before in
-    let start = arm .before .before .before .before .before .before .before .before in
-    by-case _ _ _ _ _ (arm .call4 .given .1) (with-block (start .args .block .now) (c .make-send .ensures))
-
-same-length-13 : tie.Need-same-length-13
-same-length-13 c = search needs
+    let start = arm .before .before .before .before .before .before .before .before .before in
+    by-case _ _ _ _ _ _ (arm .call4 .given .1) (with-block (start .args .copy .now) (start .args .block .now) (c .make-send .ensures))
 
 same-length-14 : tie.Need-same-length-14
 same-length-14 c = search needs
@@ -135,15 +141,15 @@ same-length-14 c = search needs
 same-length-15 : tie.Need-same-length-15
 same-length-15 c = search needs
 
+same-length-16 : tie.Need-same-length-16
+same-length-16 c = search needs
+
 returns-5 : tie.Need-returns-5
 unfolding lineLeaves
 returns-5 c = let called = c .before .before in
     let arm = called .before .before .before .before .before in
-    let start = arm .before .before .before .before .before .before .before .before in
-    by-case _ _ _ _ _ (arm .call5 .given .1) (with-block (start .args .block .now) (called .make-refresh .ensures))
-
-same-length-16 : tie.Need-same-length-16
-same-length-16 c = search needs
+    let start = arm .before .before .before .before .before .before .before .before .before in
+    by-case _ _ _ _ _ _ (arm .call5 .given .1) (with-block (start .args .copy .now) (start .args .block .now) (called .make-refresh .ensures))
 
 same-length-17 : tie.Need-same-length-17
 same-length-17 c = search needs
@@ -154,14 +160,15 @@ same-length-18 c = search needs
 same-length-19 : tie.Need-same-length-19
 same-length-19 c = search needs
 
+same-length-20 : tie.Need-same-length-20
+same-length-20 c = search needs
+
 returns-6 : tie.Need-returns-6
 unfolding lineLeaves
 returns-6 c = let called = c .before .before .before .before in
     let arm = called .before .before .before .before .before .before in
-    by-case _ _ _ _ _ (arm .call6 .given .1) (called .make-read .ensures)
-
-same-length-20 : tie.Need-same-length-20
-same-length-20 c = search needs
+    let start = arm .before .before .before .before .before .before .before .before .before in
+    by-case _ _ _ _ _ _ (arm .call6 .given .1) (with-copy (start .args .copy .now) (called .make-read .ensures))
 
 same-length-21 : tie.Need-same-length-21
 same-length-21 c = search needs
@@ -172,23 +179,46 @@ same-length-22 c = search needs
 same-length-23 : tie.Need-same-length-23
 same-length-23 c = search needs
 
+same-length-24 : tie.Need-same-length-24
+same-length-24 c = search needs
+
 returns-7 : tie.Need-returns-7
 unfolding lineLeaves
 returns-7 c = let called = c .before .before .before .before in
     let arm = called .before .before .before .before .before .before in
-    by-case _ _ _ _ _ (arm .call7 .given .1) (called .make-collect .ensures)
+    let start = arm .before .before .before .before .before .before .before .before .before in
+    by-case _ _ _ _ _ _ (arm .call7 .given .1) (with-copy (start .args .copy .now) (called .make-collect .ensures))
 
 returns-8 : tie.Need-returns-8
 unfolding lineLeaves
-returns-8 c = by-case _ _ _ _ _ (c .before .enum-told .given .1) (without-call _ _ (c .no-call .ensures .0) (c .no-call .ensures .1))
+returns-8 c = by-case _ _ _ _ _ _ (c .before .enum-told .given .1) (without-call _ _ _ (c .no-call .ensures .0) (c .no-call .ensures .1))
 
 returns-9 : tie.Need-returns-9
 unfolding lineLeaves
-returns-9 c = by-case _ _ _ _ _ (c .before .before .call8 .given .1) (without-call _ _ (c .no-call2 .ensures .0) (c .no-call2 .ensures .1))
+returns-9 c = by-case _ _ _ _ _ _ (c .before .before .call8 .given .1) (without-call _ _ _ (c .no-call2 .ensures .0) (c .no-call2 .ensures .1))
 
 returns-10 : tie.Need-returns-10
 unfolding lineLeaves
-returns-10 c = by-case _ _ _ _ _ (c .before .enum-told2 .given .1) (without-call _ _ (c .no-call3 .ensures .0) (c .no-call3 .ensures .1))
+returns-10 c = by-case _ _ _ _ _ _ (c .before .enum-told2 .given .1) (without-call _ _ _ (c .no-call3 .ensures .0) (c .no-call3 .ensures .1))
+
+same-length-25 : tie.Need-same-length-25
+same-length-25 c = search needs
+
+same-length-26 : tie.Need-same-length-26
+same-length-26 c = search needs
+
+same-length-27 : tie.Need-same-length-27
+same-length-27 c = search needs
+
+same-length-28 : tie.Need-same-length-28
+same-length-28 c = search needs
+
+returns-11 : tie.Need-returns-11
+unfolding lineLeaves vanLeaves
+returns-11 c = let called = c .before .before in
+    let arm = called .before .before .before .before .before .before in
+    let start = arm .before .before .before .before .before .before .before .before .before in
+    by-case _ _ _ _ _ _ (arm .call9 .given .1) (with-van (start .args .block .now) (called .deliver .ensures))
 
 pub make-spec : {M : Type 1} → statement M
 make-spec =
@@ -214,36 +244,44 @@ make-spec =
     no-call-requires-2
     enum-told-2
     no-call-requires-3
+    enum-known-call-9
+    deliver-requires
     same-length
     same-length-2
     same-length-3
-    returns
     same-length-4
+    returns
     same-length-5
     same-length-6
-    returns-2
     same-length-7
+    returns-2
     same-length-8
     same-length-9
-    returns-3
     same-length-10
+    returns-3
     same-length-11
     same-length-12
-    returns-4
     same-length-13
+    returns-4
     same-length-14
     same-length-15
-    returns-5
     same-length-16
+    returns-5
     same-length-17
     same-length-18
     same-length-19
-    returns-6
     same-length-20
+    returns-6
     same-length-21
     same-length-22
     same-length-23
+    same-length-24
     returns-7
     returns-8
     returns-9
-    returns-10)
+    returns-10
+    same-length-25
+    same-length-26
+    same-length-27
+    same-length-28
+    returns-11)

@@ -1,8 +1,7 @@
 use mathlib.Core.Path.{ap, _∙_}
 use Rattle.replication.specs.Memory.{memory}
 use Rattle.replication.specs.Calls.{setup}
-use Rattle.calls.specs.Make.{setUp}
-use Rattle.calls.proofs.MakeLaws.{told-by}
+use Rattle.calls.proofs.MakeLaws.{setup-leaves}
 use borrow.Author.Needs.{needs}
 use Rattle.calls.proofs.make.make_setup.Statement.{statement}
 use Rattle.calls.proofs.make.make_setup.Tie as tie
@@ -16,6 +15,9 @@ part-of-requires c κs = search needs
 setup-requires : tie.Need-setup-requires
 setup-requires c κs = search needs
 
+set-up-requires : tie.Need-set-up-requires
+set-up-requires c κs = search needs
+
 same-length : tie.Need-same-length
 same-length c = search needs
 
@@ -25,11 +27,15 @@ same-length-2 c = search needs
 same-length-3 : tie.Need-same-length-3
 same-length-3 c = search needs
 
+same-length-4 : tie.Need-same-length-4
+same-length-4 c = search needs
+
 returns : tie.Need-returns
-returns c = let called = c .before .before .before .before .before .before .before in
+returns c = let van = c .before .before in
+    let called = van .before .before .before .before .before .before .before .before .before in
     let part = called .before .before .before .before in
-    let a = part .before .before .before .before .before .args in
-    told-by (λ y. setUp y (a .studios)) (called .setup .ensures ∙ ap (λ places. setup (memory (a .library .now) (a .log .now) (a .sessions .now)) (a .studios) places) (part .part-of .ensures))
+    let a = part .before .before .before .before .before .before .args in
+    setup-leaves _ _ _ _ (called .setup .ensures ∙ ap (λ places. setup (memory (a .library .now) (a .log .now) (a .sessions .now)) (a .studios) places) (part .part-of .ensures)) (van .set-up .ensures)
 
 pub make-setup-spec : {M : Type 1} → statement M
 make-setup-spec =
@@ -38,7 +44,9 @@ make-setup-spec =
     cast-part-of
     part-of-requires
     setup-requires
+    set-up-requires
     same-length
     same-length-2
     same-length-3
+    same-length-4
     returns)

@@ -45,9 +45,28 @@ returns-3 : tie.Need-returns-3
 unfolding numberCallAt
 returns-3 c = let else1 = c .before .before .before .before .before .before .before in (rw (c .whole3 .ensures .0, else1 .before .before .before .number .ensures .0, ← else1 .before .same .ensures, else1 .if1 .left, ← c .before .before .before .before .before .same2 .ensures, c .before .before .before .before .if2 .left, ← c .before .before .same3 .ensures, c .before .if3 .taken), c .whole3 .ensures .1)
 
+slice-aggregate-same-4 : tie.Need-slice-aggregate-same-4
+slice-aggregate-same-4 c = search needs
+
+same-requires-4 : tie.Need-same-requires-4
+same-requires-4 c κs = search needs
+
+whole-requires-4 : tie.Need-whole-requires-4
+whole-requires-4 c κs = search needs
+
 returns-4 : tie.Need-returns-4
 unfolding numberCallAt
-returns-4 c = let else1 = c .before .before .before .before .before .before in (rw (← else1 .before .same .ensures, else1 .if1 .left, ← c .before .before .before .before .same2 .ensures, c .before .before .before .if2 .left, ← c .before .same3 .ensures, c .if3 .left), tt)
+returns-4 c = let else3 = c .before .before .before .before in
+    let else2 = else3 .before .before .before in
+    let else1 = else2 .before .before .before in
+    (rw (c .whole4 .ensures .0, else1 .before .before .before .number .ensures .0, ← else1 .before .same .ensures, else1 .if1 .left, ← else2 .before .same2 .ensures, else2 .if2 .left, ← else3 .before .same3 .ensures, else3 .if3 .left, ← c .before .before .same4 .ensures, c .before .if4 .taken), c .whole4 .ensures .1)
+
+returns-5 : tie.Need-returns-5
+unfolding numberCallAt
+returns-5 c = let else3 = c .before .before .before in
+    let else2 = else3 .before .before .before in
+    let else1 = else2 .before .before .before in
+    (rw (← else1 .before .same .ensures, else1 .if1 .left, ← else2 .before .same2 .ensures, else2 .if2 .left, ← else3 .before .same3 .ensures, else3 .if3 .left, ← c .before .same4 .ensures, c .if4 .left), tt)
 
 pub by-number-spec : {M : Type 1} → statement M
 by-number-spec =
@@ -66,4 +85,8 @@ by-number-spec =
     same-requires-3
     whole-requires-3
     returns-3
-    returns-4)
+    slice-aggregate-same-4
+    same-requires-4
+    whole-requires-4
+    returns-4
+    returns-5)

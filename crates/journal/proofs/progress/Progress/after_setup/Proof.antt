@@ -1,4 +1,5 @@
-use Rattle.journal.specs.Progress.{stepped, afterSetup}
+use Rattle.van.specs.Receive.{freshVan}
+use Rattle.journal.specs.Progress.{stepped, withVan, afterSetup}
 use mathlib.Core.Path.{refl}
 use native.Mathlib.Omega.{arith}
 use borrow.Author.Needs.{needs}
@@ -14,6 +15,9 @@ new-requires c κs = search needs
 stepped-requires : tie.Need-stepped-requires
 stepped-requires c κs = search needs
 
+with-van-requires : tie.Need-with-van-requires
+with-van-requires c κs = search needs
+
 enum-told-2 : tie.Need-enum-told-2
 enum-told-2 c = search needs
 
@@ -21,8 +25,9 @@ stepped-requires-2 : tie.Need-stepped-requires-2
 stepped-requires-2 c κs = search needs
 
 returns : tie.Need-returns
-unfolding stepped afterSetup
-returns c = rw (c .before .before .enum-told .given .1, c .stepped .ensures, c .before .new .ensures) (refl, omega arith)
+unfolding stepped withVan afterSetup freshVan
+returns c = let next = c .before in
+    rw (next .before .before .enum-told .given .1, c .with-van .ensures, next .stepped .ensures, next .before .new .ensures) (refl, omega arith)
 
 returns-2 : tie.Need-returns-2
 unfolding stepped afterSetup
@@ -35,6 +40,7 @@ after-setup-spec =
     enum-told
     new-requires
     stepped-requires
+    with-van-requires
     enum-told-2
     stepped-requires-2
     returns
