@@ -16,7 +16,7 @@
  * Link with libsulyobak.a (the command `rt staticlib sulyobak` writes it to target/staticlib):
  *     cc -std=c99 -Iinclude program.c -Ltarget/staticlib -lsulyobak -o program
  * It needs memcpy and memset and no other function, allocates nothing, keeps nothing between calls, and runs on x86-64 Linux.
- * sulyobak_util.h has functions that make operations and requests and take carts and sessions apart.
+ * sulyobak_util.h has functions that make operations and requests and take carts, sessions and messages apart.
  *
  * WHAT THE ENGINE LOOKS AFTER. Every byte and every number passed in is tested: any control, any bytes and any argument have their
  * answer. A refused call returns its number and changes no byte of your memory, with one exception: a commit refused by 8 raises its
@@ -31,10 +31,10 @@
  *     run at the same time, and so may previews, layout tests and van_writes, each with an output of its own, of one memory: they change
  *     neither memory nor control);
  *   - the control that the last call handed back goes into the next one, and memory is kept as that call left it. (Where control
- *     or memory are damaged so that they are no longer of the layout, each call says so with the number 2. A control that is old, but
- *     still of the layout for this memory, cannot be told from the right one.)
+ *     or memory are damaged so that they are no longer of the layout, each call that is passed them says so with the number 2. A control
+ *     that is old, but still of the layout for this memory, cannot be told from the right one.)
  *
- * Numbers inside the memories, operations, requests and carts are little-endian.
+ * Numbers inside the memories, operations, requests, messages and carts are little-endian.
  */
 #ifndef SULYOBAK_H
 #define SULYOBAK_H
@@ -139,8 +139,8 @@ typedef struct {
 
 /* Kinds of answer. */
 #define SULYOBAK_REFUSED 0  /* value says why; nothing was done, no byte was changed (but a session's number, by a commit refused by 8) */
-#define SULYOBAK_DONE 1     /* done; value: the commit's number (of a preview the one it would have), sent, applied, or a message's length; 0
-                             * for setup and layout */
+#define SULYOBAK_DONE 1     /* done; value: the commit's number (of a preview the one it would have), sent, applied, a message's length, or
+                             * the number of a message that a van applied; 0 for setup and layout */
 #define SULYOBAK_ANSWERED 2 /* the read or forward is answered; value: transactions that the copy had taken; found; carts are in output */
 #define SULYOBAK_WAITS 3    /* the read is kept in the session; value: the number that the studio's copy has to reach first */
 #define SULYOBAK_HELD 4     /* the van holds this message's transaction already; nothing was changed */
@@ -169,8 +169,8 @@ typedef struct {
 /* The version of the linked library: SULYOBAK_VERSION of the header that it was made with. */
 uint32_t sulyobak_version(void);
 
-/* Every call is lent the three memories. They must be of the sizes above; the engine tests the lengths passed. What a call does not change
- * it takes as const.
+/* Every call but sulyobak_van_receive is lent the three memories. They must be of the sizes above; the engine tests the lengths passed.
+ * What a call does not change it takes as const.
  *   library, library_len     SULYOBAK_LIBRARY_SIZE bytes: changed by setup, commit, refresh
  *   log, log_len             SULYOBAK_LOG_SIZE bytes: changed by setup, commit
  *   sessions, sessions_len   SULYOBAK_SESSIONS_SIZE bytes: changed by setup, commit, read, collect, forward */
@@ -257,7 +257,7 @@ sulyobak_answer sulyobak_forward(const uint8_t *library, size_t library_len, con
                                  uint8_t *sessions, size_t sessions_len, sulyobak_control control, uint32_t session, const uint8_t *request,
                                  size_t request_len, uint8_t *output, size_t output_len);
 
-/* Tests memory and control alone, as every call but setup does first: for use after loading them from a disk. Changes no memory.
+/* Tests memory and control alone, as every call that is passed both does first: for use after loading them from a disk. Changes no memory.
  *   control   as it was stored
  * It tells whether every field is within its rule, the log's chain has the transactions and records that control counts, and the counts
  * agree with each other. It does not tell whether memory and control are those that were stored: an older control, or a title with another

@@ -226,7 +226,7 @@ static inline uint32_t sulyobak_session_cart(const uint8_t *session, size_t plac
 }
 
 /*
- * A MESSAGE to a van: at least the four bytes before its operations are looked at.
+ * A MESSAGE to a van: at least its first four bytes must be there.
  */
 
 /* The number of its transaction. */

@@ -160,7 +160,7 @@ pub extern "C" fn sulyobak_forward(
     Words::of_read(forward::forward(control, library, log, sessions, session, request, output))
 }
 
-// The test of lengths and layout alone, which every call but setup begins with. Memory is only read.
+// The test of lengths and layout alone, which every call that is passed control and memory begins with. Memory is only read.
 #[no_mangle]
 pub extern "C" fn sulyobak_layout(
     library: &[u8],

@@ -72,7 +72,7 @@ forms = record {
   empty = refl;
 }
 
--- what a fresh van answers and has applied after each of a list of messages
+-- what a van answers and has applied after each of a list of messages
 unfoldable pub answers : Van → List (List ℕ) → List (Answer × ℕ)
 answers v [] = []
 answers v (x ∷ xs) = let r = receive v x in (r .answer, r .van .applied) ∷ answers (r .van) xs
@@ -83,7 +83,8 @@ pub delivered : answers freshVan (second ∷ first ∷ first ∷ set first 3 1 �
 unfolding answers freshVan receive receiveRows stopped unless vanForm copyForm cartForm heldForm Cart.held eachPart messageForm headForm messageNumber messageOperations messageOf joined first second third A B operationForm operationFields operationsOf newCart retitleCart recutCart operation topHourA news u32Bytes u16Bytes u16 u32 hasTitle noTitle hasAudio noAudio titleForm printable zeros parts all every allZero within actAll act actedOn cartAt meetsCart effect made retitled recut
 delivered = refl
 
--- 17 before 18; a copy that is one byte short, or has a byte set in an empty cart, before held; the largest applied number holds every message
+-- 17 before 18, for a message and for a copy that is one byte short; before held, for a copy with a byte set in an empty cart; the largest applied number holds every
+-- message
 pub record Told : Type 0 where
   ahead-unformed : answers freshVan (set third 3 1 ∷ []) ≡ (refused 17, 0) ∷ []
   copy-short : answers (van (zeros 10239) 0) (third ∷ []) ≡ (refused 17, 0) ∷ []

@@ -1,5 +1,5 @@
-//! The reasons for refusal 17 at the van's receiver (02's S-6), each looked at for itself, by 02's words and not by the simulator. A byte
-//! that a message does not have is taken as zero, and its operations are the whole units after the head.
+//! The reasons for refusal 17 at the van's receiver (02's S-6), each looked at for itself, by 02's words; the form of one operation is
+//! the simulator's. A byte that a message does not have is taken as zero, and its operations are the whole units after the head.
 
 use crate::message::{self, HEAD};
 use crate::single;

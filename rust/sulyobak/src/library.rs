@@ -236,7 +236,8 @@ impl Library {
     /// Writes the message of a committed transaction, for a [`Van`](crate::Van), and changes nothing. The transaction need not have been
     /// sent to any studio; a number outside 1 to commits is refused ([`Refusal::Message`]).
     ///
-    /// The same number gives the same message, whatever is called in between: where one was lost on the way, write it again.
+    /// The same number gives the same message for as long as the log stands, whatever is called in between: where one was lost on the way,
+    /// write it again.
     ///
     /// ```
     /// use sulyobak::{Library, Operation, Refusal, Title, Van};

@@ -10,8 +10,8 @@ use sulyobak_sys::{self as sys, sizes};
 /// A copy of the library in an outside-broadcast van, beyond a link that loses, repeats and reorders messages (and damages none): the copy,
 /// and how many transactions it has applied.
 ///
-/// With messages of one library, from a fresh van on, the copy is that of the head end after the first [`applied`](Van::applied) commits,
-/// whatever the link does.
+/// With messages of one log, from a fresh van on, the copy is what the log's first [`applied`](Van::applied) transactions make, whatever the
+/// link loses, repeats or reorders.
 ///
 /// ```
 /// use sulyobak::{Library, Operation, Received, Refusal, Title, Van};
