@@ -9,7 +9,7 @@ use lib.Dec.{leb, eqb}
 use borrow.Author.Tests.{eqb-true, ne-eqb}
 use Rattle.carts.specs.Bytes.{byte, u16Bytes, over, within, all, every}
 use Rattle.carts.specs.Operation.{operationForm, operationsOf}
-use Rattle.carts.proofs.TestLaws.{all-at, all-fails}
+use Rattle.carts.proofs.TestLaws.{all-at, all-fails, within-low}
 use Rattle.carts.proofs.PartLaws.{length-over, over-pair}
 use Rattle.replication.proofs.LayoutLaws.{rest-is}
 use Rattle.replication.proofs.OutputLaws.{over-beside}
@@ -25,9 +25,12 @@ module _ (x : List ℕ) where
   head-short h = all-fails 3 headTests (ne-eqb (length x) (4 + 80 * byte x 2) (λ e. omega arith))
 
   -- what the form says
-  pub head-length : headForm x ≡ true → 4 ≤ length x
+  pub head-length : headForm x ≡ true → 84 ≤ length x
   unfolding headForm
-  head-length e = let z = eqb-true (length x) (4 + 80 * byte x 2) (all-at 3 headTests e) in omega arith
+  head-length e =
+      let count = within-low 1 8 (byte x 2) (all-at 1 headTests e) in
+      let size = eqb-true (length x) (4 + 80 * byte x 2) (all-at 3 headTests e) in
+      omega arith
 
   -- what is lent on is all that stands after the first four bytes
   pub operations-lent : operationsOf (take (length x - 4) (drop 4 x)) ≡ messageOperations x

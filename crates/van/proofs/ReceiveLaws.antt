@@ -66,7 +66,7 @@ module _ (copy : List ℕ) (k : ℕ) (x : List ℕ) where
 -- what is known where no row stops the receiver
 pub record Receivable (copy x : List ℕ) : Type 0 where
   pub size : length copy ≡ 10240
-  pub head : 4 ≤ length x
+  pub head : 84 ≤ length x
   pub operations : every operationFields (operationsOf (take (length x - 4) (drop 4 x))) ≡ true
 
 module _ (copy : List ℕ) (k : ℕ) (x : List ℕ) (v : ℕ) (e : v ≡ stopped (receiveRows (van copy k) x)) where

@@ -19,7 +19,7 @@ right : (c : tie.Else1) → headForm (c .before .before .before .args .message .
 right c = let r = c .before .is-head in sym (r .ensures) ∙ not-false (r .result) (c .if1 .left)
 
 sub-all-operations : tie.Need-sub-all-operations
-sub-all-operations c = head-length _ (right c)
+sub-all-operations c = let l = head-length _ (right c) in omega arith
 
 part-all-operations-start : tie.Need-part-all-operations-start
 part-all-operations-start c = let l = head-length _ (right c) in omega arith

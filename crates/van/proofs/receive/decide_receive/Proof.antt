@@ -2,6 +2,7 @@ use mathlib.Core.Path.{_≡_, sym, ap, _∙_}
 use mathlib.Core.Bool.{true}
 use Prim.Native.Nat.{_+_}
 use lib.Dec.{ltb}
+use native.Mathlib.Omega.{arith}
 use borrow.Author.Tests.{not-true, not-false}
 use Rattle.van.specs.Message.{messageNumber, messageForm}
 use Rattle.van.specs.Receive.{vanForm}
@@ -30,7 +31,7 @@ copy-right : (c : tie.Else2) → vanForm (c .before .before .before .before .bef
 copy-right c = let r = c .before .is-van-copy in sym (r .ensures) ∙ not-false (r .result) (c .if2 .left)
 
 number-of-requires : tie.Need-number-of-requires
-number-of-requires c κs = head-length _ (form-head _ (message-right (c .before .before)))
+number-of-requires c κs = let l = head-length _ (form-head _ (message-right (c .before .before))) in omega arith
 
 is-ahead-requires : tie.Need-is-ahead-requires
 is-ahead-requires c κs = search needs

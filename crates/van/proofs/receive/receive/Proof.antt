@@ -21,7 +21,7 @@ known : (c : tie.Else1) → Receivable (start c .args .copy .now) (start c .args
 known c = receive-known _ _ _ _ (c .before .decide-receive .ensures) (c .if1 .left)
 
 number-of-requires : tie.Need-number-of-requires
-number-of-requires c κs = known c .head
+number-of-requires c κs = omega (arith, known c .head)
 
 same-length-2 : tie.Need-same-length-2
 same-length-2 c = search needs
@@ -33,13 +33,13 @@ returns-2 c = let n = c .before in
     receive-held _ _ _ _ (e .before .decide-receive .ensures) (e .if1 .left) _ (n .number-of .ensures .0) old
 
 sub-apply-all : tie.Need-sub-apply-all
-sub-apply-all c = known (c .before .before .before) .head
+sub-apply-all c = omega (arith, known (c .before .before .before) .head)
 
 part-apply-all-start : tie.Need-part-apply-all-start
 part-apply-all-start c = let h = known (c .before .before .before) .head in omega arith
 
 part-apply-all-end : tie.Need-part-apply-all-end
-part-apply-all-end c = search needs
+part-apply-all-end c = omega (arith, known (c .before .before .before) .head)
 
 apply-all-requires : tie.Need-apply-all-requires
 apply-all-requires c κs = let k = known (c .before .before .before .before) in (k .size, k .operations)

@@ -1,7 +1,8 @@
 use mathlib.Core.Path.{ap, ap₂, _∙_}
 use mathlib.Core.List.{List}
-use Prim.Native.Nat.{ℕ, _+_, _-_, _*_, _≤_}
+use Prim.Native.Nat.{ℕ, _+_, _-_, _*_, _<_, _≤_}
 use native.Mathlib.Omega.{arith}
+use lib.ListN.{length}
 use Rattle.replication.specs.Memory.{memory}
 use Rattle.carts.specs.Bytes.{over}
 use Rattle.van.proofs.WriteLaws.{Writable, length-places, write-refused, write-known, write-short, write-accepted}
@@ -46,7 +47,8 @@ add-size c = search needs
 returns-2 : tie.Need-returns-2
 returns-2 c = let n = c .before in
     let e = n .before .before in
-    write-short _ _ _ _ _ (e .before .stopped-by-number .ensures) (e .if1 .left) _ _ (n .before .transaction-after .ensures) (n .count-operations .ensures) (c .if2 .taken)
+    let short : length (start (e .before) .args .output .now) < 4 + 80 * n .count-operations .result = omega (arith, c .if2 .taken) in
+    write-short _ _ _ _ _ (e .before .stopped-by-number .ensures) (e .if1 .left) _ _ (n .before .transaction-after .ensures) (n .count-operations .ensures) short
 
 put-head-requires : tie.Need-put-head-requires
 put-head-requires c κs = let n = c .before .before in
@@ -69,7 +71,8 @@ put-operations-requires c κs = let h = c .before .before .before in
     let n = d .before in
     let k = known (n .before .before) in
     let out = start (n .before .before .before) .args .output .now in
-    ((k .log, rw (n .before .transaction-after .ensures) (k .acts)), length-places (h .put-head .last .0) out _ (h .put-head .kept .0) (d .if2 .left) ∙ ap (λ (j : ℕ). 80 * j) (n .count-operations .ensures))
+    let room : 4 + 80 * n .count-operations .result ≤ length out = omega (arith, d .if2 .left) in
+    ((k .log, rw (n .before .transaction-after .ensures) (k .acts)), length-places (h .put-head .last .0) out _ (h .put-head .kept .0) room ∙ ap (λ (j : ℕ). 80 * j) (n .count-operations .ensures))
 
 cast-t13 : tie.Need-cast-t13
 cast-t13 c = let f = few (c .before .before .before .before .before .before .before .before .before) in omega arith
@@ -83,7 +86,8 @@ returns-3 c = let p = c .before .before in
     let d = h .before .before in
     let n = d .before in
     let e = n .before .before in
-    write-accepted _ _ _ _ _ (e .before .stopped-by-number .ensures) (e .if1 .left) _ _ (n .before .transaction-after .ensures) (n .count-operations .ensures) (d .if2 .left) _
+    let room : 4 + 80 * n .count-operations .result ≤ length (start (e .before) .args .output .now) = omega (arith, d .if2 .left) in
+    write-accepted _ _ _ _ _ (e .before .stopped-by-number .ensures) (e .if1 .left) _ _ (n .before .transaction-after .ensures) (n .count-operations .ensures) room _
     (ap₂ (λ (s t : List ℕ). over s 4 (4 + 80 * n .count-operations .result - 4) t) (h .put-head .ensures) (p .put-operations .ensures))
 
 pub write-spec : {M : Type 1} → statement M
