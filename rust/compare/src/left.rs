@@ -1,6 +1,7 @@
 //! What a refused call leaves, and what a forward, a van_write and a receive answer and leave, by the words of 01 and 02 and not by the
-//! simulator (the form of one operation apart, of a receive). A refused call changes nothing, with one exception (02's S-3). A forward that no row stops is answered by the session's
-//! studio, or by the head end (02's S-4). A van_write changes nothing but output, a receive nothing but the van's copy (02's S-6).
+//! simulator (the form of one operation apart, of a receive). A refused call changes nothing, with one exception (02's S-3). A forward
+//! that no row stops is answered by the session's studio, or by the head end (02's S-4). A van_write changes nothing but output, a
+//! receive nothing but the van's copy (02's S-6).
 
 use crate::call::Call;
 use crate::delivery::Delivery;
