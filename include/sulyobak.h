@@ -2,12 +2,13 @@
  * Sulyobak: a replication engine for radio cart libraries.
  *
  * One head end commits edits to its copy of the library and to a log. Up to four studios are sent the committed transactions and apply
- * them, in order, to copies of their own. A session belongs to one studio and reads that studio's copy; a session's read is answered
+ * them, in order, to copies of their own. A session is at one studio at a time and reads that studio's copy; a session's read is answered
  * once the copy has reached the session's number, and waits until then; where it cannot wait, the read is forwarded to the head end. The
- * number is that of the session's last commit, or the count of commits at which the head end refused it one because of a cart's state (8)
- * or answered it, whichever came later. So nobody is handed an old cut that they have just replaced, or told or shown what the head end
- * has and then shown a copy from before. A copy beyond a line that loses, repeats and reorders (an outside-broadcast van) is kept by
- * messages, one for each transaction: sulyobak_van_write and sulyobak_van_receive.
+ * number is the highest of what the session knows of: its last commit, the count of commits at which the head end refused it one
+ * because of a cart's state (8) or answered it, and the state that a read showed it. So nobody is handed an old cut that they have just
+ * replaced, or told or shown what the head end or a studio has and then shown a copy from before, also after a move to another studio. A
+ * copy beyond a line that loses, repeats and reorders (an outside-broadcast van) is kept by messages, one for each transaction:
+ * sulyobak_van_write and sulyobak_van_receive.
  *
  * ONE CHAIR IS ONE SESSION. The wait goes by the session's own number, so whoever edits must read in the session that committed. With two
  * sessions in one chair, an edit committed in the first does not raise the second's number: a read in the second is answered at once from
@@ -49,7 +50,7 @@ extern "C" {
 /* The version of this interface: functions, structs, numbers and layout of memory. sulyobak_control and sulyobak_answer may change
  * with it, so a header and a library go together (compare the macro with sulyobak_version() at the program's start), and control is stored
  * together with the version that wrote it. docs/FORMAT.md says which versions have the same control and layout. */
-#define SULYOBAK_VERSION 6
+#define SULYOBAK_VERSION 7
 
 /* Stack that every call keeps within, in bytes. Measured on a full system, not proved: examples/run runs examples/c/stack.c, which fails
  * where a call takes more. */
@@ -114,7 +115,7 @@ extern "C" {
 /* The counts of a system: passed in and handed back as a value. Keep the one that the last call handed back. */
 typedef struct {
     uint32_t studios;             /* how many studios, 1 to 4 */
-    uint32_t session_studios[16]; /* the studio of each session; 0 for a session that is not in use */
+    uint32_t session_studios[16]; /* the studio at which each session is; 0 for a session that is not in use */
     uint32_t used;                /* records of the log that hold operations, up to 512 */
     uint32_t commits;             /* transactions committed */
     uint32_t sent[4];             /* for each studio, how many transactions were sent to it */
@@ -139,8 +140,8 @@ typedef struct {
 
 /* Kinds of answer. */
 #define SULYOBAK_REFUSED 0  /* value says why; nothing was done, no byte was changed (but a session's number, by a commit refused by 8) */
-#define SULYOBAK_DONE 1     /* done; value: the commit's number (of a preview the one it would have), sent, applied, a message's length, or
-                             * the number of a message that a van applied; 0 for setup and layout */
+#define SULYOBAK_DONE 1     /* done; value: the commit's number (of a preview the one it would have), sent, applied, the studio moved to, a
+                             * message's length, or the number of a message that a van applied; 0 for setup and layout */
 #define SULYOBAK_ANSWERED 2 /* the read or forward is answered; value: transactions that the copy had taken; found; carts are in output */
 #define SULYOBAK_WAITS 3    /* the read is kept in the session; value: the number that the studio's copy has to reach first */
 #define SULYOBAK_HELD 4     /* the van holds this message's transaction already; nothing was changed */
@@ -229,7 +230,9 @@ sulyobak_answer sulyobak_refresh(uint8_t *library, size_t library_len, const uin
  *                         are left alone.
  * Answers answered (value: how many transactions the copy had taken; found: how many of the places asked hold a cart, or how many carts
  * have the title), or waits (value: the session's number; the request is kept, output is left alone: call collect later), or
- * refused 1, 2, 3, 4, 12, 13. */
+ * refused 1, 2, 3, 4, 12, 13.
+ * Answered, the session has seen that state: its number becomes value where it was lower (bytes 2 and 3 of its 80 bytes), so that after a
+ * move none of its reads shows a copy from before. */
 sulyobak_answer sulyobak_read(const uint8_t *library, size_t library_len, const uint8_t *log, size_t log_len,
                               uint8_t *sessions, size_t sessions_len, sulyobak_control control, uint32_t session, const uint8_t *request,
                               size_t request_len, uint8_t *output, size_t output_len);
@@ -238,7 +241,8 @@ sulyobak_answer sulyobak_read(const uint8_t *library, size_t library_len, const 
  *   control               as the last call handed it back
  *   session               1 to 16
  *   output, output_len    as for read
- * Answers answered or waits, as read does, or refused 1, 2, 3, 14, 13 (in this order). */
+ * Answers answered or waits, as read does, or refused 1, 2, 3, 14, 13 (in this order). Answered, it clears the request and raises the
+ * session's number as read does. */
 sulyobak_answer sulyobak_collect(const uint8_t *library, size_t library_len, const uint8_t *log, size_t log_len,
                                  uint8_t *sessions, size_t sessions_len, sulyobak_control control, uint32_t session, uint8_t *output,
                                  size_t output_len);
@@ -256,6 +260,16 @@ sulyobak_answer sulyobak_collect(const uint8_t *library, size_t library_len, con
 sulyobak_answer sulyobak_forward(const uint8_t *library, size_t library_len, const uint8_t *log, size_t log_len,
                                  uint8_t *sessions, size_t sessions_len, sulyobak_control control, uint32_t session, const uint8_t *request,
                                  size_t request_len, uint8_t *output, size_t output_len);
+
+/* Moves a session to another studio: control's studio of that session becomes it. Changes no memory, and so not the session's number: at
+ * a studio whose copy is behind what the session has committed, or been told or shown, its reads wait (or are forwarded). A move to
+ * the studio where the session is already is done, and changes nothing.
+ *   control   as the last call handed it back
+ *   session   1 to 16
+ *   studio    1 to control.studios
+ * Answers done (value: the studio), or refused 1, 2, 3, 4. A session that has a read waiting is refused by 4: collect it first. */
+sulyobak_answer sulyobak_move(const uint8_t *library, size_t library_len, const uint8_t *log, size_t log_len,
+                              const uint8_t *sessions, size_t sessions_len, sulyobak_control control, uint32_t session, uint32_t studio);
 
 /* Tests memory and control alone, as every call that is passed both does first: for use after loading them from a disk. Changes no memory.
  *   control   as it was stored

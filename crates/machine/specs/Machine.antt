@@ -11,7 +11,7 @@ use Rattle.replication.specs.Answer.{Answer, refused, done, waits, answered}
 use Rattle.replication.specs.Memory.{studioCount, sessionCount, nth}
 use Rattle.replication.specs.Request.{Request, nothing, requestOf, needed, foundIn, shownFrom}
 use Rattle.replication.specs.Message.{messageOf}
-use Rattle.replication.specs.Rows.{stopped, unless, setupRows, commitRows, sendRows, refreshRows, readRows, collectRows, writeRows}
+use Rattle.replication.specs.Rows.{stopped, unless, setupRows, commitRows, sendRows, refreshRows, readRows, collectRows, writeRows, moveRows}
 use Rattle.replication.specs.Call as Call
 use Rattle.replication.specs.Calls.{numberAfter}
 
@@ -160,6 +160,12 @@ write m n out =
     let x = messageOf n (getD (m .log) (n - 1) []) in
     unless (stopped (writeRows (commits m) n (length x) (length out))) (refusal m out) (step (done (length x)) m (over out 0 (length x) x))
 
+-- 02, S-7, "a call that moves a session to another studio, returns that studio"
+unfoldable pub move : Machine → ℕ → ℕ → Step
+move m s i =
+    let x = sessionOf m s in
+    unless (stopped (moveRows s (x .studio) (x .waiting) (m .studios) i)) (refusal m []) (step (done i) (withSession m s (session i (x .number) (x .waiting))) [])
+
 unfoldable pub call : Machine → Call.Call → Step
 call m (Call.commit s bytes) = commit m s bytes
 call m (Call.preview s bytes) = preview m s bytes
@@ -169,6 +175,7 @@ call m (Call.read s request out) = read m s request out
 call m (Call.collect s out) = collect m s out
 call m (Call.forward s request out) = forward m s request out
 call m (Call.write n out) = write m n out
+call m (Call.move s i) = move m s i
 
 -- a list of calls, and what it leaves, as on bytes
 abbrev pub run : Step → List Call.Call → List (Call.Turn Step)

@@ -9,7 +9,7 @@ use Rattle.carts.specs.Operation.{operationsOf}
 use Rattle.replication.specs.Answer.{Answer, refused, done, waits, answered}
 use Rattle.replication.specs.Memory.{Memory}
 use Rattle.replication.specs.Request.{Request, requestOf, needed}
-use Rattle.replication.specs.Call.{Call, Turn, commit, preview, send, refresh, read, collect, forward, write}
+use Rattle.replication.specs.Call.{Call, Turn, commit, preview, send, refresh, read, collect, forward, write, move}
 use Rattle.replication.specs.Calls as Bytes
 use Rattle.machine.specs.Library.{Input, operations, request, Reply, number, at, refused8, shown, Library, emptyLibrary, play}
 
@@ -78,7 +78,8 @@ pub data Kind : Type 0 where
   neither : Kind
 
 -- 02, S-1, of preview: "It has no entry in the one-copy order." S-4: "The single-library order has to cover lists that mix both reading calls": an answered
--- forward is an entry as an answered read is. S-6: the van's writer answers neither a commit nor a read, so it has none
+-- forward is an entry as an answered read is. S-6: the van's writer answers neither a commit nor a read, so it has none; nor
+-- has S-7's move, and "an entry's session is the one its call names", at whatever studio it was
 unfoldable pub kindOf : Call → Kind
 kindOf (commit s bytes) = writes s bytes
 kindOf (preview s bytes) = neither
@@ -88,6 +89,7 @@ kindOf (read s bytes lent) = reads s bytes
 kindOf (collect s lent) = collects s
 kindOf (forward s bytes lent) = reads s bytes
 kindOf (write n lent) = neither
+kindOf (move s i) = neither
 
 -- "An entry's session is the one its call names. A read answered by collect belongs to the collect: it stands where the collect stood in H,
 -- and its request is that of the session's latest read call before it that waited": `waited`

@@ -13,7 +13,7 @@ use Rattle.carts.proofs.TestLaws.{all-at}
 use Rattle.replication.specs.Memory.{Memory, lengthsForm}
 use Rattle.replication.specs.Log.{noRoom}
 use Rattle.replication.specs.Request.{Request, nothing, byNumbers, byTitle, requestOf, requestForm, isWaiting, needed}
-use Rattle.replication.specs.Rows.{Row, row, stopped, lengthsRow, setupRows, setupStop, sessionRow, studioRow, sizeForm, formRows, commitRows, sendRows, refreshRows, readRows, collectRows}
+use Rattle.replication.specs.Rows.{Row, row, stopped, lengthsRow, setupRows, setupStop, sessionRow, studioRow, sizeForm, formRows, commitRows, sendRows, refreshRows, readRows, collectRows, moveRows}
 use Rattle.replication.proofs.RowLaws.{lacks, passed, later-stops, row-holds, session-numbered, studio-numbered}
 use Rattle.replication.proofs.DecideLaws.{KnownSession, KnownStudio, known-session, known-studio}
 
@@ -146,3 +146,16 @@ collect-passed s studio waiting room e =
     let p14 = passed 13 (not (isWaiting waiting)) _ (p3 .1) in
     let p13 = passed 12 (ltb room (needed waiting)) _ (p14 .1) in
     record { who = p3 .0; waits = not-false _ (p14 .0); fits = ltb-false _ _ (p13 .0) }
+
+pub record MoveAccepted (s studio : ℕ) (waiting : Request) (studios i : ℕ) : Type 0 where
+  pub who : KnownSession s studio
+  pub there : KnownStudio studios i
+  pub idle : waiting ≡ nothing
+
+pub move-passed : (s studio : ℕ) (waiting : Request) (studios i : ℕ) → stopped (moveRows s studio waiting studios i) ≡ 0 → MoveAccepted s studio waiting studios i
+unfolding moveRows
+move-passed s studio waiting studios i e =
+    let p3 = session-passed s studio _ e in
+    let q3 = studio-passed studios i _ (p3 .1) in
+    let p4 = passed 3 (isWaiting waiting) _ (q3 .1) in
+    record { who = p3 .0; there = q3 .0; idle = idle-is waiting (p4 .0) }

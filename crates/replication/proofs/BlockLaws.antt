@@ -16,7 +16,7 @@ use Rattle.carts.proofs.TestLaws.{cond-both}
 use Rattle.replication.specs.Answer.{Answer, readAnswer, refused, done, waits, answered}
 use Rattle.replication.specs.Memory.{Memory, copyAt, sessionAt, withSession, sequenceOf, withSequence, nth, studioOf}
 use Rattle.replication.specs.Request.{Request}
-use Rattle.replication.specs.Calls.{After, after, withSessions, numberAfter, answerFrom, block}
+use Rattle.replication.specs.Calls.{After, after, withSessions, numberAfter, answerFrom, blockBy, block}
 use Rattle.replication.specs.Values.{dueOf, studioSource, primarySource, forwardSource, answerBy}
 use Rattle.replication.specs.declared.control.Control.{Control}
 use Rattle.replication.specs.declared.block.Due.{Due}
@@ -89,19 +89,19 @@ module _ (v : Source) (q : Request) (c : Control) (m : Memory) (s : ℕ) (x out 
 -- the test of an accepted call: the session's number, and what its studio has applied
 module _ (c : Control) (m : Memory) (s : ℕ) (due : Due) (d : due ≡ dueOf c (m .sessions) s) (q : Request) (x out : List ℕ) where
   pub block-waits : due .state < due .number → after (waits (due .number)) c m out ≡ block c m s q x (waitsIn c m s out) out
-  unfolding block
+  unfolding blockBy
   block-waits h = let k : nth (c .applied) (studioOf c s) < sequenceOf (sessionAt (m .sessions) s) = rw d at h in rw (d, lt-leb _ _ k)
 
   pub block-answers : due .number ≤ due .state → (v : Source) → v ≡ studioSource due → (r : After) → r ≡ answerBy v q c m s x out
       → r ≡ block c m s q x (waitsIn c m s out) out
-  unfolding block
+  unfolding blockBy
   block-answers h v k r e =
       let l : sequenceOf (sessionAt (m .sessions) s) ≤ nth (c .applied) (studioOf c s) = rw d at h in
       rw (e, k, d, le-leb _ _ l)
 
   -- the block step by the source that a forward is answered from
   pub block-forward : (v : Source) → v ≡ forwardSource c due → (r : After) → r ≡ answerBy v q c m s x out → r ≡ block c m s q x (answerBy (primarySource c) q c m s x out) out
-  unfolding block forwardSource
+  unfolding blockBy forwardSource
   block-forward v k r e = rw (e, k, d) (cond-both (λ (v : Source) (r : After). answerBy v q c m s x out ≡ r) (leb (sequenceOf (sessionAt (m .sessions) s)) (nth (c .applied) (studioOf c s))) _ _ _ _ refl refl)
 
 -- a step that was given one way to wait, and another
@@ -115,7 +115,7 @@ module _ (c : Control) (m : Memory) (s : ℕ) (q : Request) (x : List ℕ) (behi
 
   pub step-answered : (a : Answer) → ((n : ℕ) → a ≡ waits n → ⊥) → after a c (withSessions m sessions) new ≡ block c m s q x (waitsIn c m s out) out
       → after a c (withSessions m sessions) new ≡ block c m s q x behind out
-  unfolding block
+  unfolding blockBy
   step-answered a no-wait e = go (leb (sequenceOf (sessionAt (m .sessions) s)) (nth (c .applied) (studioOf c s))) e
     where
       go : (b : Bool) → after a c (withSessions m sessions) new ≡ cond b Now (waitsIn c m s out) → after a c (withSessions m sessions) new ≡ cond b Now behind
@@ -124,7 +124,7 @@ module _ (c : Control) (m : Memory) (s : ℕ) (q : Request) (x : List ℕ) (behi
 
   pub step-waits : (n : ℕ) → after (waits n) c (withSessions m sessions) new ≡ block c m s q x (waitsIn c m s out) out
       → (behind ≡ block c m s q x behind out) × ((n ≡ sequenceOf (sessionAt (m .sessions) s)) × ((sessions ≡ m .sessions) × (new ≡ out)))
-  unfolding block waitNumber
+  unfolding blockBy waitNumber
   step-waits n e = go (leb (sequenceOf (sessionAt (m .sessions) s)) (nth (c .applied) (studioOf c s))) e
     where
       go : (b : Bool) → after (waits n) c (withSessions m sessions) new ≡ cond b Now (waitsIn c m s out)

@@ -13,6 +13,7 @@ pub mod GrowLaws
 pub mod LayoutLaws
 pub mod LinkLaws
 pub mod MessageLaws
+pub mod MoveLaws
 pub mod Occurrences
 pub mod OutputLaws
 pub mod Placement

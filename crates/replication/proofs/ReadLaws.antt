@@ -12,7 +12,7 @@ use Rattle.replication.specs.Answer.{Answer, refused, waits}
 use Rattle.replication.specs.Memory.{Memory, sessionAt, withSession, withSequence, sequenceOf, studioOf}
 use Rattle.replication.specs.Request.{Request, requestOf, requestForm, isWaiting, needed}
 use Rattle.replication.specs.Rows.{stopped, requestRows, waitingRows, readStop, collectStop}
-use Rattle.replication.specs.Calls.{After, after, withSessions, block, reading, read, collect, forward}
+use Rattle.replication.specs.Calls.{After, after, withSessions, numberAfter, block, readingBy, readBy, read, collectBy, collect, forwardBy, forward}
 use Rattle.replication.specs.Values.{dueOf, forwardSource, answerBy}
 use Rattle.replication.specs.declared.control.Control.{Control}
 use Rattle.replication.specs.declared.block.Due.{Due}
@@ -57,15 +57,15 @@ module _ (waiting : Request) (room : ℕ) where
 
 -- a whole read, or forward
 module _ (c : Control) (m : Memory) (s : ℕ) (request out : List ℕ) (v : ℕ) (e : v ≡ readStop c m s request (length out)) where
-  reading-refused : (v ≡ 0 → ⊥) → (behind : After) → after (refused v) c m out ≡ reading c m s request behind out
+  reading-refused : (v ≡ 0 → ⊥) → (behind : After) → after (refused v) c m out ≡ readingBy numberAfter c m s request behind out
   reading-refused n behind = rw e (unless-stopped _ _ _ (λ z. n (e ∙ z)))
 
   pub read-refused : (v ≡ 0 → ⊥) → after (refused v) c m out ≡ read c m s request out
-  unfolding read
+  unfolding readBy
   read-refused n = reading-refused n _
 
   pub forward-refused : (v ≡ 0 → ⊥) → after (refused v) c m out ≡ forward c m s request out
-  unfolding forward
+  unfolding forwardBy
   forward-refused n = reading-refused n _
 
   module _ (z : v ≡ 0) where
@@ -83,12 +83,12 @@ module _ (c : Control) (m : Memory) (s : ℕ) (request out : List ℕ) (v : ℕ)
       Step = block c m s (requestOf request) own (waitsIn c m s out) out
 
       pub read-answers : (a : Answer) → ((n : ℕ) → a ≡ waits n → ⊥) → after a c (withSessions m sessions) new ≡ Step → after a c (withSessions m sessions) new ≡ read c m s request out
-      unfolding read
+      unfolding readBy
       read-answers a no-wait f = step-answered c m s (requestOf request) (sessionAt (m .sessions) s) _ out sessions new a no-wait (rw o at f) ∙ unless-accepted _ _ _ (sym e ∙ z)
 
       pub read-waits : (a : Answer) (n : ℕ) → a ≡ waits n → after a c (withSessions m sessions) new ≡ Step → (stored : List ℕ) → stored ≡ withSession sessions s (withSequence n request)
           → after (waits n) c (withSessions m stored) new ≡ read c m s request out
-      unfolding read
+      unfolding readBy
       read-waits a n w f stored q =
           let g = step-waits c m s (requestOf request) (sessionAt (m .sessions) s)
           (after (waits (sequenceOf (sessionAt (m .sessions) s))) c (withSessions m (withSession (m .sessions) s (withSequence (sequenceOf (sessionAt (m .sessions) s)) request))) out) out sessions new n (rw (o, w) at f) in
@@ -97,13 +97,13 @@ module _ (c : Control) (m : Memory) (s : ℕ) (request out : List ℕ) (v : ℕ)
     -- what a forward gives, from its source
     pub forward-answers : (due : Due) → due ≡ dueOf c (m .sessions) s → (own : List ℕ) → own ≡ sessionAt (m .sessions) s → (w : Source) → w ≡ forwardSource c due
         → (r : After) → r ≡ answerBy w (requestOf request) c m s own out → r ≡ forward c m s request out
-    unfolding forward
+    unfolding forwardBy
     forward-answers due d own o w k r f = block-forward c m s due d (requestOf request) (sessionAt (m .sessions) s) out w k r (rw o at f) ∙ unless-accepted _ _ _ (sym e ∙ z)
 
 -- a whole collect
 module _ (c : Control) (m : Memory) (s : ℕ) (out : List ℕ) (v : ℕ) (e : v ≡ collectStop c m s (length out)) where
   pub collect-refused : (v ≡ 0 → ⊥) → after (refused v) c m out ≡ collect c m s out
-  unfolding collect
+  unfolding collectBy
   collect-refused n = rw e (unless-stopped _ _ _ (λ z. n (e ∙ z)))
 
   module _ (z : v ≡ 0) where
@@ -124,5 +124,5 @@ module _ (c : Control) (m : Memory) (s : ℕ) (out : List ℕ) (v : ℕ) (e : v 
         )
 
     pub collect-steps : (r : After) (asked : List ℕ) → asked ≡ sessionAt (m .sessions) s → r ≡ block c m s (requestOf asked) (zeros 80) (waitsIn c m s out) out → r ≡ collect c m s out
-    unfolding collect
+    unfolding collectBy
     collect-steps r asked o f = (rw o at f) ∙ unless-accepted _ _ _ (sym e ∙ z)

@@ -19,6 +19,8 @@ pub data Call : Type 0 where
   forward : ℕ → List ℕ → List ℕ → Call
   -- 02, S-6, "a writer at the head end": the transaction's number, output
   write : ℕ → List ℕ → Call
+  -- 02, S-7, "a call that moves a session to another studio": session, studio
+  move : ℕ → ℕ → Call
 
 -- a call of a list, and what it left
 pub record Turn (A : Type 0) : Type 0 where

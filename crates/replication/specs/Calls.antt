@@ -3,7 +3,7 @@
 -- its session's studio, each also where that copy is no L(n)"; by S-4 a forwarded one may be taken from the head end's.
 use mathlib.Core.Bool.{cond}
 use mathlib.Core.List.{List, []}
-use Prim.Native.Nat.{ℕ, _+_, _-_}
+use Prim.Native.Nat.{ℕ, _+_, _-_, max}
 use lib.ListN.{length, set}
 use lib.Dec.{leb, eqb}
 use Rattle.carts.specs.Bytes.{zeros, over}
@@ -13,7 +13,7 @@ use Rattle.replication.specs.Memory.{Memory, memory, librarySize, sessio
 use Rattle.replication.specs.Log.{transactionAfter, freshLog, appended}
 use Rattle.replication.specs.Message.{messageIn}
 use Rattle.replication.specs.Request.{Request, requestOf, needed, foundIn, shownFrom}
-use Rattle.replication.specs.Rows.{unless, setupStop, commitStop, sendStop, refreshStop, readStop, collectStop, writeStop}
+use Rattle.replication.specs.Rows.{unless, setupStop, commitStop, sendStop, refreshStop, readStop, collectStop, writeStop, moveStop}
 use Rattle.replication.specs.Call as Call
 use Rattle.replication.specs.declared.control.Control.{Control}
 
@@ -101,9 +101,18 @@ refresh c m i =
     let copy = actAll (copyAt (m .library) i) (transactionAfter c (m .log) k) in
     unless (refreshStop c m i) (refusal c m []) (after (done (k + 1)) (withApplied c i (k + 1)) (withLibrary m (withCopy (m .library) i copy)) [])
 
--- "A read does not change the session's number": what it is after an answer of the studio's copy, which showed a state
-unfoldable pub numberAfter : ℕ → ℕ → ℕ
-numberAfter number state = number
+-- a rule for a session's number: what it is after an answer of the studio's copy, by the number before and the state that was shown
+abbrev pub Rule : Type 0
+Rule = ℕ → ℕ → ℕ
+
+-- 02, S-7: "a read answered by any reading call or by collect now raises the session's number to the state it showed, if that is higher"
+unfoldable pub numberAfter : Rule
+numberAfter number state = max number state
+
+-- the rule of before, 01's "A read does not change the session's number". No call goes by it: it stays for S-7's "In a list without moves every
+-- answer is the same as it was".
+unfoldable pub numberKept : Rule
+numberKept number state = number
 
 -- "An answered read returns the state (applied) and found, and writes from output's start. .. Later output bytes are unchanged":
 -- from a copy that has reached `state` (the head end's: S-4, "with state commits"); session s is left with the bytes x and the number n
@@ -114,38 +123,39 @@ answerFrom state copy q c m s n x out =
     (over out 0 (needed q) (shownFrom copy q))
 
 -- "if applied of the session's studio is at least the session's number, answered; else ..": `behind`
-unfoldable pub block : Control → Memory → ℕ → Request → List ℕ → After → List ℕ → After
-block c m s q x behind out =
+unfoldable pub blockBy : Rule → Control → Memory → ℕ → Request → List ℕ → After → List ℕ → After
+blockBy rule c m s q x behind out =
     let i = studioOf c s in
     let state = nth (c .applied) i in
     let n = sequenceOf (sessionAt (m .sessions) s) in
-    cond (leb n state) (answerFrom state (copyAt (m .library) i) q c m s (numberAfter n state) x out) behind
+    cond (leb n state) (answerFrom state (copyAt (m .library) i) q c m s (rule n state) x out) behind
 
 -- a reading call that brings its request, S-4's "with read's requests, outputs, checks and order": read's rows, then the block step. Where the studio's
--- copy answers, the session keeps its bytes.
-abbrev pub reading : Control → Memory → ℕ → List ℕ → After → List ℕ → After
-reading c m s request behind out =
-    unless (readStop c m s request (length out)) (refusal c m out) (block c m s (requestOf request) (sessionAt (m .sessions) s) behind out)
+-- copy answers, the session keeps its bytes but for its number.
+abbrev pub readingBy : Rule → Control → Memory → ℕ → List ℕ → After → List ℕ → After
+readingBy rule c m s request behind out =
+    unless (readStop c m s request (length out)) (refusal c m out) (blockBy rule c m s (requestOf request) (sessionAt (m .sessions) s) behind out)
 
 -- "Read (session, request): .. else the request is stored and the answer is waits, with the session's number"
-unfoldable pub read : Control → Memory → ℕ → List ℕ → List ℕ → After
-read c m s request out =
+unfoldable pub readBy : Rule → Control → Memory → ℕ → List ℕ → List ℕ → After
+readBy rule c m s request out =
     let n = sequenceOf (sessionAt (m .sessions) s) in
-    reading c m s request (after (waits n) c (withSessions m (withSession (m .sessions) s (withSequence n request))) out) out
+    readingBy rule c m s request (after (waits n) c (withSessions m (withSession (m .sessions) s (withSequence n request))) out) out
 
--- "Collect (session): the same test on the stored request; answered clears it and keeps bytes 2–3", else "waits, with the session's number"
-unfoldable pub collect : Control → Memory → ℕ → List ℕ → After
-collect c m s out =
+-- "Collect (session): the same test on the stored request; answered clears it and keeps bytes 2–3" (S-7: by the rule), else "waits, with the session's
+-- number"
+unfoldable pub collectBy : Rule → Control → Memory → ℕ → List ℕ → After
+collectBy rule c m s out =
     let x = sessionAt (m .sessions) s in
     let behind = after (waits (sequenceOf x)) c m out in
-    unless (collectStop c m s (length out)) (refusal c m out) (block c m s (requestOf x) (zeros sessionSize) behind out)
+    unless (collectStop c m s (length out)) (refusal c m out) (blockBy rule c m s (requestOf x) (zeros sessionSize) behind out)
 
 -- 02, S-4, "the Forward method .. with read's requests, outputs, checks and order. Where the studio's copy has reached the session's number, it answers
 -- exactly as read does. Otherwise it answers from the head end's copy with state commits, and the session's number becomes commits."
-unfoldable pub forward : Control → Memory → ℕ → List ℕ → List ℕ → After
-forward c m s request out =
+unfoldable pub forwardBy : Rule → Control → Memory → ℕ → List ℕ → List ℕ → After
+forwardBy rule c m s request out =
     let x = sessionAt (m .sessions) s in
-    reading c m s request (answerFrom (c .commits) (copyAt (m .library) 0) (requestOf request) c m s (c .commits) x out) out
+    readingBy rule c m s request (answerFrom (c .commits) (copyAt (m .library) 0) (requestOf request) c m s (c .commits) x out) out
 
 -- 02, S-6, the van's writer: it "puts one message at its output's start, leaves later bytes, returns the message's length"
 unfoldable pub write : Control → Memory → ℕ → List ℕ → After
@@ -153,19 +163,48 @@ write c m n out =
     let x = messageIn c (m .log) n in
     unless (writeStop c m n (length out)) (refusal c m out) (after (done (length x)) c m (over out 0 (length x) x))
 
-unfoldable pub call : Control → Memory → Call.Call → After
-call c m (Call.commit s bytes) = commit c m s bytes
-call c m (Call.preview s bytes) = preview c m s bytes
-call c m (Call.send i) = send c m i
-call c m (Call.refresh i) = refresh c m i
-call c m (Call.read s request out) = read c m s request out
-call c m (Call.collect s out) = collect c m s out
-call c m (Call.forward s request out) = forward c m s request out
-call c m (Call.write n out) = write c m n out
+-- 02, S-7, "a call that moves a session to another studio": its studio in control; no lent byte
+unfoldable pub withStudio : Control → ℕ → ℕ → Control
+withStudio c s i = control (c .studios) (set (c .«session_studios») (s - 1) i) (c .used) (c .commits) (c .sent) (c .applied)
 
--- a list of calls, each given what the call before it left and handed back, and what the list leaves
+-- ".. returns that studio"
+unfoldable pub move : Control → Memory → ℕ → ℕ → After
+move c m s i = unless (moveStop c m s i) (refusal c m []) (after (done i) (withStudio c s i) m [])
+
+unfoldable pub callBy : Rule → Control → Memory → Call.Call → After
+callBy rule c m (Call.commit s bytes) = commit c m s bytes
+callBy rule c m (Call.preview s bytes) = preview c m s bytes
+callBy rule c m (Call.send i) = send c m i
+callBy rule c m (Call.refresh i) = refresh c m i
+callBy rule c m (Call.read s request out) = readBy rule c m s request out
+callBy rule c m (Call.collect s out) = collectBy rule c m s out
+callBy rule c m (Call.forward s request out) = forwardBy rule c m s request out
+callBy rule c m (Call.write n out) = write c m n out
+callBy rule c m (Call.move s i) = move c m s i
+
+-- a list of calls, each given what the call before it left and handed back
+abbrev pub runBy : Rule → After → List Call.Call → List (Call.Turn After)
+runBy rule r H = Call.run (λ p x. callBy rule (p .control) (p .memory) x) r H
+
+-- The calls that there are: by S-7's rule.
+abbrev pub block : Control → Memory → ℕ → Request → List ℕ → After → List ℕ → After
+block c m s q x behind out = blockBy numberAfter c m s q x behind out
+
+abbrev pub read : Control → Memory → ℕ → List ℕ → List ℕ → After
+read c m s request out = readBy numberAfter c m s request out
+
+abbrev pub collect : Control → Memory → ℕ → List ℕ → After
+collect c m s out = collectBy numberAfter c m s out
+
+abbrev pub forward : Control → Memory → ℕ → List ℕ → List ℕ → After
+forward c m s request out = forwardBy numberAfter c m s request out
+
+abbrev pub call : Control → Memory → Call.Call → After
+call c m x = callBy numberAfter c m x
+
+-- lists of them, and what a list leaves
 abbrev pub run : After → List Call.Call → List (Call.Turn After)
-run r H = Call.run (λ p x. call (p .control) (p .memory) x) r H
+run r H = runBy numberAfter r H
 
 abbrev pub afterCalls : After → List Call.Call → After
 afterCalls r H = Call.final r (run r H)

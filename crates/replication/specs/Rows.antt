@@ -106,6 +106,10 @@ collectRows s studio waiting room = sessionRow s studio ∷ waitingRows waiting 
 unfoldable pub writeRows : ℕ → ℕ → ℕ → ℕ → List Row
 writeRows commits n size room = row 17 (not (within 1 commits n) || ltb room size) ∷ []
 
+-- 02, S-7, of move: "refused by the old 3 and 4 on their conditions": session s of that studio and waiting read; the studio that it moves to
+unfoldable pub moveRows : ℕ → ℕ → Request → ℕ → ℕ → List Row
+moveRows s studio waiting studios i = sessionRow s studio ∷ studioRow studios i ∷ row 4 (isWaiting waiting) ∷ []
+
 -- the number of the row that stops a call on bytes, or 0
 unfoldable pub setupStop : Memory → ℕ → List ℕ → ℕ
 setupStop m studios bytes = stopped (lengthsRow m ∷ setupRows studios bytes)
@@ -128,3 +132,6 @@ collectStop c m s room = stopped (memoryRows c m ++ collectRows s (studioOf c s)
 -- "keeps 1 and 2 on their conditions"
 unfoldable pub writeStop : Control → Memory → ℕ → ℕ → ℕ
 writeStop c m n room = stopped (memoryRows c m ++ writeRows (c .commits) n (length (messageIn c (m .log) n)) room)
+
+unfoldable pub moveStop : Control → Memory → ℕ → ℕ → ℕ
+moveStop c m s i = stopped (memoryRows c m ++ moveRows s (studioOf c s) (waitingIn m s) (c .studios) i)

@@ -54,11 +54,14 @@ impl Due {
     }
 }
 
-// A session's number after an answer of the studio's copy, which showed a state.
+// A session's number after an answer of the studio's copy, which showed a state: the greater of both (02, S-7).
 fn number_after(number: u32, state: u32) -> u32
     requires { ⌜ (number < 65536) × (state < 65536) ⌝ }
     ensures { λ r. ⌜ (r ≡ numberAfter number state) × (r < 65536) ⌝ }
 {
+    if number < state {
+        return state;
+    }
     number
 }
 

@@ -7,7 +7,7 @@ ghost use lib.ListN.{length};
 ghost use Rattle.replication.specs.Memory.{recordCount, sessionCount, studioCount, studioOf, nth};
 ghost use Rattle.replication.specs.Log.{firstRecord};
 ghost use Rattle.replication.specs.Layout.{countsForm};
-ghost use Rattle.replication.specs.Calls.{controlOf, committed, withSent, withApplied};
+ghost use Rattle.replication.specs.Calls.{controlOf, committed, withSent, withApplied, withStudio};
 
 // Sizes are document 01's. Any value may stand in any field: each has its answer.
 #[repr(C)]
@@ -126,6 +126,17 @@ impl Control {
         let j = i as usize - 1;
         let mut next = self;
         next.applied[j] = n;
+        next
+    }
+
+    // Control with a session at another studio.
+    pub fn with_studio(self, session: u32, studio: u32) -> Control
+        requires { ⌜ (1 ≤ session) × (session ≤ sessionCount) ⌝ }
+        ensures { λ r. ⌜ r ≡ withStudio self session studio ⌝ }
+    {
+        let j = session as usize - 1;
+        let mut next = self;
+        next.session_studios[j] = studio;
         next
     }
 

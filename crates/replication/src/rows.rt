@@ -47,7 +47,7 @@ fn session_row(control: Control, session: u32) -> u32
 }
 
 // Row 3 of a call that names a studio.
-fn studio_row(studios: u32, studio: u32) -> u32
+pub fn studio_row(studios: u32, studio: u32) -> u32
     ensures { λ r. ⌜ r ≡ stopped (studioRow studios studio ∷ []) ⌝ }
 {
     if studio < 1 {
