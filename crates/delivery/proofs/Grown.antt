@@ -10,9 +10,9 @@ use Rattle.replication.specs.Memory.{Memory, sessionAt, sequenceOf, nth, studio
 use Rattle.replication.specs.Log.{firstRecord}
 use Rattle.replication.specs.Request.{Request}
 use Rattle.replication.specs.Rows.{commitStop}
-use Rattle.replication.specs.Call.{Call, commit, preview, send, refresh, read, collect, forward, write, run, final}
+use Rattle.replication.specs.Call.{Call, commit, preview, send, refresh, read, collect, forward, write, move, run, final}
 use Rattle.replication.specs.Calls as Bytes
-use Rattle.replication.specs.Calls.{After, withSent, withApplied}
+use Rattle.replication.specs.Calls.{After, withSent, withApplied, withStudio}
 use Rattle.replication.specs.declared.control.Control.{Control}
 use Rattle.replication.proofs.CommitLaws.{operations-few}
 use Rattle.replication.proofs.WriteLaws.{givens}
@@ -49,11 +49,11 @@ module _ (c : Control) (m : Memory) where
       record { new = operationsOf bytes ∷ []; same = committed-transactions c m f (operationsOf bytes) (givens bytes (p .form)) (k .0) (k .1) (p .room) })
 
   block-extends : (s : ℕ) (q : Request) (x : List ℕ) (behind : After) (out : List ℕ) → Left behind → Left (Bytes.block c m s q x behind out)
-  unfolding Bytes.block Bytes.answerFrom
+  unfolding Bytes.blockBy Bytes.answerFrom
   block-extends s q x behind out h = by-cond Left (leb (sequenceOf (sessionAt (m .sessions) s)) (nth (c .applied) (studioOf c s))) _ _ (λ _. as-it-was) (λ _. h)
 
   call-extends : (x : Call) → Left (Bytes.call c m x)
-  unfolding Bytes.call Bytes.preview Bytes.send Bytes.refresh Bytes.read Bytes.collect Bytes.forward Bytes.write Bytes.answerFrom withSent withApplied firstRecord
+  unfolding Bytes.callBy Bytes.preview Bytes.send Bytes.refresh Bytes.readBy Bytes.collectBy Bytes.forwardBy Bytes.write Bytes.move Bytes.answerFrom withSent withApplied withStudio firstRecord
   call-extends (commit s bytes) = commit-extends s bytes
   call-extends (preview s bytes) = as-it-was
   call-extends (send i) = unless-case Left _ _ _ (λ _ _. as-it-was) (λ _. as-it-was)
@@ -62,6 +62,7 @@ module _ (c : Control) (m : Memory) where
   call-extends (collect s out) = unless-case Left _ _ _ (λ _ _. as-it-was) (λ _. block-extends s _ _ _ out as-it-was)
   call-extends (forward s request out) = unless-case Left _ _ _ (λ _ _. as-it-was) (λ _. block-extends s _ _ _ out as-it-was)
   call-extends (write n out) = unless-case Left _ _ _ (λ _ _. as-it-was) (λ _. as-it-was)
+  call-extends (move s i) = unless-case Left _ _ _ (λ _ _. as-it-was) (λ _. as-it-was)
 
 pub list-extends : (H : List Call) (r : After) → let left = Bytes.afterCalls r H in Extends (logOf (r .control) (r .memory)) (logOf (left .control) (left .memory))
 unfolding run final

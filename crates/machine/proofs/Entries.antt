@@ -11,13 +11,13 @@ use Rattle.carts.specs.Operation.{operationsOf, meetsAll, actAll}
 use Rattle.carts.specs.Transaction.{Transaction, L, recordsUsed}
 use Rattle.carts.proofs.PartLaws.{part-over}
 use Rattle.replication.specs.Answer.{Answer}
-use Rattle.replication.specs.Request.{Request, nothing, requestOf, isWaiting, needed, foundIn, shownFrom}
+use Rattle.replication.specs.Request.{Request, requestOf, isWaiting, needed, foundIn, shownFrom}
 use Rattle.replication.specs.Call as Call
 use Rattle.replication.proofs.RowLaws.{unless-case}
 use Rattle.replication.proofs.ShownLaws.{Askable, length-shown, request-askable}
 use Rattle.replication.proofs.DecideLaws.{KnownSession}
-use Rattle.replication.proofs.Accepted.{commit-passed, CommitTold, commit-told, read-passed, collect-passed}
-use Rattle.machine.specs.Machine.{Machine, session, Step, step, refusal, commits, sessionOf, told, commit, preview, send, refresh, answerFrom, block, wait, reading, read, collect, forward, write, call, run}
+use Rattle.replication.proofs.Accepted.{commit-passed, CommitTold, commit-told, read-passed, collect-passed, move-passed}
+use Rattle.machine.specs.Machine.{Machine, Step, step, refusal, commits, sessionOf, told, commit, preview, send, refresh, answerFrom, block, wait, reading, read, collect, forward, write, move, call, run}
 use Rattle.machine.specs.Library.{operations, Reply, request, at, refused8, shown, library, serve}
 use Rattle.machine.specs.OneCopy.{Event, event, Counted, counted, entry, commitReplies, readReplies, readEntry, Kind, writes, reads, collects, neither, kindOf, entryOf, waitedAfter, entries}
 use Rattle.machine.proofs.Sort.{length-snoc}
@@ -26,8 +26,8 @@ use Rattle.machine.proofs.Updates.{put}
 use Rattle.machine.proofs.Cases.{refused-case, block-case, stateFor}
 use Rattle.machine.proofs.Libraries.{length-L}
 use Rattle.machine.proofs.Sound.{Sound, applied-commits}
-use Rattle.machine.proofs.Kept.{keeps}
-use Rattle.machine.proofs.Follows.{level, WaitsFor, Follows, appended, refreshed, shown-to, stored-for, left-so}
+use Rattle.machine.proofs.Kept.{number-after, keeps}
+use Rattle.machine.proofs.Follows.{WaitsFor, Follows, appended, other-counts, shown-to, stored-for, left-so}
 
 -- the events of a list on the plain machine, and with the commits that each call left
 abbrev pub plainEvent : Call.Turn Step → Event
@@ -72,7 +72,7 @@ module _ (H : List Call.Call) (go-on : Goes H) (m : Machine) (copies : ℕ → L
 
   -- no session has been shown more than is committed
   floor-known : (s : ℕ) → 1 ≤ s → floor s ≤ n
-  floor-known s u = omega (arith, f .floors s u, sound .number-le (s - 1), applied-commits m sound (sessionOf m s .studio - 1))
+  floor-known s u = omega (arith, f .floors s u, sound .number-le (s - 1))
 
   -- a commit refused with 8 is answered by the library of n commits, and its session has seen it
   when-told : (s : ℕ) (bytes : List ℕ) (k : ℕ) → k ≡ 8 → CommitTold s (sessionOf m s .studio) (L (m .log) n) bytes → Fits (writes s bytes) (refusal (told m s) [] k)
@@ -108,16 +108,16 @@ module _ (H : List Call.Call) (go-on : Goes H) (m : Machine) (copies : ℕ → L
   when-send : (j : ℕ) → Fits neither (send m j)
   unfolding send entryOf waitedAfter
   when-send j = unless-case (Fits neither) _ _ _ (λ k e kept. nothing-new _ _) (λ e kept.
-      go-on _ n copies floor waited (i + 1) refl kept (record { libraries = f .libraries; floors = f .floors; waits-for = f .waits-for }))
+      go-on _ n copies floor waited (i + 1) refl kept (other-counts m copies floor waited f _ _))
 
   when-refresh : (j : ℕ) → Fits neither (refresh m j)
   unfolding refresh entryOf waitedAfter
   when-refresh j = unless-case (Fits neither) _ _ _ (λ k e kept. nothing-new _ _) (λ e kept.
-      go-on _ n copies floor waited (i + 1) refl kept (refreshed m copies floor waited f j _ (omega arith)))
+      go-on _ n copies floor waited (i + 1) refl kept (other-counts m copies floor waited f _ _))
 
   module _ (s : ℕ) (who : KnownSession s (sessionOf m s .studio)) where
     -- session s is shown the library of k commits, and its number becomes v: by read or forward, or by collect
-    module _ (k v : ℕ) (low : floor s ≤ k) (high : k ≤ n) (top : k ≤ level (m .applied) (session (sessionOf m s .studio) v nothing)) where
+    module _ (k v : ℕ) (low : floor s ≤ k) (high : k ≤ n) (top : k ≤ v) where
       when-shown : (q : Request) (out : List ℕ) → Askable q → let r = answerFrom k v q m s out in
           Sound (r .next) → History n copies floor (readEntry i s q (r .answer) (r .output) ++ entries (i + 1) waited (plainCounted r H))
       unfolding answerFrom readEntry readReplies isWaiting
@@ -155,7 +155,7 @@ module _ (H : List Call.Call) (go-on : Goes H) (m : Machine) (copies : ℕ → L
       let a = read-passed s (sessionOf m s .studio) (sessionOf m s .waiting) bytes (length out) e in
       let asked = request-askable bytes (a .form) in
       block-case m s _ _ out (Fits (reads s bytes))
-      (λ u. read-shown s (a .who) (stateFor m s) _ (omega (arith, f .floors s (a .who .low))) (applied-commits m sound _) (omega arith) bytes out asked)
+      (λ u. read-shown s (a .who) (stateFor m s) _ (omega (arith, f .floors s (a .who .low))) (applied-commits m sound _) (omega (arith, number-after (sessionOf m s .number) (stateFor m s))) bytes out asked)
       (λ u. later (a .who) asked))
 
   when-read : (s : ℕ) (bytes out : List ℕ) → Fits (reads s bytes) (read m s bytes out)
@@ -176,12 +176,20 @@ module _ (H : List Call.Call) (go-on : Goes H) (m : Machine) (copies : ℕ → L
       let asked : waited s ≡ sessionOf m s .waiting = f .waits-for s (a .who .low) (a .waits) in
       subst (λ (q : Request). Fits (collects s) (block m s q (wait m s q out) out)) asked
       (block-case m s _ _ out (Fits (collects s))
-      (λ u. collect-shown s (a .who) (stateFor m s) _ (omega (arith, f .floors s (a .who .low))) (applied-commits m sound _) (omega arith) out (rw asked (sound .askable (s - 1))))
+      (λ u. collect-shown s (a .who) (stateFor m s) _ (omega (arith, f .floors s (a .who .low))) (applied-commits m sound _) (omega (arith, number-after (sessionOf m s .number) (stateFor m s))) out (rw asked (sound .askable (s - 1))))
       (λ u. collect-waits s (a .who) out)))
 
   when-write : (j : ℕ) (out : List ℕ) → Fits neither (write m j out)
   unfolding write entryOf waitedAfter
   when-write j out = unless-case (Fits neither) _ _ _ (λ k e kept. nothing-new _ _) (λ e kept. nothing-new _ _)
+
+  -- a move has no entry: its session has been shown what it had, and waits for nothing more
+  when-move : (s j : ℕ) → Fits neither (move m s j)
+  unfolding move entryOf waitedAfter
+  when-move s j = unless-case (Fits neither) _ _ _ (λ k e kept. nothing-new _ _) (λ e kept.
+      let a = move-passed s (sessionOf m s .studio) (sessionOf m s .waiting) (m .studios) j e in
+      go-on _ n copies floor waited (i + 1) refl kept
+      (left-so m copies floor waited f s _ (a .who) (sound .sixteen) (f .floors s (a .who .low)) (f .waits-for s (a .who .low))))
 
   goes : (x : Call.Call) → Fits (kindOf x) (call m x)
   unfolding call kindOf
@@ -193,6 +201,7 @@ module _ (H : List Call.Call) (go-on : Goes H) (m : Machine) (copies : ℕ → L
   goes (Call.collect s out) = when-collect s out
   goes (Call.forward s bytes out) = when-forward s bytes out
   goes (Call.write j out) = when-write j out
+  goes (Call.move s j) = when-move s j
 
 pub all-goes : (H : List Call.Call) → Goes H
 unfolding entries plainCounted Call.run

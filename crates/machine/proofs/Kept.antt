@@ -1,6 +1,7 @@
 -- Every call, whatever its arguments, keeps the machine sound, and so does every list.
 use Prim.Native.Nat.{ℕ, _-_, _≤_, max}
 use native.Mathlib.Omega.{arith}
+use mathlib.Core.Path.{_≡_, refl}
 use mathlib.Core.List.{List, [], _∷_}
 use lib.ListN.{length}
 use Rattle.carts.specs.Operation.{operationsOf}
@@ -13,15 +14,15 @@ use Rattle.replication.specs.Calls.{numberAfter}
 use Rattle.replication.proofs.RowLaws.{unless-case}
 use Rattle.replication.proofs.ShownLaws.{Askable, request-askable}
 use Rattle.replication.proofs.Accepted.{commit-passed, send-passed, refresh-passed, read-passed}
-use Rattle.machine.specs.Machine.{Machine, Step, commits, sessionOf, commit, preview, send, refresh, answerFrom, block, wait, reading, read, collect, forward, write, call, afterCalls}
+use Rattle.machine.specs.Machine.{Machine, Step, commits, sessionOf, commit, preview, send, refresh, answerFrom, block, wait, reading, read, collect, forward, write, move, call, afterCalls}
 use Rattle.machine.proofs.Sort.{length-snoc}
 use Rattle.machine.proofs.Cases.{refused-case, stateFor, block-case}
 use Rattle.machine.proofs.Sound.{Sound, applied-commits, with-session, with-transaction, with-sent, with-applied}
 
--- an answered read leaves no number above both the old one and the state that it showed
-number-after : (n k : ℕ) → numberAfter n k ≤ max n k
+-- an answered read leaves the greater of the old number and the state that it showed
+pub number-after : (n k : ℕ) → numberAfter n k ≡ max n k
 unfolding numberAfter
-number-after n k = omega arith
+number-after n k = refl
 
 module _ (m : Machine) (f : Sound m) where
   abbrev Keeps : Step → Type 0
@@ -85,6 +86,10 @@ module _ (m : Machine) (f : Sound m) where
   unfolding write
   keeps-write n out = unless-case Keeps _ _ _ (λ k e. f) (λ e. f)
 
+  keeps-move : (s i : ℕ) → Keeps (move m s i)
+  unfolding move
+  keeps-move s i = unless-case Keeps _ _ _ (λ k e. f) (λ e. with-session m f s _ (f .number-le (s - 1)) (f .askable (s - 1)))
+
   pub keeps : (x : Call.Call) → Sound (call m x .next)
   unfolding call
   keeps (Call.commit s bytes) = keeps-commit s bytes
@@ -95,6 +100,7 @@ module _ (m : Machine) (f : Sound m) where
   keeps (Call.collect s out) = keeps-collect s out
   keeps (Call.forward s request out) = keeps-forward s request out
   keeps (Call.write n out) = keeps-write n out
+  keeps (Call.move s i) = keeps-move s i
 
 -- what every call keeps, every list keeps
 pub after-keeps : (P : Machine → Type 0) → ((m : Machine) → P m → (x : Call.Call) → P (call m x .next)) → (H : List Call.Call) (r : Step) → P (r .next) → P (afterCalls r H .next)

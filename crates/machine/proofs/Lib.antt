@@ -22,4 +22,5 @@ pub mod Messages
 pub mod NotEmpty
 pub mod Taken
 pub mod Forwarded
+pub mod Moved
 pub mod Spaces

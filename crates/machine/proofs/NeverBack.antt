@@ -1,66 +1,59 @@
--- Nobody goes back in time: no call lowers what a session can have been shown, so no answered read shows a session a state from before.
+-- Nobody goes back in time: no call lowers a session's number, a move neither, so no answered read shows a session a state from before.
 use Prim.Native.Nat.{ℕ, _-_, _≤_}
 use native.Mathlib.Omega.{arith}
-use native.Mathlib.Nat.{le-trans}
 use mathlib.Core.Path.{_≡_, ap}
 use mathlib.Core.List.{List}
 use lib.ListN.{getD}
 use Rattle.replication.specs.Answer.{answered}
 use Rattle.replication.specs.Request.{Request, nothing}
 use Rattle.replication.specs.Call as Call
-use Rattle.replication.specs.Calls.{numberAfter}
 use Rattle.replication.proofs.RowLaws.{unless-case}
-use Rattle.machine.specs.Machine.{Machine, Session, session, Step, sessionOf, withSession, commit, preview, send, refresh, answerFrom, block, wait, read, collect, forward, write, call, afterCalls}
+use Rattle.machine.specs.Machine.{Machine, Session, session, Step, sessionOf, withSession, commit, preview, send, refresh, answerFrom, block, wait, read, collect, forward, write, move, call, afterCalls}
 use Rattle.machine.specs.Asked.{asker}
 use Rattle.machine.proofs.Updates.{set-either}
-use Rattle.machine.proofs.Cases.{refused-case, block-case}
+use Rattle.machine.proofs.Cases.{refused-case, stateFor, block-case}
 use Rattle.machine.proofs.Sound.{Sound}
-use Rattle.machine.proofs.Kept.{keeps, after-keeps}
-use Rattle.machine.proofs.Follows.{level, level-rises}
+use Rattle.machine.proofs.Kept.{number-after, keeps, after-keeps}
 use Rattle.machine.proofs.Shown.{call-shows}
 
--- an answered read lowers no number
-number-kept : (n k : ℕ) → n ≤ numberAfter n k
-unfolding numberAfter
-number-kept n k = omega arith
-
--- session s can have been shown the state v, or a later one
+-- the number of session s is v, or more: what it has been shown, told or has committed
 abbrev pub Reached : ℕ → ℕ → Machine → Type 0
-Reached s v m = v ≤ level (m .applied) (sessionOf m s)
+Reached s v m = v ≤ sessionOf m s .number
 
 -- every call leaves it so
 module _ (m : Machine) (f : Sound m) (s v : ℕ) (h : Reached s v m) where
   abbrev Still : Step → Type 0
   Still r = Reached s v (r .next)
 
-  -- session t has another number, not below the one that it had
-  renumbered : (t n : ℕ) (q : Request) → sessionOf m t .number ≤ n → Reached s v (withSession m t (session (sessionOf m t .studio) n q))
-  renumbered t n q u = set-either (λ (y : Session). v ≤ level (m .applied) y) (m .sessions) (t - 1) _ _ (s - 1)
-      (λ e. omega (arith, ap (λ (k : ℕ). level (m .applied) (getD (m .sessions) k (session 0 0 nothing))) e)) h
+  -- session t is at studio i and has a number that is not below the one that it had
+  renumbered : (t i n : ℕ) (q : Request) → sessionOf m t .number ≤ n → Reached s v (withSession m t (session i n q))
+  renumbered t i n q u = set-either (λ (y : Session). v ≤ y .number) (m .sessions) (t - 1) _ _ (s - 1)
+      (λ e. omega (arith, ap (λ (k : ℕ). getD (m .sessions) k (session 0 0 nothing) .number) e)) h
 
   commit-reaches : (t : ℕ) (bytes : List ℕ) → Still (commit m t bytes)
   unfolding commit
-  commit-reaches t bytes = unless-case Still _ _ _ (λ k e. refused-case Still m t _ (λ u. renumbered t _ _ (omega (arith, f .number-le (t - 1)))) (λ u. h))
-      (λ e. renumbered t _ _ (omega (arith, f .number-le (t - 1))))
+  commit-reaches t bytes = unless-case Still _ _ _ (λ k e. refused-case Still m t _ (λ u. renumbered t _ _ _ (omega (arith, f .number-le (t - 1)))) (λ u. h))
+      (λ e. renumbered t _ _ _ (omega (arith, f .number-le (t - 1))))
 
   block-reaches : (t : ℕ) (q : Request) (behind : Step) (out : List ℕ) → Still behind → Still (block m t q behind out)
   unfolding answerFrom
-  block-reaches t q behind out later = block-case m t _ _ out Still (λ u. renumbered t _ _ (number-kept _ _)) (λ u. later)
+  block-reaches t q behind out later = block-case m t _ _ out Still (λ u. renumbered t _ _ _ (omega (arith, number-after (sessionOf m t .number) (stateFor m t)))) (λ u. later)
 
   wait-reaches : (t : ℕ) (q : Request) (out : List ℕ) → Still (wait m t q out)
   unfolding wait
-  wait-reaches t q out = renumbered t _ _ (omega arith)
+  wait-reaches t q out = renumbered t _ _ _ (omega arith)
 
   call-reaches : (x : Call.Call) → Still (call m x)
-  unfolding call preview send refresh read collect forward write answerFrom
+  unfolding call preview send refresh read collect forward write move answerFrom
   call-reaches (Call.commit t bytes) = commit-reaches t bytes
   call-reaches (Call.preview t bytes) = h
   call-reaches (Call.send i) = unless-case Still _ _ _ (λ k e. h) (λ e. h)
-  call-reaches (Call.refresh i) = unless-case Still _ _ _ (λ k e. h) (λ e. le-trans h (level-rises (m .applied) (i - 1) _ (sessionOf m s) (omega arith)))
+  call-reaches (Call.refresh i) = unless-case Still _ _ _ (λ k e. h) (λ e. h)
   call-reaches (Call.read t request out) = unless-case Still _ _ _ (λ k e. h) (λ e. block-reaches t _ _ out (wait-reaches t _ out))
   call-reaches (Call.collect t out) = unless-case Still _ _ _ (λ k e. h) (λ e. block-reaches t _ _ out (wait-reaches t _ out))
-  call-reaches (Call.forward t request out) = unless-case Still _ _ _ (λ k e. h) (λ e. block-reaches t _ _ out (renumbered t _ _ (omega (arith, f .number-le (t - 1)))))
+  call-reaches (Call.forward t request out) = unless-case Still _ _ _ (λ k e. h) (λ e. block-reaches t _ _ out (renumbered t _ _ _ (omega (arith, f .number-le (t - 1)))))
   call-reaches (Call.write n out) = unless-case Still _ _ _ (λ k e. h) (λ e. h)
+  call-reaches (Call.move t i) = unless-case Still _ _ _ (λ k e. h) (λ e. renumbered t i _ _ (omega arith))
 
 -- a read, forward or collect of that session, after any list of calls, is answered from no earlier state
 pub later-shown : (r : Step) → Sound (r .next) → (s v : ℕ) → Reached s v (r .next) → (H : List Call.Call) (x : Call.Call) (k found : ℕ) → asker x ≡ s

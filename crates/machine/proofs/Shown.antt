@@ -1,4 +1,4 @@
--- An answered read shows the carts of the library of its state, which is not below what its session can have been shown before.
+-- An answered read shows the carts of the library of its state, which is not below its session's number, and becomes that number.
 use Prim.Native.Nat.{ℕ, zero, suc, _+_, _*_, _-_, _≤_, _<_}
 use native.Mathlib.Omega.{arith}
 use mathlib.Core.Path.{_≡_}
@@ -18,21 +18,20 @@ use Rattle.replication.specs.Call as Call
 use Rattle.replication.proofs.RowLaws.{unless-case}
 use Rattle.replication.proofs.ShownLaws.{Askable, request-askable}
 use Rattle.replication.proofs.DecideLaws.{KnownSession}
-use Rattle.replication.proofs.Accepted.{read-passed}
-use Rattle.machine.specs.Machine.{Machine, Session, session, Step, step, commits, sessionOf, withSession, refusedCommit, commit, preview, send, refresh, answerFrom, block, wait, read, collect, forward, write, call}
+use Rattle.replication.proofs.Accepted.{read-passed, collect-passed}
+use Rattle.machine.specs.Machine.{Machine, Session, session, Step, step, commits, sessionOf, withSession, refusedCommit, commit, preview, send, refresh, answerFrom, block, wait, read, collect, forward, write, move, call}
 use Rattle.machine.specs.OneCopy.{kindOf}
 use Rattle.machine.specs.Asked.{askedBy, asked, askerBy, asker}
-use Rattle.machine.proofs.Updates.{set-either}
 use Rattle.machine.proofs.Cases.{stateFor, block-case}
-use Rattle.machine.proofs.Follows.{level}
 use Rattle.machine.proofs.Sound.{Sound, applied-commits}
+use Rattle.machine.proofs.Kept.{number-after}
 
 -- a call x that left r, answered with state k and found
 pub record Shown (m : Machine) (x : Call.Call) (k found : ℕ) (r : Step) : Type 0 where
   pub known : k ≤ commits m
-  -- from what its session could have been shown before, to what it can have been shown now
-  pub reached : level (m .applied) (sessionOf m (asker x)) ≤ k
-  pub left : k ≤ level (r .next .applied) (sessionOf (r .next) (asker x))
+  -- from its session's number before, to its number now
+  pub reached : sessionOf m (asker x) .number ≤ k
+  pub left : k ≤ sessionOf (r .next) (asker x) .number
   pub askable : Askable (asked m x)
   pub count : found ≡ foundIn (L (m .log) k) (asked m x)
   pub rest : List ℕ
@@ -52,44 +51,48 @@ module _ (m : Machine) (f : Sound m) (k found : ℕ) where
   holds-back : {n : ℕ} {A : Type 0} → waits n ≡ answered k found → A
   holds-back e = let z : _≡_ {A = ℕ} 0 1 = cc in absurd (omega arith)
 
-  -- an answer with a state that is known and reached, after which its session can have been shown it
-  answer-shows : (x : Call.Call) (out : List ℕ) → Askable (asked m x) → (state n : ℕ) → let s = asker x in state ≤ commits m → level (m .applied) (sessionOf m s) ≤ state
-      → state ≤ level (m .applied) (sessionOf (withSession m s (session (sessionOf m s .studio) n nothing)) s) → Shows x (answerFrom state n (asked m x) m s out)
-  unfolding answerFrom
-  answer-shows x out a state n known reached left e =
-      let same : state ≡ k = cc in
-      record { known = rw (← same) known; reached = rw (← same) reached; left = rw (← same) left; askable = a; count = rw (← same) cc; rest = drop (needed (asked m x)) out; output = rw same }
+  -- a session that row 3 does not stop, and what it may ask
+  module _ (x : Call.Call) (out : List ℕ) (w : KnownSession (asker x) (sessionOf m (asker x) .studio)) (a : Askable (asked m x)) where
+    -- an answer with a state that is known and reached, after which the session's number n is not below it
+    answer-shows : (state n : ℕ) → state ≤ commits m → sessionOf m (asker x) .number ≤ state → state ≤ n → Shows x (answerFrom state n (asked m x) m (asker x) out)
+    unfolding answerFrom
+    answer-shows state n known reached left e =
+        let same : state ≡ k = cc in
+        let z = f .sixteen in
+        let number : k ≤ sessionOf (withSession m (asker x) (session (sessionOf m (asker x) .studio) n nothing)) (asker x) .number =
+        rw (getD-set-same (m .sessions) (asker x - 1) (session (sessionOf m (asker x) .studio) n nothing) (session 0 0 nothing) (omega (arith, w .low, w .high))) (omega arith) in
+        record { known = rw (← same) known; reached = rw (← same) reached; left = number; askable = a; count = rw (← same) cc; rest = drop (needed (asked m x)) out; output = rw same }
 
-  block-shows : (x : Call.Call) (out : List ℕ) → Askable (asked m x) → (behind : Step) → Shows x behind → Shows x (block m (asker x) (asked m x) behind out)
-  block-shows x out a behind later = block-case m (asker x) _ _ out (Shows x) (λ u.
-      answer-shows x out a (stateFor m (asker x)) _ (applied-commits m f _) (omega arith)
-      (set-either (λ (y : Session). stateFor m (asker x) ≤ level (m .applied) y) (m .sessions) (asker x - 1) _ _ (asker x - 1) (λ _. omega arith) (omega arith))) (λ u. later)
+    block-shows : (behind : Step) → Shows x behind → Shows x (block m (asker x) (asked m x) behind out)
+    block-shows behind later = block-case m (asker x) _ _ out (Shows x) (λ u.
+        answer-shows (stateFor m (asker x)) _ (applied-commits m f _) u (omega (arith, number-after (sessionOf m (asker x) .number) (stateFor m (asker x))))) (λ u. later)
 
-  -- a session that row 3 does not stop, shown all that is committed
-  primary-shows : (x : Call.Call) (out : List ℕ) → Askable (asked m x) → KnownSession (asker x) (sessionOf m (asker x) .studio)
-      → Shows x (answerFrom (commits m) (commits m) (asked m x) m (asker x) out)
-  primary-shows x out a w = answer-shows x out a (commits m) (commits m) (omega arith) (omega (arith, f .number-le (asker x - 1), applied-commits m f (sessionOf m (asker x) .studio - 1)))
-      (let z = f .sixteen in rw (getD-set-same (m .sessions) (asker x - 1) _ _ (omega (arith, w .low, w .high))) (omega arith))
+    -- shown all that is committed
+    primary-shows : Shows x (answerFrom (commits m) (commits m) (asked m x) m (asker x) out)
+    primary-shows = answer-shows (commits m) (commits m) (omega arith) (f .number-le (asker x - 1)) (omega arith)
 
-  waits-on : (x : Call.Call) (out : List ℕ) → Askable (asked m x) → let s = asker x in Shows x (block m s (asked m x) (wait m s (asked m x) out) out)
-  unfolding wait
-  waits-on x out a = block-shows x out a _ holds-back
+    waits-on : let s = asker x in Shows x (block m s (asked m x) (wait m s (asked m x) out) out)
+    unfolding wait
+    waits-on = block-shows _ holds-back
 
   pub call-shows : (x : Call.Call) → Shows x (call m x)
-  unfolding call commit refusedCommit preview send refresh read collect forward write askedBy askerBy kindOf
+  unfolding call commit refusedCommit preview send refresh read collect forward write move askedBy askerBy kindOf
   call-shows (Call.commit s bytes) = unless-case (Shows (Call.commit s bytes)) _ _ _ (λ n e. refuses) (λ e. counts)
   call-shows (Call.preview s bytes) = unless-case (λ (r : Step). r .answer ≡ answered k found → Shown m (Call.preview s bytes) k found (step (r .answer) m [])) _ _ _ (λ n e. refuses) (λ e. counts)
   call-shows (Call.send i) = unless-case (Shows (Call.send i)) _ _ _ (λ n e. refuses) (λ e. counts)
   call-shows (Call.refresh i) = unless-case (Shows (Call.refresh i)) _ _ _ (λ n e. refuses) (λ e. counts)
   call-shows (Call.read s request out) = unless-case (Shows (Call.read s request out)) _ _ _ (λ n e. refuses) (λ e.
-      waits-on (Call.read s request out) out (request-askable request (read-passed s (sessionOf m s .studio) (sessionOf m s .waiting) request (length out) e .form)))
-  call-shows (Call.collect s out) = unless-case (Shows (Call.collect s out)) _ _ _ (λ n e. refuses) (λ e. waits-on (Call.collect s out) out (f .askable (s - 1)))
+      let a = read-passed s (sessionOf m s .studio) (sessionOf m s .waiting) request (length out) e in
+      waits-on (Call.read s request out) out (a .who) (request-askable request (a .form)))
+  call-shows (Call.collect s out) = unless-case (Shows (Call.collect s out)) _ _ _ (λ n e. refuses) (λ e.
+      waits-on (Call.collect s out) out (collect-passed s (sessionOf m s .studio) (sessionOf m s .waiting) (length out) e .who) (f .askable (s - 1)))
   call-shows (Call.forward s request out) = unless-case (Shows (Call.forward s request out)) _ _ _ (λ n e. refuses) (λ e.
       let x : Call.Call = Call.forward s request out in
       let a = read-passed s (sessionOf m s .studio) (sessionOf m s .waiting) request (length out) e in
       let asked = request-askable request (a .form) in
-      block-shows x out asked _ (primary-shows x out asked (a .who)))
+      block-shows x out (a .who) asked _ (primary-shows x out (a .who) asked))
   call-shows (Call.write n out) = unless-case (Shows (Call.write n out)) _ _ _ (λ n e. refuses) (λ e. counts)
+  call-shows (Call.move s i) = unless-case (Shows (Call.move s i)) _ _ _ (λ n e. refuses) (λ e. counts)
 
 -- place i of a read by numbers
 pub numbers-shown : (copy : List ℕ) (cs rest : List ℕ) (i : ℕ) → length copy ≡ copySize → every (within 1 128) cs ≡ true → i < length cs

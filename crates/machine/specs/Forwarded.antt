@@ -22,7 +22,7 @@ hour =
     event (commit 1 A) (done 1) []
     ∷ event (forward 1 seven buffer) (answered 1 1) (holding A)
     ∷ event (forward 2 seven buffer) (answered 0 0) (holding (zeros 80))
-    -- studio 1 has reached session 1's number: "exactly as read does", though the head end is further; the number is not raised
+    -- studio 1 has reached session 1's number: "exactly as read does", though the head end is further; the number stays 1
     ∷ event (commit 3 withdraw7) (done 2) []
     ∷ event (send 1) (done 1) []
     ∷ event (refresh 1) (done 1) []

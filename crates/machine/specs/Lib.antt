@@ -8,3 +8,4 @@ pub mod Titles
 pub mod Table
 pub mod Taken
 pub mod Forwarded
+pub mod Moved

@@ -38,11 +38,11 @@ module _ (c : Control) (m : Memory) (s : ℕ) (request out : List ℕ) where
   applied = nth (c .applied) (studioOf c s)
 
   pub as-read : number ≤ applied → Bytes.forward c m s request out ≡ Bytes.read c m s request out
-  unfolding Bytes.forward Bytes.read Bytes.block
+  unfolding Bytes.forwardBy Bytes.readBy Bytes.blockBy
   as-read u = rw (le-leb number applied u)
 
   pub stopped-as-read : (n : ℕ) → readStop c m s request (length out) ≡ suc n → Bytes.forward c m s request out ≡ Bytes.read c m s request out
-  unfolding Bytes.forward Bytes.read unless
+  unfolding Bytes.forwardBy Bytes.readBy unless
   stopped-as-read n e = rw e
 
   -- what the head end's answer leaves
@@ -53,12 +53,12 @@ module _ (c : Control) (m : Memory) (s : ℕ) (request out : List ℕ) where
       after (answered (c .commits) (foundIn copy q)) c (withSessions m (withNumber (m .sessions) s (c .commits))) (over out 0 (needed q) (shownFrom copy q))
 
   pub by-primary : applied < number → readStop c m s request (length out) ≡ 0 → Bytes.forward c m s request out ≡ byPrimary
-  unfolding Bytes.forward Bytes.block Bytes.answerFrom unless
+  unfolding Bytes.forwardBy Bytes.blockBy Bytes.answerFrom unless
   by-primary u e = rw (e, lt-leb number applied u)
 
   -- no wait is among its answers
   pub never-waits : (n : ℕ) → Bytes.forward c m s request out .answer ≡ waits n → ⊥
-  unfolding Bytes.forward Bytes.block Bytes.answerFrom
+  unfolding Bytes.forwardBy Bytes.blockBy Bytes.answerFrom
   never-waits n = unless-case Waits _ _ _ (λ k e a. let z : _≡_ {A = ℕ} 0 1 = cc in omega arith)
       (λ e. by-cond Waits (leb number applied) _ _ (λ _. answered-waits _ _ n) (λ _. answered-waits _ _ n))
     where
@@ -90,12 +90,12 @@ module _ (c : Control) (m : Memory) (s : ℕ) (request out : List ℕ) where
   module _ (k found : ℕ) (shown : Bytes.forward c m s request out .answer ≡ answered k found) where
     -- no row stops it
     not-stopped : readStop c m s request (length out) ≡ 0
-    unfolding Bytes.forward
+    unfolding Bytes.forwardBy
     not-stopped = unless-case (λ (r : After). r .answer ≡ answered k found → readStop c m s request (length out) ≡ 0) _ _ _
         (λ j e a. let z : _≡_ {A = ℕ} 0 1 = cc in absurd (omega arith)) (λ e a. e) shown
 
     pub state-told : (number ≤ applied → k ≡ applied) × (applied < number → (k ≡ c .commits) × (applied < k))
-    unfolding Bytes.forward Bytes.block Bytes.answerFrom unless
+    unfolding Bytes.forwardBy Bytes.blockBy Bytes.answerFrom unless
     state-told = (
       λ u. let a : answered applied _ ≡ answered k found = rw (not-stopped, le-leb number applied u) at shown in cc,
       λ u. let a : answered (c .commits) _ ≡ answered k found = rw (not-stopped, lt-leb number applied u) at shown in

@@ -11,6 +11,7 @@ pub mod Read
 pub mod Commit
 pub mod Preview
 pub mod Write
+pub mod Move
 pub mod Setup
 pub mod Refused
 -- all calls, and lists of them

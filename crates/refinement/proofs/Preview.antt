@@ -17,7 +17,7 @@ use Rattle.refinement.proofs.Commit.{commit-simulates}
 
 module _ (c : Control) (m : Memory) (s : ℕ) (bytes : List ℕ) where
   pub preview-answers : Bytes.call c m (Call.preview s bytes) ≡ after (Bytes.call c m (Call.commit s bytes) .answer) c m (lent (Call.preview s bytes))
-  unfolding Bytes.call Bytes.preview lent
+  unfolding Bytes.callBy Bytes.preview lent
   preview-answers = refl
 
   pub preview-keeps : OfLayout c m → OfLayout (Bytes.preview c m s bytes .control) (Bytes.preview c m s bytes .memory)
@@ -30,5 +30,5 @@ module _ (c : Control) (m : Memory) (s : ℕ) (bytes : List ℕ) where
   preview-simulates log sessions h = record { answer = commit-simulates c m s bytes log sessions h .answer; output = refl; next = h }
 
 pub preview-unchanging : (s : ℕ) (bytes : List ℕ) (c : Control) (m : Memory) → (Bytes.call c m (Call.preview s bytes) .control ≡ c) × (Bytes.call c m (Call.preview s bytes) .memory ≡ m)
-unfolding Bytes.call Bytes.preview
+unfolding Bytes.callBy Bytes.preview
 preview-unchanging s bytes c m = (refl, refl)

@@ -3,9 +3,9 @@ use mathlib.Core.Path.{_≡_, refl}
 use mathlib.Core.List.{List, [], _∷_, _++_, map}
 use Rattle.carts.specs.Transaction.{Transaction}
 use Rattle.replication.specs.Memory.{Memory}
-use Rattle.replication.specs.Call.{Call, Turn, commit, preview, send, refresh, read, collect, forward, write, run, final}
+use Rattle.replication.specs.Call.{Call, Turn, commit, preview, send, refresh, read, collect, forward, write, move, run, final}
 use Rattle.replication.specs.Calls as Bytes
-use Rattle.replication.specs.Calls.{After}
+use Rattle.replication.specs.Calls.{After, Rule, numberAfter}
 use Rattle.replication.specs.declared.control.Control.{Control}
 use Rattle.machine.specs.Machine as Plain
 use Rattle.machine.specs.Machine.{Session, Machine, Step}
@@ -15,25 +15,31 @@ use Rattle.refinement.specs.Represents.{OfLayout, Represents, Simulates}
 use Rattle.refinement.proofs.Represented.{machineOf, by-machine, log-length}
 use Rattle.refinement.proofs.Send.{send-keeps, send-simulates}
 use Rattle.refinement.proofs.Refresh.{refresh-keeps, refresh-simulates}
-use Rattle.refinement.proofs.Read.{read-keeps, read-simulates, forward-keeps, forward-simulates, collect-keeps, collect-simulates}
+use Rattle.refinement.proofs.Read.{Bounded, after-bounded, read-keeps, read-simulates, forward-keeps, forward-simulates, collect-keeps, collect-simulates}
 use Rattle.refinement.proofs.Commit.{commit-keeps, commit-simulates}
 use Rattle.refinement.proofs.Preview.{preview-keeps, preview-simulates}
 use Rattle.refinement.proofs.Write.{write-keeps, write-simulates}
+use Rattle.refinement.proofs.Move.{move-keeps, move-simulates}
 
--- from any control and memory of the layout, also where a copy is no L(n)
+-- from any control and memory of the layout, also where a copy is no L(n); by any rule that leaves no number above commits
+module _ (rule : Rule) (bound : Bounded rule) (c : Control) (m : Memory) (h : OfLayout c m) where
+  pub keeps-layout-by : (x : Call) → OfLayout (Bytes.callBy rule c m x .control) (Bytes.callBy rule c m x .memory)
+  unfolding Bytes.callBy
+  keeps-layout-by (commit s bytes) = commit-keeps c m s bytes h
+  keeps-layout-by (preview s bytes) = preview-keeps c m s bytes h
+  keeps-layout-by (send i) = send-keeps c m i h
+  keeps-layout-by (refresh i) = refresh-keeps c m i h
+  keeps-layout-by (read s request out) = read-keeps c m s request out rule bound h
+  keeps-layout-by (collect s out) = collect-keeps c m s out rule bound h
+  keeps-layout-by (forward s request out) = forward-keeps c m s request out rule bound h
+  keeps-layout-by (write n out) = write-keeps c m n out h
+  keeps-layout-by (move s i) = move-keeps c m s i h
+
 pub keeps-layout : (c : Control) (m : Memory) → OfLayout c m → (x : Call) → OfLayout (Bytes.call c m x .control) (Bytes.call c m x .memory)
-unfolding Bytes.call
-keeps-layout c m h (commit s bytes) = commit-keeps c m s bytes h
-keeps-layout c m h (preview s bytes) = preview-keeps c m s bytes h
-keeps-layout c m h (send i) = send-keeps c m i h
-keeps-layout c m h (refresh i) = refresh-keeps c m i h
-keeps-layout c m h (read s request out) = read-keeps c m s request out h
-keeps-layout c m h (collect s out) = collect-keeps c m s out h
-keeps-layout c m h (forward s request out) = forward-keeps c m s request out h
-keeps-layout c m h (write n out) = write-keeps c m n out h
+keeps-layout = keeps-layout-by numberAfter after-bounded
 
 pub simulates : (c : Control) (m : Memory) (M : Machine) → Represents c m M → (x : Call) → Simulates (Bytes.call c m x) (Plain.call M x)
-unfolding Bytes.call Plain.call
+unfolding Bytes.callBy Plain.call
 simulates c m M h x = by-machine c m (λ M. Simulates (Bytes.call c m x) (Plain.call M x)) (case x) M h
   where
     case : (x : Call) (log : List Transaction) (sessions : List Session) → Represents c m (machineOf c log sessions)
@@ -46,6 +52,7 @@ simulates c m M h x = by-machine c m (λ M. Simulates (Bytes.call c m x) (Plain.
     case (collect s out) = collect-simulates c m s out
     case (forward s request out) = forward-simulates c m s request out
     case (write n out) = write-simulates c m n out
+    case (move s i) = move-simulates c m s i
 
 -- a list of calls: what it leaves, and its answers and outputs
 pub layout-after : (H : List Call) (r : After) → OfLayout (r .control) (r .memory) → OfLayout (Bytes.afterCalls r H .control) (Bytes.afterCalls r H .memory)

@@ -72,7 +72,7 @@ refused-changes-nothing = Refused.call-refused
 -- 02, S-3. A commit refused with 8 hands back control as it was passed, and leaves its session with the number commits and every other lent byte as it was.
 pub told-leaves : (c : Control) (m : Memory) (s : ℕ) (bytes : List ℕ) → Bytes.call c m (Call.commit s bytes) .answer ≡ refused 8
     → Bytes.call c m (Call.commit s bytes) ≡ after (refused 8) c (withSessions m (withNumber (m .sessions) s (c .commits))) (lent (Call.commit s bytes))
-unfolding Bytes.call lent
+unfolding Bytes.callBy lent
 told-leaves = Refused.told-leaves
 
 pub refused-setup : (n : ℕ) (before : Memory) (studios : ℕ) (bytes : List ℕ) → setup before studios bytes .answer ≡ refused n
@@ -95,7 +95,7 @@ module _ (r : After) (H K : List Call) (s : ℕ) (bytes : List ℕ) where
   pub with-preview : let left = afterCalls r H in
       history r (H ++ (Call.preview s bytes ∷ K))
       ≡ history r H ++ (event (Call.preview s bytes) (Bytes.commit (left .control) (left .memory) s bytes .answer) [] ∷ history left K)
-  unfolding Bytes.call Bytes.preview
+  unfolding Bytes.callBy Bytes.preview
   with-preview = call-between (Call.preview s bytes) (Preview.preview-unchanging s bytes) K H r
 
   pub preview-leaves : (afterCalls r (H ++ (Call.preview s bytes ∷ K)) .control ≡ afterCalls r (H ++ K) .control)
@@ -109,12 +109,12 @@ module _ (c : Control) (m : Memory) (s : ℕ) (bytes : List ℕ) (told : Bytes.c
   toldMemory = Bytes.call c m (Call.commit s bytes) .memory
 
   pub told-number : sequenceOf (sessionAt (toldMemory .sessions) s) ≡ c .commits
-  unfolding Bytes.call
+  unfolding Bytes.callBy
   told-number = Told.told-number c m s bytes told
 
   pub told-waits : (request out : List ℕ) → nth (c .applied) (studioOf c s) < c .commits → readStop c toldMemory s request (length out) ≡ 0
       → Bytes.call c toldMemory (Call.read s request out) .answer ≡ waits (c .commits)
-  unfolding Bytes.call
+  unfolding Bytes.callBy
   told-waits = Told.told-waits c m s bytes told
 
 -- FORWARD (02, S-4). From any control and memory. "Where the studio's copy has reached the session's number, it answers exactly as read does": the same answer,
@@ -122,16 +122,16 @@ module _ (c : Control) (m : Memory) (s : ℕ) (bytes : List ℕ) (told : Bytes.c
 module _ (c : Control) (m : Memory) (s : ℕ) (request out : List ℕ) where
   pub forward-as-read : sequenceOf (sessionAt (m .sessions) s) ≤ nth (c .applied) (studioOf c s)
       → Bytes.call c m (Call.forward s request out) ≡ Bytes.call c m (Call.read s request out)
-  unfolding Bytes.call
+  unfolding Bytes.callBy
   forward-as-read = Forward.as-read c m s request out
 
   pub forward-stopped : (n : ℕ) → readStop c m s request (length out) ≡ suc n → Bytes.call c m (Call.forward s request out) ≡ Bytes.call c m (Call.read s request out)
-  unfolding Bytes.call
+  unfolding Bytes.callBy
   forward-stopped = Forward.stopped-as-read c m s request out
 
   -- It never waits.
   pub forward-never-waits : (n : ℕ) → Bytes.call c m (Call.forward s request out) .answer ≡ waits n → ⊥
-  unfolding Bytes.call
+  unfolding Bytes.callBy
   forward-never-waits = Forward.never-waits c m s request out
 
   -- Which copy answered can be told by the state: the studio's with what it has applied, the head end's with commits, which is more.
@@ -139,7 +139,7 @@ module _ (c : Control) (m : Memory) (s : ℕ) (request out : List ℕ) where
       let number = sequenceOf (sessionAt (m .sessions) s) in
       let applied = nth (c .applied) (studioOf c s) in
       (number ≤ applied → k ≡ applied) × (applied < number → (k ≡ c .commits) × (applied < k))
-  unfolding Bytes.call
+  unfolding Bytes.callBy
   forward-state = Forward.state-told c m s request out
 
   module _ (passes : readStop c m s request (length out) ≡ 0) (behind : nth (c .applied) (studioOf c s) < sequenceOf (sessionAt (m .sessions) s)) where
@@ -149,13 +149,13 @@ module _ (c : Control) (m : Memory) (s : ℕ) (request out : List ℕ) where
         let q = requestOf request in
         Bytes.call c m (Call.forward s request out)
         ≡ after (answered (c .commits) (foundIn copy q)) c (withSessions m (withNumber (m .sessions) s (c .commits))) (over out 0 (needed q) (shownFrom copy q))
-    unfolding Bytes.call
+    unfolding Bytes.callBy
     forward-by-primary = Forward.by-primary c m s request out behind passes
 
     -- A read of the session straight afterwards that no row stops waits, and that state is the number that its studio has to apply first.
     pub forwarded-waits : (next lent : List ℕ) → let r = Bytes.call c m (Call.forward s request out) in
         readStop (r .control) (r .memory) s next (length lent) ≡ 0 → Bytes.call (r .control) (r .memory) (Call.read s next lent) .answer ≡ waits (c .commits)
-    unfolding Bytes.call
+    unfolding Bytes.callBy
     forwarded-waits = Forward.forwarded-waits c m s request out passes behind
 
 -- THE VAN'S WRITER (02, S-6). From any control and memory it changes neither, refused or not. Between H and K, any parts of any list, all other calls give the same answers and

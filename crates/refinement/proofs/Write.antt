@@ -22,7 +22,7 @@ use Rattle.refinement.specs.Represents.{OfLayout, Represents, Simulates}
 use Rattle.refinement.proofs.Represented.{machineOf, log-length}
 
 pub write-unchanging : (n : ℕ) (out : List ℕ) (c : Control) (m : Memory) → (Bytes.call c m (Call.write n out) .control ≡ c) × (Bytes.call c m (Call.write n out) .memory ≡ m)
-unfolding Bytes.call Bytes.write
+unfolding Bytes.callBy Bytes.write
 write-unchanging n out c m = unless-case (λ (r : After). (r .control ≡ c) × (r .memory ≡ m)) _ _ _ (λ _ _. (refl, refl)) (λ _. (refl, refl))
 
 module _ (c : Control) (m : Memory) (n : ℕ) (out : List ℕ) where
