@@ -17,7 +17,9 @@ pub mod Refused
 -- all calls, and lists of them
 pub mod Simulation
 pub mod Unchanging
+pub mod Unmoved
 pub mod Told
+pub mod Moved
 pub mod Forward
 pub mod Titles
 pub mod Theorems

@@ -37,13 +37,18 @@ pub record SessionBytes (x : List ℕ) : Type 0 where
 
 -- another sequence number
 module _ (n : ℕ) (x : List ℕ) (l : 16 ≤ length x) where
-  sequence-set : sequenceOf (withSequence n x) ≡ n
+  pub sequence-set : sequenceOf (withSequence n x) ≡ n
   unfolding sequenceOf withSequence u16 u16Bytes
   sequence-set = by-fields (λ x. sequenceOf (withSequence n x) ≡ n) 0 (λ h t l. omega arith) x l
 
   pub request-kept : requestOf (withSequence n x) ≡ requestOf x
   unfolding withSequence u16Bytes requestOf numbersIn
   request-kept = by-fields (λ x. requestOf (withSequence n x) ≡ requestOf x) 0 (λ h t l. refl) x l
+
+  -- bytes 2–3 alone are replaced
+  pub sequence-again : (k : ℕ) → withSequence k (withSequence n x) ≡ withSequence k x
+  unfolding withSequence u16Bytes
+  sequence-again k = by-fields (λ x. withSequence k (withSequence n x) ≡ withSequence k x) 0 (λ h t l. refl) x l
 
   waiting-kept : waitingForm (withSequence n x) ≡ waitingForm x
   unfolding withSequence u16Bytes waitingForm requestFields numbersForm numbersIn
@@ -134,11 +139,11 @@ module _ (c : Control) (memory : List ℕ) (f : SessionsFormed c memory) (s : �
 
 -- session s replaced
 module _ (c : Control) (memory : List ℕ) (k : length memory ≡ 1280) (s : ℕ) (w : KnownSession s (studioOf c s)) (n : ℕ) (x : List ℕ) (b : SessionBytes x) where
-  same : sessionAt (withSession memory s (withSequence n x)) s ≡ withSequence n x
+  pub same : sessionAt (withSession memory s (withSequence n x)) s ≡ withSequence n x
   unfolding sessionAt withSession
   same = cell-same 16 memory k s (w .low) (w .high) (withSequence n x) (length-withSequence n x (b .size))
 
-  other : (q : ℕ) → 1 ≤ q → q ≢ s → sessionAt (withSession memory s (withSequence n x)) q ≡ sessionAt memory q
+  pub other : (q : ℕ) → 1 ≤ q → q ≢ s → sessionAt (withSession memory s (withSequence n x)) q ≡ sessionAt memory q
   unfolding sessionAt withSession
   other = cell-other 16 memory k s (w .low) (w .high) (withSequence n x) (length-withSequence n x (b .size))
 

@@ -3,7 +3,7 @@
 use mathlib.Core.Path.{_≡_, sym, _∙_, fun-ext, subst₂}
 use mathlib.Core.Bool.{true, false, not}
 use mathlib.Core.List.{List, [], _∷_, _++_, map}
-use Prim.Native.Nat.{ℕ, suc, _*_, _≤_, _<_}
+use Prim.Native.Nat.{ℕ, suc, _*_, _≤_, _<_, max}
 use lib.ListN.{length, getD}
 use Rattle.carts.specs.Bytes.{zeros, part, over, u16, every}
 use Rattle.carts.specs.Cart.{cartAt, hasTitle}
@@ -13,11 +13,11 @@ use Rattle.replication.specs.Answer.{refused, done, waits, answered}
 use Rattle.replication.specs.Memory.{Memory, lengthsForm, copyAt, sessionAt, sequenceOf, withNumber, nth, studioOf}
 use Rattle.replication.specs.Log.{firstRecord}
 use Rattle.replication.specs.Request.{byNumbers, byTitle, requestOf, isWaiting, needed, foundIn, shownFrom}
-use Rattle.replication.specs.Rows.{row, stopped, memoryRows, sessionRow, sizeForm, readStop}
+use Rattle.replication.specs.Rows.{row, stopped, memoryRows, sessionRow, sizeForm, readStop, moveStop}
 use Rattle.replication.specs.Call as Call
 use Rattle.replication.specs.Call.{Call}
 use Rattle.replication.specs.Calls as Bytes
-use Rattle.replication.specs.Calls.{After, after, withSessions, controlOf, setup, afterCalls}
+use Rattle.replication.specs.Calls.{After, after, withSessions, withStudio, controlOf, setup, afterCalls}
 use Rattle.replication.specs.declared.control.Control.{Control}
 use Rattle.machine.specs.Machine as Plain
 use Rattle.machine.specs.Machine.{Machine, Step}
@@ -37,9 +37,12 @@ use Rattle.machine.specs.Taken.{taking}
 use Rattle.machine.proofs.Taken as Taken
 use Rattle.machine.specs.Forwarded.{hour}
 use Rattle.machine.proofs.Forwarded as Forwarded
+use Rattle.machine.specs.Moved.{walk}
+use Rattle.machine.proofs.Moved as Walk
 use Rattle.replication.specs.Log.{transactionsFrom}
 use Rattle.refinement.specs.Represents.{OfLayout, Represents, Simulates}
 use Rattle.refinement.specs.Lent.{lent}
+use Rattle.refinement.specs.Unmoved.{SameWithoutMoves}
 use Rattle.refinement.proofs.Represented.{log-length}
 use Rattle.refinement.proofs.Setup as Setup
 use Rattle.refinement.proofs.Refused as Refused
@@ -49,6 +52,8 @@ use Rattle.refinement.proofs.Unchanging.{call-between, call-leaves}
 use Rattle.refinement.proofs.Simulation as Simulation
 use Rattle.refinement.proofs.Told as Told
 use Rattle.refinement.proofs.Forward as Forward
+use Rattle.refinement.proofs.Moved as Moved
+use Rattle.refinement.proofs.Unmoved as Unmoved
 use Rattle.refinement.proofs.Titles as Titles
 
 -- LAYOUT. Every call, accepted, waiting or refused, keeps the layout, from any control and memory of it, also where a copy is no L(n); so does every list.
@@ -173,6 +178,36 @@ module _ (r : After) (H K : List Call) (n : ℕ) (out : List ℕ) where
       × (afterCalls r (H ++ (Call.write n out ∷ K)) .memory ≡ afterCalls r (H ++ K) .memory)
   write-leaves = call-leaves (Call.write n out) (write-unchanging n out) K H r
 
+-- MOVE (02, S-7). From any control and memory a move that no row stops returns the studio, which is its session's in control from then on. No other field of
+-- control and no lent byte changes, so the session keeps its number. To the studio where the session is, it changes nothing.
+module _ (c : Control) (m : Memory) (s i : ℕ) where
+  pub move-leaves : moveStop c m s i ≡ 0 → Bytes.call c m (Call.move s i) ≡ after (done i) (withStudio c s i) m (lent (Call.move s i))
+  unfolding Bytes.callBy lent
+  move-leaves = Moved.move-leaves c m s i
+
+  pub move-here : i ≡ studioOf c s → withStudio c s i ≡ c
+  move-here = Moved.move-here c m s i
+
+-- "a read answered by any reading call or by collect now raises the session's number to the state it showed, if that is higher": from any control and memory.
+pub answered-raises : (c : Control) (m : Memory) (x : Call) (k found : ℕ) → let shown = Bytes.call c m x in shown .answer ≡ answered k found
+    → sequenceOf (sessionAt (shown .memory .sessions) (asker x)) ≡ max (sequenceOf (sessionAt (m .sessions) (asker x))) k
+answered-raises c m x k found = Moved.call-raises c m k found x
+
+-- So whoever was shown state k, from any control and memory of the layout, and moves to a studio that has applied fewer, waits there: a read straight afterwards
+-- that no row stops.
+pub moved-waits : (c : Control) (m : Memory) → OfLayout c m → (x : Call) (k found : ℕ) → let shown = Bytes.call c m x in shown .answer ≡ answered k found
+    → (i : ℕ) → moveStop (shown .control) (shown .memory) (asker x) i ≡ 0 → nth (shown .control .applied) i < k
+    → let there = Bytes.call (shown .control) (shown .memory) (Call.move (asker x) i) in
+    (request out : List ℕ) → readStop (there .control) (there .memory) (asker x) request (length out) ≡ 0
+    → Bytes.call (there .control) (there .memory) (Call.read (asker x) request out) .answer ≡ waits (max (sequenceOf (sessionAt (m .sessions) (asker x))) k)
+unfolding Bytes.callBy
+moved-waits c m h x k found answer = Moved.shown-moved-waits c m h k found x answer
+
+-- "In a list without moves every answer is the same as it was", by the rule of before (`numberKept`), from any control and memory of the layout: every answer and
+-- every output; and the list leaves the same but for the sessions' numbers.
+pub same-without-moves : SameWithoutMoves
+same-without-moves = Unmoved.same-without-moves
+
 -- TITLES. "A title is kept whole or refused." From any control and memory, an accepted commit whose last operation on a cart is a new or a retitle
 -- leaves that title in the head end's copy: its length and its 64 bytes.
 pub title-kept : (c : Control) (m : Memory) (s : ℕ) (bytes op : List ℕ) (n : ℕ) → Writes bytes op → Bytes.commit c m s bytes .answer ≡ done n
@@ -241,8 +276,8 @@ module _ (before : Memory) (studios : ℕ) (bytes : List ℕ) where
           → let r = afterCalls told later in Bytes.call (r .control) (r .memory) x .answer ≡ answered k found → left .control .commits ≤ k
       shown-after = Told.shown-after _ _ simulates-after (after-sound H _ (setup-sound studios bytes plain-accepted))
 
-      -- NEVER BACK. After H from a fresh system a read, forward or collect is answered with state k: after any further list, no read, forward or collect of that
-      -- session is answered with an earlier state.
+      -- NEVER BACK (02, S-7: "nobody walks back in time"). After H from a fresh system a read, forward or collect is answered with state k: after any further list,
+      -- with moves of that session too, no read, forward or collect of the session is answered with an earlier state.
       pub never-back : (x : Call) (k found : ℕ) → let shown = Bytes.call (left .control) (left .memory) x in shown .answer ≡ answered k found
           → (later : List Call) (y : Call) (j more : ℕ) → asker y ≡ asker x
           → let r = afterCalls shown later in Bytes.call (r .control) (r .memory) y .answer ≡ answered j more → k ≤ j
@@ -306,6 +341,12 @@ told-then-shown before lengths = answers before 2 studioBytes (setup-answer befo
 pub forwarded : (before : Memory) → lengthsForm before ≡ true → history (setup before 2 studioBytes) (callsOf hour) ≡ hour
 unfolding start plainHistory
 forwarded before lengths = answers before 2 studioBytes (setup-answer before 2 studioBytes lengths ∙ started) (callsOf hour) ∙ Forwarded.forwarded
+
+-- 02, S-7. The story of the request on bytes, likewise: sessions that were shown edit 1 at studio 1 move to studio 2, which is behind; the read waits there, and
+-- the forward is answered by the head end.
+pub moved : (before : Memory) → lengthsForm before ≡ true → history (setup before 2 studioBytes) (callsOf walk) ≡ walk
+unfolding start plainHistory
+moved before lengths = answers before 2 studioBytes (setup-answer before 2 studioBytes lengths ∙ started) (callsOf walk) ∙ Walk.moved
 
 -- 02, S-6. Messages written on bytes, likewise: of one operation and of two, refused for a number that is not committed and an output that is too short.
 pub messages-written : (before : Memory) → lengthsForm before ≡ true → history (setup before 2 studioBytes) (callsOf writing) ≡ writing
