@@ -19,7 +19,7 @@ use Rattle.replication.proofs.RowLaws.{unless-case}
 use Rattle.replication.proofs.ShownLaws.{Askable, request-askable}
 use Rattle.replication.proofs.DecideLaws.{KnownSession}
 use Rattle.replication.proofs.Accepted.{read-passed, collect-passed}
-use Rattle.machine.specs.Machine.{Machine, Session, session, Step, step, commits, sessionOf, withSession, refusedCommit, commit, preview, send, refresh, answerFrom, block, wait, read, collect, forward, write, move, call}
+use Rattle.machine.specs.Machine.{Machine, session, Step, step, commits, sessionOf, withSession, refusedCommit, commit, preview, send, refresh, answerFrom, block, wait, read, collect, forward, write, move, call}
 use Rattle.machine.specs.OneCopy.{kindOf}
 use Rattle.machine.specs.Asked.{askedBy, asked, askerBy, asker}
 use Rattle.machine.proofs.Cases.{stateFor, block-case}

@@ -1,15 +1,13 @@
 -- 02, S-7: in a list without moves every answer is the same by the rule of before and by the rule that the calls have. The number of a session may have been
 -- raised, not above what its studio has applied: where the studio has caught up with the old number it has with the new one, and where it has not they are equal.
-use mathlib.Core.Path.{_≡_, refl, sym, ap, subst, subst₂, _∙_}
-use mathlib.Core.Logic.{_≢_}
-use mathlib.Core.Bool.{Bool, true, false, not, cond, false≢true}
-use mathlib.Core.List.{List, [], _∷_, _++_, map}
+use mathlib.Core.Path.{_≡_, refl, sym, ap, subst₂, _∙_}
+use mathlib.Core.Bool.{true, false, not, cond, false≢true}
+use mathlib.Core.List.{List, [], _∷_, _++_}
 use Prim.Native.Nat.{ℕ, zero, suc, _+_, _*_, _-_, _≤_, _<_, max}
 use native.Mathlib.Omega.{arith}
 use native.Mathlib.Decide.{ℕ-discrete, decLe}
-use lib.Dec.{leb, eqb}
 use lib.ListN.{length, getD, set, drop-of-length-le}
-use borrow.Author.Tests.{le-leb, lt-leb, leb-true, leb-false}
+use borrow.Author.Tests.{le-leb, lt-leb}
 use Rattle.carts.specs.Bytes.{zeros, every}
 use Rattle.carts.proofs.TestLaws.{and-left, and-right}
 use Rattle.replication.specs.Answer.{waits}
@@ -19,7 +17,7 @@ use Rattle.replication.specs.Message.{messageIn}
 use Rattle.replication.specs.Rows.{Row, stopped, unless, memoryRows, commitRows, commitStop, sendRows, sendStop, refreshRows, refreshStop, readRows, readStop, collectRows, collectStop, writeRows, writeStop}
 use Rattle.replication.specs.Call.{Call, commit, preview, send, refresh, read, collect, forward, write, move, run, final}
 use Rattle.replication.specs.Calls as Bytes
-use Rattle.replication.specs.Calls.{After, after, refusal, withSessions, Rule, numberAfter, numberKept, toldSessions, withSent, withApplied, committed}
+use Rattle.replication.specs.Calls.{After, refusal, withSessions, numberAfter, numberKept, toldSessions, withSent, withApplied, committed}
 use Rattle.replication.specs.declared.control.Control.{Control}
 use Rattle.replication.proofs.CommitLaws.{stopped-by-8}
 use Rattle.replication.proofs.DecideLaws.{KnownSession, accepted}
@@ -27,7 +25,7 @@ use Rattle.replication.proofs.Accepted.{commit-passed, ReadAccepted, read-passe
 use Rattle.replication.proofs.RowLaws.{memory-passes, unless-both}
 use Rattle.machine.proofs.Updates.{set-either, eqb-case}
 use Rattle.refinement.specs.Represents.{OfLayout}
-use Rattle.refinement.specs.Unmoved.{isMove, withoutMoves, historyBy, leftBy, SameButNumbers, SameWithoutMoves}
+use Rattle.refinement.specs.Unmoved.{isMove, withoutMoves, historyBy, leftBy, SameWithoutMoves}
 use Rattle.refinement.proofs.Sessions.{SessionBytes, request-bytes, empty-bytes, own-bytes, request-kept, sequence-set, sequence-again, same, other}
 use Rattle.refinement.proofs.Arrays.{formed}
 use Rattle.refinement.proofs.Read.{after-bounded, kept-bounded}

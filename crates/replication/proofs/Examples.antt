@@ -12,7 +12,7 @@ use Rattle.replication.specs.Memory.{recordAt, withRecord, sessionAt, wi
 use Rattle.replication.specs.Log.{nextOperation, nextTransaction, chain, recordsOf, walk, logRecords, ownForm, transactionsForm, firstRecord, upFrom, filledUpward, freeRecords, noRoom, front, writeAll, linked, appended}
 use Rattle.replication.specs.Request.{nothing, byNumbers, byTitle, numbersIn, requestOf, numbersForm, requestFields, requestForm, isWaiting, needed}
 use Rattle.replication.specs.Layout.{waitingForm, sessionForm, sessionFormOf, countsForm}
-use Rattle.replication.specs.Rows.{stopped, setupRows, sessionRow, studioRow, sizeForm, commitRows, sendRows, refreshRows, readRows, collectRows}
+use Rattle.replication.specs.Rows.{stopped, setupRows, sessionRow, studioRow, sizeForm, commitRows, sendRows, refreshRows, readRows, collectRows, moveRows}
 use Rattle.replication.specs.Calls.{controlOf, toldSessions, committed, withSent, withApplied}
 use Rattle.replication.specs.declared.control.Control.{Control}
 use Rattle.replication.proofs.Samples.{filled, pairs, askNumbers, askTitle}
@@ -69,9 +69,16 @@ pub record RowOrder : Type 0 where
   collect-14 : stopped (collectRows 1 1 nothing 0) ≡ 14
   collect-13 : stopped (collectRows 1 1 (byNumbers (7 ∷ 7 ∷ [])) 159) ≡ 13
   collect-passes : stopped (collectRows 1 1 (byNumbers (7 ∷ 7 ∷ [])) 160) ≡ 0
+  move-3 : stopped (moveRows 17 0 (byTitle topHourA) 2 3) ≡ 3
+  move-unused : stopped (moveRows 1 0 nothing 2 1) ≡ 3
+  move-nowhere : stopped (moveRows 1 1 (byTitle topHourA) 2 3) ≡ 3
+  move-to-0 : stopped (moveRows 1 1 nothing 2 0) ≡ 3
+  move-4 : stopped (moveRows 1 1 (byTitle topHourA) 2 2) ≡ 4
+  move-passes : stopped (moveRows 1 1 nothing 2 2) ≡ 0
+  move-here : stopped (moveRows 16 2 nothing 2 2) ≡ 0
 
 pub row-order : RowOrder
-unfolding A B none one zeros u16 u32 u16Bytes u16s within all every any allZero parts cartAt printable titleForm hasTitle noTitle hasAudio noAudio held operationFields operationForm spaced operationsOf made meetsCart effect actedOn meets act meetsAll u32Bytes operation newCart topHourA news noRoom numbersIn requestOf numbersForm requestFields requestForm isWaiting needed stopped setupRows sessionRow studioRow sizeForm commitRows sendRows refreshRows readRows collectRows filled pairs askNumbers askTitle
+unfolding A B none one zeros u16 u32 u16Bytes u16s within all every any allZero parts cartAt printable titleForm hasTitle noTitle hasAudio noAudio held operationFields operationForm spaced operationsOf made meetsCart effect actedOn meets act meetsAll u32Bytes operation newCart topHourA news noRoom numbersIn requestOf numbersForm requestFields requestForm isWaiting needed stopped setupRows sessionRow studioRow sizeForm commitRows sendRows refreshRows readRows collectRows moveRows filled pairs askNumbers askTitle
 row-order = record {
   setup-studios = refl;
   setup-none = refl;
@@ -109,6 +116,13 @@ row-order = record {
   collect-14 = refl;
   collect-13 = refl;
   collect-passes = refl;
+  move-3 = refl;
+  move-unused = refl;
+  move-nowhere = refl;
+  move-to-0 = refl;
+  move-4 = refl;
+  move-passes = refl;
+  move-here = refl;
 }
 
 -- control of two studios with session 1 at studio 1, 3 commits
