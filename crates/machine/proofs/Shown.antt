@@ -26,6 +26,16 @@ use Rattle.machine.proofs.Cases.{stateFor, block-case}
 use Rattle.machine.proofs.Sound.{Sound, applied-commits}
 use Rattle.machine.proofs.Kept.{number-after}
 
+-- no other answer is one with a state
+pub refuses : {n k found : ℕ} {A : Type 0} → refused n ≡ answered k found → A
+refuses e = let z : _≡_ {A = ℕ} 0 1 = cc in absurd (omega arith)
+
+pub counts : {n k found : ℕ} {A : Type 0} → done n ≡ answered k found → A
+counts e = let z : _≡_ {A = ℕ} 0 1 = cc in absurd (omega arith)
+
+pub holds-back : {n k found : ℕ} {A : Type 0} → waits n ≡ answered k found → A
+holds-back e = let z : _≡_ {A = ℕ} 0 1 = cc in absurd (omega arith)
+
 -- a call x that left r, answered with state k and found
 pub record Shown (m : Machine) (x : Call.Call) (k found : ℕ) (r : Step) : Type 0 where
   pub known : k ≤ commits m
@@ -40,16 +50,6 @@ pub record Shown (m : Machine) (x : Call.Call) (k found : ℕ) (r : Step) : Type
 module _ (m : Machine) (f : Sound m) (k found : ℕ) where
   abbrev Shows : Call.Call → Step → Type 0
   Shows x r = r .answer ≡ answered k found → Shown m x k found r
-
-  -- no other answer is that one
-  refuses : {n : ℕ} {A : Type 0} → refused n ≡ answered k found → A
-  refuses e = let z : _≡_ {A = ℕ} 0 1 = cc in absurd (omega arith)
-
-  counts : {n : ℕ} {A : Type 0} → done n ≡ answered k found → A
-  counts e = let z : _≡_ {A = ℕ} 0 1 = cc in absurd (omega arith)
-
-  holds-back : {n : ℕ} {A : Type 0} → waits n ≡ answered k found → A
-  holds-back e = let z : _≡_ {A = ℕ} 0 1 = cc in absurd (omega arith)
 
   -- a session that row 3 does not stop, and what it may ask
   module _ (x : Call.Call) (out : List ℕ) (w : KnownSession (asker x) (sessionOf m (asker x) .studio)) (a : Askable (asked m x)) where

@@ -8,7 +8,7 @@ use lib.ListN.{length}
 use lib.Seq.{getD-set-same, set-getD}
 use Rattle.carts.specs.Bytes.{zeros}
 use Rattle.carts.proofs.TestLaws.{by-cond}
-use Rattle.replication.specs.Answer.{refused, done, waits, answered}
+use Rattle.replication.specs.Answer.{done, waits, answered}
 use Rattle.replication.specs.Memory.{Memory, copyAt, sessionAt, sequenceOf, nth, studioOf}
 use Rattle.replication.specs.Request.{Request, requestOf}
 use Rattle.replication.specs.Rows.{moveStop, readStop, collectStop}
@@ -23,6 +23,7 @@ use Rattle.replication.proofs.DecideLaws.{KnownSession, accepted}
 use Rattle.replication.proofs.Accepted.{read-passed, collect-passed, move-passed}
 use Rattle.machine.specs.OneCopy.{kindOf}
 use Rattle.machine.specs.Asked.{askerBy, asker}
+use Rattle.machine.proofs.Shown.{refuses, counts, holds-back}
 use Rattle.refinement.specs.Represents.{OfLayout}
 use Rattle.refinement.proofs.Sessions.{SessionBytes, empty-bytes, own-bytes, own-sequence, same, sequence-set}
 use Rattle.refinement.proofs.Arrays.{Arrays, arrays}
@@ -44,15 +45,6 @@ module _ (c : Control) (m : Memory) (s i : ℕ) where
 module _ (c : Control) (m : Memory) (k found : ℕ) where
   abbrev Raised : ℕ → After → Type 0
   Raised s r = r .answer ≡ answered k found → sequenceOf (sessionAt (r .memory .sessions) s) ≡ max (sequenceOf (sessionAt (m .sessions) s)) k
-
-  refuses : {n : ℕ} {A : Type 0} → refused n ≡ answered k found → A
-  refuses e = let z : _≡_ {A = ℕ} 0 1 = cc in absurd (omega arith)
-
-  counts : {n : ℕ} {A : Type 0} → done n ≡ answered k found → A
-  counts e = let z : _≡_ {A = ℕ} 0 1 = cc in absurd (omega arith)
-
-  holds-back : {n : ℕ} {A : Type 0} → waits n ≡ answered k found → A
-  holds-back e = let z : _≡_ {A = ℕ} 0 1 = cc in absurd (omega arith)
 
   module _ (s : ℕ) (f : Formed c m) (w : KnownSession s (studioOf c s)) (q : Request) (x : List ℕ) (b : SessionBytes x) (out : List ℕ) where
     answer-raises : (state : ℕ) (copy : List ℕ) (n : ℕ) → n ≡ max (sequenceOf (sessionAt (m .sessions) s)) state → Raised s (Bytes.answerFrom state copy q c m s n x out)
