@@ -1,21 +1,22 @@
 -- 02, S-7, on bytes: what a move leaves, the number after an answered read, and the reads of a session that has moved.
 use mathlib.Core.Path.{_≡_, refl, sym, ap, _∙_}
 use mathlib.Core.List.{List, []}
-use Prim.Native.Nat.{ℕ, _-_, _<_, max}
+use Prim.Native.Nat.{ℕ, _-_, _≤_, _<_, max}
 use native.Mathlib.Omega.{arith}
 use lib.Dec.{leb}
 use lib.ListN.{length}
 use lib.Seq.{getD-set-same, set-getD}
+use borrow.Author.Tests.{le-leb}
 use Rattle.carts.specs.Bytes.{zeros}
 use Rattle.carts.proofs.TestLaws.{by-cond}
 use Rattle.replication.specs.Answer.{done, waits, answered}
 use Rattle.replication.specs.Memory.{Memory, copyAt, sessionAt, sequenceOf, nth, studioOf}
-use Rattle.replication.specs.Request.{Request, requestOf}
-use Rattle.replication.specs.Rows.{moveStop, readStop, collectStop}
+use Rattle.replication.specs.Request.{Request, requestOf, foundIn}
+use Rattle.replication.specs.Rows.{unless, moveStop, readStop, collectStop}
 use Rattle.replication.specs.Call as Call
 use Rattle.replication.specs.Call.{Call}
 use Rattle.replication.specs.Calls as Bytes
-use Rattle.replication.specs.Calls.{After, after, numberAfter, withStudio}
+use Rattle.replication.specs.Calls.{After, after, Rule, numberAfter, numberKept, withStudio}
 use Rattle.replication.specs.declared.control.Control.{Control}
 use Rattle.replication.proofs.Formed.{Formed}
 use Rattle.replication.proofs.RowLaws.{unless-case, unless-accepted}
@@ -102,3 +103,38 @@ pub shown-moved-waits : (c : Control) (m : Memory) → OfLayout c m → (k found
     → Bytes.read (r .control) (r .memory) (asker x) request out .answer ≡ waits (max (sequenceOf (sessionAt (m .sessions) (asker x))) k)
 shown-moved-waits c m h k found x answer i moves u =
     moved-waits _ _ (asker x) i _ (arrays _ _ (keeps-layout c m h x)) moves (call-raises c m k found x answer) (omega arith)
+
+-- by the rule of before a read leaves control and the session's number as they were
+kept-leaves : (c : Control) (m : Memory) (s : ℕ) (request out : List ℕ) (k found : ℕ) → let t = Bytes.readBy numberKept c m s request out in
+    t .answer ≡ answered k found → (t .control ≡ c) × (sequenceOf (sessionAt (t .memory .sessions) s) ≡ sequenceOf (sessionAt (m .sessions) s))
+unfolding Bytes.readBy Bytes.blockBy Bytes.answerFrom numberKept readStop
+kept-leaves c m s request out k found = unless-case Kept _ _ _ (λ n e. refuses) (λ e.
+    let (f, rows) = accepted c m _ e in
+    let w = read-passed _ _ _ _ _ rows .who in
+    let own = own-bytes c (m .sessions) (f .sessions) s w in
+    by-cond Kept (leb (sequenceOf (sessionAt (m .sessions) s)) (nth (c .applied) (studioOf c s))) _ _
+    (λ _ _. (refl, rw (same c (m .sessions) (f .sessions .size) s w _ _ own) (sequence-set _ _ (omega (arith, own .size))))) (λ _. holds-back))
+  where
+    Kept : After → Type 0
+    Kept r = r .answer ≡ answered k found → (r .control ≡ c) × (sequenceOf (sessionAt (r .memory .sessions) s) ≡ sequenceOf (sessionAt (m .sessions) s))
+
+-- a read that no row stops, of a session whose number its studio has reached
+answers-now : (rule : Rule) (c : Control) (m : Memory) (s : ℕ) (request out : List ℕ) (state : ℕ) → nth (c .applied) (studioOf c s) ≡ state → sequenceOf (sessionAt (m .sessions) s) ≤ state
+    → readStop c m s request (length out) ≡ 0 → Bytes.readBy rule c m s request out .answer ≡ answered state (foundIn (copyAt (m .library) (studioOf c s)) (requestOf request))
+unfolding Bytes.readBy Bytes.blockBy Bytes.answerFrom unless
+answers-now rule c m s request out state e u passes = rw (passes, e, le-leb (sequenceOf (sessionAt (m .sessions) s)) state u)
+
+-- so after a move to a studio that has reached that number, a read that no row stops is answered there, whatever the session was shown before
+pub kept-walks-back : (c : Control) (m : Memory) → OfLayout c m → (s : ℕ) (request out : List ℕ) (k found : ℕ) → let t = Bytes.readBy numberKept c m s request out in
+    t .answer ≡ answered k found → (i : ℕ) → moveStop (t .control) (t .memory) s i ≡ 0 → sequenceOf (sessionAt (m .sessions) s) ≤ nth (c .applied) i
+    → let r = Bytes.move (t .control) (t .memory) s i in
+    (next lent : List ℕ) → readStop (r .control) (r .memory) s next (length lent) ≡ 0
+    → (j : ℕ) × (Bytes.readBy numberKept (r .control) (r .memory) s next lent .answer ≡ answered (nth (c .applied) i) j)
+kept-walks-back c m h s request out k found answer i moves u =
+    let t : After = Bytes.readBy numberKept c m s request out in
+    let (control, number) = kept-leaves c m s request out k found answer in
+    let a : Arrays (t .control) = rw control (arrays c m h) in
+    let state : nth (withStudio (t .control) s i .applied) (studioOf (withStudio (t .control) s i) s) ≡ nth (c .applied) i =
+    there (t .control) (t .memory) s i a moves ∙ ap (λ (c : Control). nth (c .applied) i) control in
+    rw (move-leaves (t .control) (t .memory) s i moves)
+    (λ next lent passes. (_, answers-now numberKept (withStudio (t .control) s i) (t .memory) s next lent (nth (c .applied) i) state (rw number u) passes))

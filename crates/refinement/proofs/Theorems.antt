@@ -17,7 +17,7 @@ use Rattle.replication.specs.Rows.{row, stopped, memoryRows, sessionRow, sizeFo
 use Rattle.replication.specs.Call as Call
 use Rattle.replication.specs.Call.{Call}
 use Rattle.replication.specs.Calls as Bytes
-use Rattle.replication.specs.Calls.{After, after, withSessions, withStudio, controlOf, setup, afterCalls}
+use Rattle.replication.specs.Calls.{After, after, withSessions, numberKept, withStudio, controlOf, setup, afterCalls}
 use Rattle.replication.specs.declared.control.Control.{Control}
 use Rattle.machine.specs.Machine as Plain
 use Rattle.machine.specs.Machine.{Machine, Step}
@@ -202,6 +202,16 @@ pub moved-waits : (c : Control) (m : Memory) → OfLayout c m → (x : Call) (k 
     → Bytes.call (there .control) (there .memory) (Call.read (asker x) request out) .answer ≡ waits (max (sequenceOf (sessionAt (m .sessions) (asker x))) k)
 unfolding Bytes.callBy
 moved-waits c m h x k found answer = Moved.shown-moved-waits c m h k found x answer
+
+-- By the rule of before (`numberKept`), from any control and memory of the layout, whoever was shown state k by a read and moves to a studio that has reached the
+-- session's number is not made to wait: a read straight afterwards that no row stops is answered with what that studio has applied, also where that is fewer than k.
+pub kept-walks-back : (c : Control) (m : Memory) → OfLayout c m → (s : ℕ) (request out : List ℕ) (k found : ℕ) → let shown = Bytes.callBy numberKept c m (Call.read s request out) in
+    shown .answer ≡ answered k found → (i : ℕ) → moveStop (shown .control) (shown .memory) s i ≡ 0 → sequenceOf (sessionAt (m .sessions) s) ≤ nth (c .applied) i
+    → let there = Bytes.callBy numberKept (shown .control) (shown .memory) (Call.move s i) in
+    (next lent : List ℕ) → readStop (there .control) (there .memory) s next (length lent) ≡ 0
+    → (j : ℕ) × (Bytes.callBy numberKept (there .control) (there .memory) (Call.read s next lent) .answer ≡ answered (nth (c .applied) i) j)
+unfolding Bytes.callBy
+kept-walks-back = Moved.kept-walks-back
 
 -- "In a list without moves every answer is the same as it was", by the rule of before (`numberKept`), from any control and memory of the layout: every answer and
 -- every output; and the list leaves the same but for the sessions' numbers.
