@@ -24,7 +24,7 @@ use Rattle.report.specs.declared.turn.Came.the-variants as Came
 use Rattle.lines.specs.Text.{partIn}
 use Rattle.journal.specs.Progress.{requestIn}
 use Rattle.lines.specs.declared.parse.Call.{Call}
-use Rattle.calls.specs.Make.{Told, setUp, committed, previewed, moved, looked, shown, unread, nothing, unwritten, received, told, Made, made, leaves, outputIn, leavesIn, askLeaves, readOrForward, readLeaves, collectLeaves, Left, beside, copyAfter, setupLeaves, Delivery, delivery, delivered, vanLeaves, lineLeaves}
+use Rattle.calls.specs.Make.{Told, setUp, committed, previewed, sentOrRefreshed, looked, shown, unread, nothing, unwritten, received, told, Made, made, leaves, outputIn, leavesIn, askLeaves, readOrForward, readLeaves, collectLeaves, Left, beside, copyAfter, setupLeaves, Delivery, delivery, delivered, vanLeaves, lineLeaves}
 
 -- the code's case for an answer that it can give
 setupBy : Answer → SetupAnswer
@@ -60,7 +60,7 @@ cameBy : Told → Came
 cameBy (setUp a studios) = Came.Setup (setupBy a) studios
 cameBy (committed a session operations) = Came.Commit (countBy a) session operations
 cameBy (previewed a session operations) = Came.Preview (countBy a) session operations
-cameBy (moved a studio sends) = Came.Moved (countBy a) studio sends
+cameBy (sentOrRefreshed a studio sends) = Came.SendOrRefresh (countBy a) studio sends
 cameBy (looked a session) = Came.Read (readBy a) session
 cameBy shown = Came.Show
 cameBy (unread mistake at) = Came.Unreadable mistake at
@@ -83,8 +83,8 @@ told-back (Came.Commit (Count.Number n) session operations) = refl
 told-back (Came.Commit (Count.Refused n) session operations) = refl
 told-back (Came.Preview (Count.Number n) session operations) = refl
 told-back (Came.Preview (Count.Refused n) session operations) = refl
-told-back (Came.Moved (Count.Number n) studio sends) = refl
-told-back (Came.Moved (Count.Refused n) studio sends) = refl
+told-back (Came.SendOrRefresh (Count.Number n) studio sends) = refl
+told-back (Came.SendOrRefresh (Count.Refused n) studio sends) = refl
 told-back (Came.Read (Read.Answered state found) session) = refl
 told-back (Came.Read (Read.Waits n) session) = refl
 told-back (Came.Read (Read.Refused n) session) = refl

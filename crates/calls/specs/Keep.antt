@@ -3,7 +3,7 @@ use mathlib.Core.List.{List}
 use Prim.Native.Nat.{ℕ, _*_}
 use Rattle.replication.specs.Memory.{recordSize}
 use Rattle.lines.specs.Text.{partIn}
-use Rattle.journal.specs.Progress.{Kept, kept, stepped, afterSetup, afterMove, afterCommit, afterRead, afterReceive}
+use Rattle.journal.specs.Progress.{Kept, kept, stepped, afterSetup, afterCount, afterCommit, afterRead, afterReceive}
 use Rattle.journal.specs.declared.progress.Progress.{Progress}
 use Rattle.journal.specs.declared.progress.Outcome.the-variants as Outcome
 use Rattle.report.specs.declared.turn.Came.{Came}
@@ -16,11 +16,11 @@ use Rattle.replication.specs.declared.answer.CountAnswer.the-variants as Count
 unfoldable pub cameKept : Progress → Came → Control → List ℕ → List ℕ → List ℕ → List ℕ → Kept
 cameKept p (Came.Setup a studios) c payload block cells store = kept cells store (afterSetup p c a)
 cameKept p (Came.Commit a s n) c payload block cells store = afterCommit p c a s (partIn payload 0 (recordSize * n)) cells store
-cameKept p (Came.Preview a s n) c payload block cells store = kept cells store (afterMove p c a)
-cameKept p (Came.Moved a i sends) c payload block cells store = kept cells store (afterMove p c a)
+cameKept p (Came.Preview a s n) c payload block cells store = kept cells store (afterCount p c a)
+cameKept p (Came.SendOrRefresh a i sends) c payload block cells store = kept cells store (afterCount p c a)
 cameKept p (Came.Read a s) c payload block cells store = afterRead p c a s block cells store
 cameKept p Came.Show c payload block cells store = kept cells store p
 cameKept p (Came.Unreadable mistake at) c payload block cells store = kept cells store (stepped p (p .control) (p .history) Outcome.Unreadable)
 cameKept p Came.Nothing c payload block cells store = kept cells store p
-cameKept p (Came.Unwritten row edit) c payload block cells store = kept cells store (afterMove p c (Count.Refused row))
+cameKept p (Came.Unwritten row edit) c payload block cells store = kept cells store (afterCount p c (Count.Refused row))
 cameKept p (Came.Received result edit) c payload block cells store = kept cells store (afterReceive p c (result .applied) (result .answer))

@@ -26,7 +26,7 @@ pub data Told : Type 0 where
   setUp : Answer → ℕ → Told
   committed : Answer → ℕ → ℕ → Told
   previewed : Answer → ℕ → ℕ → Told
-  moved : Answer → ℕ → Bool → Told
+  sentOrRefreshed : Answer → ℕ → Bool → Told
   looked : Answer → ℕ → Told
   shown : Told
   unread : Mistake → ℕ → Told
@@ -39,7 +39,7 @@ abbrev pub told : Came → Told
 told (Came.Setup a studios) = setUp (setupAnswer a) studios
 told (Came.Commit a session operations) = committed (countAnswer a) session operations
 told (Came.Preview a session operations) = previewed (countAnswer a) session operations
-told (Came.Moved a studio sends) = moved (countAnswer a) studio sends
+told (Came.SendOrRefresh a studio sends) = sentOrRefreshed (countAnswer a) studio sends
 told (Came.Read a session) = looked (readAnswer a) session
 told Came.Show = shown
 told (Came.Unreadable mistake at) = unread mistake at
@@ -136,8 +136,8 @@ unfoldable pub lineLeaves : Control → Memory → Van → List ℕ → Call →
 lineLeaves c m v store (Call.Setup studios) payload block = setupLeaves m (v .copy) studios (partIn payload 0 sessionCount) block
 lineLeaves c m v store (Call.Commit s n) payload block = beside (v .copy) (leaves (λ a. committed a s n) (commit c m s (partIn payload 0 (recordSize * n))) block)
 lineLeaves c m v store (Call.Preview s n) payload block = beside (v .copy) (leaves (λ a. previewed a s n) (preview c m s (partIn payload 0 (recordSize * n))) block)
-lineLeaves c m v store (Call.Send i) payload block = beside (v .copy) (leaves (λ a. moved a i true) (send c m i) block)
-lineLeaves c m v store (Call.Refresh i) payload block = beside (v .copy) (leaves (λ a. moved a i false) (refresh c m i) block)
+lineLeaves c m v store (Call.Send i) payload block = beside (v .copy) (leaves (λ a. sentOrRefreshed a i true) (send c m i) block)
+lineLeaves c m v store (Call.Refresh i) payload block = beside (v .copy) (leaves (λ a. sentOrRefreshed a i false) (refresh c m i) block)
 lineLeaves c m v store (Call.Read s forwards) payload block = beside (v .copy) (readLeaves c m s forwards (partIn payload 0 sessionSize) block)
 lineLeaves c m v store (Call.Collect s) payload block = beside (v .copy) (collectLeaves c m s store block)
 lineLeaves c m v store Call.Show payload block = beside (v .copy) (made shown c m block)

@@ -38,8 +38,8 @@ pub fn keep(
             let result = CountResult { answer, control };
             p.after_commit(result, cells, store, session, ops)
         }
-        Came::Preview(answer, _, _) => p.after_move(CountResult { answer, control }),
-        Came::Moved(answer, _, _) => p.after_move(CountResult { answer, control }),
+        Came::Preview(answer, _, _) => p.after_count(CountResult { answer, control }),
+        Came::SendOrRefresh(answer, _, _) => p.after_count(CountResult { answer, control }),
         Came::Read(answer, session) => {
             let result = ReadResult { answer, control };
             p.after_read(result, cells, store, session, block)
@@ -49,7 +49,7 @@ pub fn keep(
         Came::Nothing => p,
         Came::Unwritten(row, _) => {
             let answer = CountAnswer::Refused(row);
-            p.after_move(CountResult { answer, control })
+            p.after_count(CountResult { answer, control })
         }
         Came::Received(result, _) => p.after_receive(control, result),
     }

@@ -31,7 +31,7 @@ ghost use Rattle.replication.specs.Calls.{after, commit, preview, send, refresh
 ghost use Rattle.van.specs.Receive.{van};
 ghost use Rattle.lines.specs.Text.{partIn};
 ghost use Rattle.journal.specs.History.{mostBytes};
-ghost use Rattle.calls.specs.Make.{committed, previewed, moved, told, made, leaves, readOrForward, readLeaves, collectLeaves, beside, setupLeaves, lineLeaves};
+ghost use Rattle.calls.specs.Make.{committed, previewed, sentOrRefreshed, told, made, leaves, readOrForward, readLeaves, collectLeaves, beside, setupLeaves, lineLeaves};
 
 // A setup, with the studios of its sessions at the start of the payload, and the van beside it.
 fn make_setup(
@@ -106,13 +106,13 @@ fn make_preview(
 // A send. Memory is only read.
 fn make_send(control: Control, library: &[u8], log: &[u8], sessions: &[u8], studio: u32) -> Turn
     ensures { λ r. ⌜ made (told (r .came)) (r .control) (memory (now (library .entry)) (now (log .entry)) (now (sessions .entry))) []
-        ≡ leaves (λ a. moved a studio true) (send control (memory (now (library .entry)) (now (log .entry)) (now (sessions .entry))) studio) [] ⌝ }
+        ≡ leaves (λ a. sentOrRefreshed a studio true) (send control (memory (now (library .entry)) (now (log .entry)) (now (sessions .entry))) studio) [] ⌝ }
 {
     let result = send(control, library, log, sessions, studio);
     let answer = result.answer;
     let control = result.control;
     Turn {
-        came: Came::Moved(answer, studio, true),
+        came: Came::SendOrRefresh(answer, studio, true),
         control,
     }
 }
@@ -126,13 +126,13 @@ fn make_refresh(
     studio: u32,
 ) -> Turn
     ensures { λ r. ⌜ made (told (r .came)) (r .control) (memory (now (library .exit)) (now (log .entry)) (now (sessions .entry))) []
-        ≡ leaves (λ a. moved a studio false) (refresh control (memory (now (library .entry)) (now (log .entry)) (now (sessions .entry))) studio) [] ⌝ }
+        ≡ leaves (λ a. sentOrRefreshed a studio false) (refresh control (memory (now (library .entry)) (now (log .entry)) (now (sessions .entry))) studio) [] ⌝ }
 {
     let result = refresh(control, library, log, sessions, studio);
     let answer = result.answer;
     let control = result.control;
     Turn {
-        came: Came::Moved(answer, studio, false),
+        came: Came::SendOrRefresh(answer, studio, false),
         control,
     }
 }

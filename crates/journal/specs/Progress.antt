@@ -83,9 +83,9 @@ afterSetup p control Setup.Ready = withVan (stepped p control emptyHistory Accep
 afterSetup p control (Setup.Refused n) = stepped p (p .control) (p .history) Refused
 
 -- a call without an entry: a send, a refresh, a preview, or a message that could not be written
-unfoldable pub afterMove : Progress → Control → CountAnswer → Progress
-afterMove p control (Count.Number n) = stepped p control (p .history) Accepted
-afterMove p control (Count.Refused n) = stepped p control (p .history) Refused
+unfoldable pub afterCount : Progress → Control → CountAnswer → Progress
+afterCount p control (Count.Number n) = stepped p control (p .history) Accepted
+afterCount p control (Count.Refused n) = stepped p control (p .history) Refused
 
 -- a commit: accepted, it is an entry with its number and its operations; "refused with 8", it "becomes an entry of the one-copy order, answered by a
 -- library of that many commits" (02, S-3): its number is the commits of the control that the call handed back

@@ -18,7 +18,7 @@ ghost use Prim.Native.Nat.{_*_, _<_, _≤_};
 ghost use lib.ListN.{length};
 ghost use Rattle.journal.specs.History.{slotSize};
 ghost use Rattle.journal.specs.declared.progress.Outcome.the-variants.{Unreadable};
-ghost use Rattle.journal.specs.Progress.{oneMore, counted, start, compared, nextLine, stepped, withVan, kept, entryOf, withEntry, afterSetup, afterMove, afterCommit, placesOf, afterRead, afterReceive, requestIn};
+ghost use Rattle.journal.specs.Progress.{oneMore, counted, start, compared, nextLine, stepped, withVan, kept, entryOf, withEntry, afterSetup, afterCount, afterCommit, placesOf, afterRead, afterReceive, requestIn};
 
 // What came of a line: a call was accepted, waits or was refused, or the line could not be read.
 pub enum Outcome {
@@ -197,8 +197,8 @@ impl Progress {
     }
 
     // A call without an entry was answered: a send, a refresh, a preview, or a message that could not be written.
-    pub fn after_move(self, result: CountResult) -> Progress
-        ensures { λ r. ⌜ (r ≡ afterMove self (result .control) (result .answer)) × (r .history .entries ≤ self .history .entries) ⌝ }
+    pub fn after_count(self, result: CountResult) -> Progress
+        ensures { λ r. ⌜ (r ≡ afterCount self (result .control) (result .answer)) × (r .history .entries ≤ self .history .entries) ⌝ }
     {
         let answer = result.answer;
         let control = result.control;

@@ -112,7 +112,7 @@ pub fn edited(previews: bool, answer: CountAnswer, library: &[u8], session: u32,
 }
 
 // What became of an edit at a studio: it was sent there, or applied.
-fn moved_edit(edit: u32, studio: u32, is_sent: bool) {
+fn edit_at_studio(edit: u32, studio: u32, is_sent: bool) {
     let mut page = io::buffer();
     if is_sent {
         let n = words::answer::sent(&mut page, edit, studio);
@@ -124,9 +124,9 @@ fn moved_edit(edit: u32, studio: u32, is_sent: bool) {
 }
 
 // What a send or a refresh answered.
-pub fn moved(answer: CountAnswer, studio: u32, is_sent: bool) {
+pub fn send_or_refresh(answer: CountAnswer, studio: u32, is_sent: bool) {
     match answer {
-        CountAnswer::Number(edit) => moved_edit(edit, studio, is_sent),
+        CountAnswer::Number(edit) => edit_at_studio(edit, studio, is_sent),
         CountAnswer::Refused(row) => refusals::print::refusal_of_studio(row, studio),
     }
 }

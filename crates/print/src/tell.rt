@@ -83,7 +83,9 @@ pub fn tell(
         Came::Preview(answer, session, operations) => {
             tell_edit(true, answer, library, session, operations, payload);
         }
-        Came::Moved(answer, studio, is_sent) => answer::moved(answer, studio, is_sent),
+        Came::SendOrRefresh(answer, studio, is_sent) => {
+            answer::send_or_refresh(answer, studio, is_sent);
+        }
         _ => tell_other(before, came, library, sessions, copy, block),
     }
     true

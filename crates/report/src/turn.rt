@@ -13,7 +13,7 @@ pub enum Came {
     Setup(SetupAnswer, u32),
     Commit(CountAnswer, u32, u32),
     Preview(CountAnswer, u32, u32),
-    Moved(CountAnswer, u32, bool),
+    SendOrRefresh(CountAnswer, u32, bool),
     Read(ReadAnswer, u32),
     Show,
     Unreadable(Mistake, usize),

@@ -50,7 +50,7 @@ pub fn previewed(out: &mut [u8], n: u32) -> usize
 }
 
 // What became of an edit at a studio.
-fn moved(out: &mut [u8], n: u32, what: &[u8], studio: u32) -> usize
+fn edit_at_studio(out: &mut [u8], n: u32, what: &[u8], studio: u32) -> usize
     requires { ⌜ (length (now out) ≡ pageSize) × (length (now what) ≤ 64) ⌝ }
     ensures { λ r. ⌜ Told (numbered "  edit " n ++ (now (what .entry) ++ decimal studio) ++ bytesOf "\n") (now (out .entry)) (now (out .exit)) r ⌝ }
 {
@@ -63,7 +63,7 @@ pub fn sent(out: &mut [u8], n: u32, studio: u32) -> usize
     requires { ⌜ length (now out) ≡ pageSize ⌝ }
     ensures { λ r. ⌜ Told (sentText n studio) (now (out .entry)) (now (out .exit)) r ⌝ }
 {
-    moved(out, n, b" is sent to studio ", studio)
+    edit_at_studio(out, n, b" is sent to studio ", studio)
 }
 
 // A refresh was accepted.
@@ -71,7 +71,7 @@ pub fn applied(out: &mut [u8], n: u32, studio: u32) -> usize
     requires { ⌜ length (now out) ≡ pageSize ⌝ }
     ensures { λ r. ⌜ Told (appliedText n studio) (now (out .entry)) (now (out .exit)) r ⌝ }
 {
-    moved(out, n, b" is applied by studio ", studio)
+    edit_at_studio(out, n, b" is applied by studio ", studio)
 }
 
 // How many edits a copy that applied so many is behind the head end.

@@ -31,14 +31,14 @@ after-commit-requires c κs = search needs
 enum-known-came-3 : tie.Need-enum-known-came-3
 enum-known-came-3 c = search needs
 
-after-move-requires : tie.Need-after-move-requires
-after-move-requires c κs = search needs
+after-count-requires : tie.Need-after-count-requires
+after-count-requires c κs = search needs
 
 enum-known-came-4 : tie.Need-enum-known-came-4
 enum-known-came-4 c = search needs
 
-after-move-requires-2 : tie.Need-after-move-requires-2
-after-move-requires-2 c κs = search needs
+after-count-requires-2 : tie.Need-after-count-requires-2
+after-count-requires-2 c κs = search needs
 
 enum-known-came-5 : tie.Need-enum-known-came-5
 enum-known-came-5 c = search needs
@@ -61,8 +61,8 @@ enum-told-3 c = search needs
 enum-known-came-6 : tie.Need-enum-known-came-6
 enum-known-came-6 c = search needs
 
-after-move-requires-3 : tie.Need-after-move-requires-3
-after-move-requires-3 c κs = search needs
+after-count-requires-3 : tie.Need-after-count-requires-3
+after-count-requires-3 c κs = search needs
 
 enum-known-came-7 : tie.Need-enum-known-came-7
 enum-known-came-7 c = search needs
@@ -96,12 +96,12 @@ returns-2 c = let called = c .before .before .before .before in
 returns-3 : tie.Need-returns-3
 unfolding cameKept
 returns-3 c = let s = c .before .before .before .before .before .before .before .before .before in
-    (by-came _ _ _ _ _ _ (c .before .before .came3 .given .1) (same-entries (s .args .cells .now) (s .args .store .now) (c .after-move .ensures .0)), omega (arith, c .after-move .ensures .1, s .pre .1))
+    (by-came _ _ _ _ _ _ (c .before .before .came3 .given .1) (same-entries (s .args .cells .now) (s .args .store .now) (c .after-count .ensures .0)), omega (arith, c .after-count .ensures .1, s .pre .1))
 
 returns-4 : tie.Need-returns-4
 unfolding cameKept
 returns-4 c = let s = c .before .before .before .before .before .before .before .before .before in
-    (by-came _ _ _ _ _ _ (c .before .before .came4 .given .1) (same-entries (s .args .cells .now) (s .args .store .now) (c .after-move2 .ensures .0)), omega (arith, c .after-move2 .ensures .1, s .pre .1))
+    (by-came _ _ _ _ _ _ (c .before .before .came4 .given .1) (same-entries (s .args .cells .now) (s .args .store .now) (c .after-count2 .ensures .0)), omega (arith, c .after-count2 .ensures .1, s .pre .1))
 
 same-length-3 : tie.Need-same-length-3
 same-length-3 c = search needs
@@ -133,7 +133,7 @@ returns-8 c = let s = c .before .before .before .before .before .before .before 
 returns-9 : tie.Need-returns-9
 unfolding cameKept
 returns-9 c = let s = c .before .before .before .before .before .before .before .before .before in
-    (by-came _ _ _ _ _ _ (c .before .before .came6 .given .1) (same-entries (s .args .cells .now) (s .args .store .now) (c .after-move3 .ensures .0)), omega (arith, c .after-move3 .ensures .1, s .pre .1))
+    (by-came _ _ _ _ _ _ (c .before .before .came6 .given .1) (same-entries (s .args .cells .now) (s .args .store .now) (c .after-count3 .ensures .0)), omega (arith, c .after-count3 .ensures .1, s .pre .1))
 
 returns-10 : tie.Need-returns-10
 unfolding cameKept
@@ -152,9 +152,9 @@ keep-spec =
     part-of-requires
     after-commit-requires
     enum-known-came-3
-    after-move-requires
+    after-count-requires
     enum-known-came-4
-    after-move-requires-2
+    after-count-requires-2
     enum-known-came-5
     after-read-requires
     enum-told
@@ -162,7 +162,7 @@ keep-spec =
     enum-told-2
     enum-told-3
     enum-known-came-6
-    after-move-requires-3
+    after-count-requires-3
     enum-known-came-7
     after-receive-requires
     returns

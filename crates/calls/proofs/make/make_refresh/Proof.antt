@@ -1,5 +1,5 @@
 use mathlib.Core.Bool.{false}
-use Rattle.calls.specs.Make.{moved}
+use Rattle.calls.specs.Make.{sentOrRefreshed}
 use Rattle.calls.proofs.MakeLaws.{told-by}
 use borrow.Author.Needs.{needs}
 use Rattle.calls.proofs.make.make_refresh.Statement.{statement}
@@ -14,7 +14,7 @@ same-length c = search needs
 returns : tie.Need-returns
 returns c = let called = c .before .before .before in
     let start = called .before .before .before .before .before in
-    told-by (λ a. moved a (start .args .studio) false) (called .refresh .ensures)
+    told-by (λ a. sentOrRefreshed a (start .args .studio) false) (called .refresh .ensures)
 
 pub make-refresh-spec : {M : Type 1} → statement M
 make-refresh-spec = tie.close (tie.spec refresh-requires same-length returns)

@@ -1,5 +1,5 @@
 use mathlib.Core.Bool.{true}
-use Rattle.calls.specs.Make.{moved}
+use Rattle.calls.specs.Make.{sentOrRefreshed}
 use Rattle.calls.proofs.MakeLaws.{told-by}
 use borrow.Author.Needs.{needs}
 use Rattle.calls.proofs.make.make_send.Statement.{statement}
@@ -9,7 +9,7 @@ send-requires : tie.Need-send-requires
 send-requires c κs = search needs
 
 returns : tie.Need-returns
-returns c = told-by (λ a. moved a (c .before .before .before .before .before .args .studio) true) (c .before .send .ensures)
+returns c = told-by (λ a. sentOrRefreshed a (c .before .before .before .before .before .args .studio) true) (c .before .send .ensures)
 
 pub make-send-spec : {M : Type 1} → statement M
 make-send-spec = tie.close (tie.spec send-requires returns)

@@ -1,9 +1,9 @@
-use Rattle.journal.specs.Progress.{stepped, afterMove}
+use Rattle.journal.specs.Progress.{stepped, afterCount}
 use mathlib.Core.Path.{refl}
 use native.Mathlib.Omega.{arith}
 use borrow.Author.Needs.{needs}
-use Rattle.journal.proofs.progress.Progress.after_move.Statement.{statement}
-use Rattle.journal.proofs.progress.Progress.after_move.Tie as tie
+use Rattle.journal.proofs.progress.Progress.after_count.Statement.{statement}
+use Rattle.journal.proofs.progress.Progress.after_count.Tie as tie
 
 enum-told : tie.Need-enum-told
 enum-told c = search needs
@@ -18,15 +18,15 @@ stepped-requires-2 : tie.Need-stepped-requires-2
 stepped-requires-2 c κs = search needs
 
 returns : tie.Need-returns
-unfolding stepped afterMove
+unfolding stepped afterCount
 returns c = rw (c .before .enum-told .given .1, c .stepped .ensures) (refl, omega arith)
 
 returns-2 : tie.Need-returns-2
-unfolding stepped afterMove
+unfolding stepped afterCount
 returns-2 c = rw (c .before .enum-told2 .given .1, c .stepped2 .ensures) (refl, omega arith)
 
-pub after-move-spec : {M : Type 1} → statement M
-after-move-spec =
+pub after-count-spec : {M : Type 1} → statement M
+after-count-spec =
     tie.close
     (tie.spec
     enum-told

@@ -1,8 +1,8 @@
 use mathlib.Core.List.{append-assoc}
 use Rattle.words.proofs.PageLaws.{told-more, told-none}
 use borrow.Author.Needs.{needs}
-use Rattle.words.proofs.answer.moved.Statement.{statement}
-use Rattle.words.proofs.answer.moved.Tie as tie
+use Rattle.words.proofs.answer.edit_at_studio.Statement.{statement}
+use Rattle.words.proofs.answer.edit_at_studio.Tie as tie
 
 slice-aggregate-put-numbered : tie.Need-slice-aggregate-put-numbered
 slice-aggregate-put-numbered c = search needs
@@ -25,5 +25,5 @@ returns c =
     let a = b .before .before .before .before .before in
     rw append-assoc (told-more (told-more (told-none _) (a .put-numbered .ensures .0)) (b .put-between .ensures .0))
 
-pub moved-spec : {M : Type 1} → statement M
-moved-spec = tie.close (tie.spec slice-aggregate-put-numbered put-numbered-requires slice-aggregate-put-between put-between-requires same-length returns)
+pub edit-at-studio-spec : {M : Type 1} → statement M
+edit-at-studio-spec = tie.close (tie.spec slice-aggregate-put-numbered put-numbered-requires slice-aggregate-put-between put-between-requires same-length returns)
