@@ -1,18 +1,20 @@
 -- WORKED EXAMPLES of the lines, by computation.
 use mathlib.Core.Path.{_≡_, refl}
 use mathlib.Core.List.{[], _∷_, _++_}
-use mathlib.Core.Bool.{true}
+use mathlib.Core.Bool.{true, false}
 use Rattle.carts.specs.Bytes.{zeros, u16, u32, u16Bytes, within}
 use Rattle.carts.specs.Cart.{held, cartFields}
 use Rattle.lines.specs.Build.{u32Bytes, titleField, operationBytes, u16List, numbersBytes}
 use Rattle.lines.specs.Words.{bytesOf}
 use Rattle.replication.specs.Memory.{studioOf}
+use Rattle.replication.specs.Rows.{sessionRow}
 use Rattle.replication.specs.Calls.{control}
 use Rattle.replication.specs.declared.control.Control.{Control}
 use Rattle.words.specs.Answers.{behindText, answeredText, headEndText}
 use Rattle.words.specs.Page.{digitsOf, decimal, countOf, quoted}
 use Rattle.words.specs.Request.{askedNumbers}
 use Rattle.report.specs.Answered.{appliedFor, answerText}
+use Rattle.report.specs.Known.{knownSession}
 use Rattle.report.specs.Lines.{recordingText, cartText, headText, vanText, untilText, waitingText, sessionText, cutText, tallyText, summaryText}
 
 -- a held cart has the bytes of the operation that made it
@@ -53,3 +55,13 @@ pub record Answers : Type 0 where
 pub answers : Answers
 unfolding zeros within studioOf digitsOf decimal behindText answeredText headEndText appliedFor answerText
 answers = record { by-studio = refl; by-head-end = refl; by-level-studio = refl }
+
+pub record Sessions : Type 0 where
+  used : knownSession five 3 ≡ true
+  unused : knownSession five 4 ≡ false
+  none : knownSession five 0 ≡ false
+  outside : knownSession five 17 ≡ false
+
+pub sessions : Sessions
+unfolding zeros within studioOf sessionRow knownSession
+sessions = record { used = refl; unused = refl; none = refl; outside = refl }

@@ -1,3 +1,4 @@
--- Who answered, and worked examples.
+-- Who answered, what a refused move is told to name, and worked examples.
 pub mod AnsweredLaws
+pub mod KnownLaws
 pub mod Examples

@@ -1,3 +1,4 @@
 -- What the contracts of reports cite.
 pub mod Answered
+pub mod Known
 pub mod Lines

@@ -54,6 +54,10 @@ untitledText = bytesOf "    no cart has this title\n"
 unfoldable pub severalText : ℕ → List ℕ
 severalText found = numbered "    " found ++ bytesOf " carts have this title, so none is shown\n"
 
+-- a move was accepted: it "moves a session to another studio, returns that studio" (02, S-7)
+unfoldable pub movedText : ℕ → ℕ → List ℕ
+movedText session studio = numbered "  session " session ++ numbered " is at studio " studio ++ bytesOf "\n"
+
 -- the van "applies number applied + 1 and returns it", or "answers a number already applied as held" (02, S-6)
 unfoldable pub vanAppliedText : ℕ → List ℕ
 vanAppliedText n = numbered "  the van has applied edit " n ++ bytesOf "\n"

@@ -6,7 +6,7 @@ ghost use lib.ListN.{length};
 ghost use mathlib.Core.List.{_++_};
 ghost use Rattle.lines.specs.Words.{bytesOf};
 ghost use Rattle.words.specs.Page.{pageSize, Put, Told, decimal, numbered};
-ghost use Rattle.words.specs.Answers.{freshText, endedText, goesOnText, committedText, previewedText, sentText, appliedText, behindText, answeredText, headEndText, waitsText, untitledText, severalText, vanAppliedText, vanHoldsText};
+ghost use Rattle.words.specs.Answers.{freshText, endedText, goesOnText, committedText, previewedText, sentText, appliedText, behindText, answeredText, headEndText, waitsText, untitledText, severalText, movedText, vanAppliedText, vanHoldsText};
 
 // A setup was accepted.
 pub fn fresh(out: &mut [u8], studios: u32) -> usize
@@ -142,6 +142,15 @@ pub fn several(out: &mut [u8], found: u32) -> usize
         found,
         b" carts have this title, so none is shown\n",
     )
+}
+
+// A session was moved to a studio.
+pub fn moved(out: &mut [u8], session: u32, studio: u32) -> usize
+    requires { ⌜ length (now out) ≡ pageSize ⌝ }
+    ensures { λ r. ⌜ Told (movedText session studio) (now (out .entry)) (now (out .exit)) r ⌝ }
+{
+    let a = page::put_numbered(out, 0, b"  session ", session);
+    page::put_between(out, a, b" is at studio ", studio, b"\n")
 }
 
 // The van has applied the edit of a message.
