@@ -52,5 +52,6 @@ pub fn keep(
             p.after_count(CountResult { answer, control })
         }
         Came::Received(result, _) => p.after_receive(control, result),
+        Came::Move(answer, _, _) => p.after_count(CountResult { answer, control }),
     }
 }

@@ -10,6 +10,7 @@ use replication::collect::collect;
 use replication::commit::commit;
 use replication::control::Control;
 use replication::forward::forward;
+use replication::move_session::move_session;
 use replication::preview::preview;
 use replication::read::read;
 use replication::record::Record;
@@ -27,11 +28,11 @@ ghost use lib.ListN.{length};
 ghost use Rattle.carts.specs.Cart.{copySize};
 ghost use Rattle.replication.specs.Memory.{memory, sessionCount, sessionSize, recordSize};
 ghost use Rattle.replication.specs.Answer.{readAnswer};
-ghost use Rattle.replication.specs.Calls.{after, commit, preview, send, refresh};
+ghost use Rattle.replication.specs.Calls.{after, commit, preview, send, refresh, move};
 ghost use Rattle.van.specs.Receive.{van};
 ghost use Rattle.lines.specs.Text.{partIn};
 ghost use Rattle.journal.specs.History.{mostBytes};
-ghost use Rattle.calls.specs.Make.{committed, previewed, sentOrRefreshed, told, made, leaves, readOrForward, readLeaves, collectLeaves, beside, setupLeaves, lineLeaves};
+ghost use Rattle.calls.specs.Make.{committed, previewed, sentOrRefreshed, moved, told, made, leaves, readOrForward, readLeaves, collectLeaves, beside, setupLeaves, lineLeaves};
 
 // A setup, with the studios of its sessions at the start of the payload, and the van beside it.
 fn make_setup(
@@ -219,6 +220,27 @@ fn make_collect(
     }
 }
 
+// A move of a session to a studio. Memory is only read.
+fn make_move(
+    control: Control,
+    library: &[u8],
+    log: &[u8],
+    sessions: &[u8],
+    session: u32,
+    studio: u32,
+) -> Turn
+    ensures { λ r. ⌜ made (told (r .came)) (r .control) (memory (now (library .entry)) (now (log .entry)) (now (sessions .entry))) []
+        ≡ leaves (λ a. moved a session studio) (move control (memory (now (library .entry)) (now (log .entry)) (now (sessions .entry))) session studio) [] ⌝ }
+{
+    let result = move_session(control, library, log, sessions, session, studio);
+    let answer = result.answer;
+    let control = result.control;
+    Turn {
+        came: Came::Move(answer, session, studio),
+        control,
+    }
+}
+
 // A line that makes no call.
 fn no_call(control: Control, came: Came) -> Turn
     ensures { λ r. ⌜ (r .came ≡ came) × (r .control ≡ control) ⌝ }
@@ -290,5 +312,8 @@ pub fn make(
         Call::Unreadable { mistake, at } => no_call(control, Came::Unreadable(mistake, at)),
         Call::Nothing => no_call(control, Came::Nothing),
         Call::Van(edit) => deliver::deliver(control, library, log, sessions, copy, applied, edit),
+        Call::Move { session, studio } => {
+            make_move(control, library, log, sessions, session, studio)
+        }
     }
 }

@@ -4,13 +4,13 @@ use mathlib.Core.Bool.{true, false}
 use mathlib.Core.List.{[], _∷_, _++_}
 use Rattle.carts.specs.Bytes.{zeros, u16Bytes, within, pairwise, every}
 use Rattle.carts.specs.Cart.{printable}
-use Rattle.lines.specs.declared.cursor.Mistake.the-variants.{UnknownWord, UnknownOperation, NumberMissing, NumberTooLarge, ColonMissing, AudioMissing, LengthMissing, TitleMissing, TitleOpen, TitleEmpty, TooManyOperations, TooManyNumbers, TooMuch}
-use Rattle.lines.specs.declared.parse.Call.the-variants.{Nothing, Show, Setup, Commit, Preview, Send, Refresh, Read, Collect, Van, Unreadable}
+use Rattle.lines.specs.declared.cursor.Mistake.the-variants.{UnknownWord, UnknownOperation, NumberMissing, NumberTooLarge, ColonMissing, AudioMissing, LengthMissing, ToMissing, TitleMissing, TitleOpen, TitleEmpty, TooManyOperations, TooManyNumbers, TooMuch}
+use Rattle.lines.specs.declared.parse.Call.the-variants.{Nothing, Show, Setup, Commit, Preview, Send, Refresh, Read, Collect, Move, Van, Unreadable}
 use Rattle.lines.specs.Text.{runLength, numeral, numberOf}
 use Rattle.lines.specs.Cursor.{pastWord, pastMark, numberAt, titleFrom, titleAt, isOver, endedAt}
 use Rattle.lines.specs.Words.{bytesOf}
 use Rattle.lines.specs.Build.{u32Bytes, titleField, operationBytes, u16List, numbersBytes, lowBytes, studioBytes}
-use Rattle.lines.specs.Parse.{titleIf, numberIf, fieldsAt, operationAt, moreOperations, operationsAt, numbersAt, titleRequestAt, numbersRequestAt, requestAt, wholeCall, line, setupAt, editCall, editAt, readAt, numberCallAt, lineOf, callOf}
+use Rattle.lines.specs.Parse.{titleIf, numberIf, fieldsAt, operationAt, moreOperations, operationsAt, numbersAt, titleRequestAt, numbersRequestAt, requestAt, wholeCall, line, setupAt, editCall, editAt, readAt, moveAt, numberCallAt, lineOf, callOf}
 
 pub record Calls : Type 0 where
   comment : lineOf (bytesOf "# words") ≡ line Nothing []
@@ -19,6 +19,8 @@ pub record Calls : Type 0 where
   send : lineOf (bytesOf "send 1") ≡ line (Send 1) []
   refresh : lineOf (bytesOf "refresh 2") ≡ line (Refresh 2) []
   collect : lineOf (bytesOf "  collect\t16") ≡ line (Collect 16) []
+  move : lineOf (bytesOf "move 1 to 2 # with the running order") ≡ line (Move 1 2) []
+  move-anywhere : lineOf (bytesOf "move\t4294967295 to 0") ≡ line (Move 4294967295 0) []
   van : lineOf (bytesOf "van 4294967295 # no such edit") ≡ line (Van 4294967295) []
   by-numbers : lineOf (bytesOf "read 1: 7 300") ≡ line (Read 1 false) (1 ∷ 2 ∷ zeros 14 ++ (7 ∷ 0 ∷ 44 ∷ 1 ∷ zeros 60))
   by-title : lineOf (bytesOf "read 1: 'A \"B\"'") ≡ line (Read 1 false) (2 ∷ 5 ∷ zeros 14 ++ (65 ∷ 32 ∷ 34 ∷ 66 ∷ 34 ∷ zeros 59))
@@ -28,7 +30,7 @@ pub record Calls : Type 0 where
   preview : lineOf (bytesOf "preview 17: retitle 7 \"B\"; withdraw 7 # nothing is made") ≡ line (Preview 17 2) (operationBytes 2 7 0 0 (bytesOf "B") ++ operationBytes 4 7 0 0 [])
 
 pub calls : Calls
-unfolding zeros u16Bytes pairwise every within printable runLength numeral numberOf pastWord pastMark numberAt titleFrom titleAt isOver endedAt u32Bytes titleField operationBytes u16List numbersBytes lowBytes studioBytes titleIf numberIf fieldsAt operationAt moreOperations operationsAt numbersAt titleRequestAt numbersRequestAt requestAt wholeCall setupAt editCall editAt readAt numberCallAt lineOf
+unfolding zeros u16Bytes pairwise every within printable runLength numeral numberOf pastWord pastMark numberAt titleFrom titleAt isOver endedAt u32Bytes titleField operationBytes u16List numbersBytes lowBytes studioBytes titleIf numberIf fieldsAt operationAt moreOperations operationsAt numbersAt titleRequestAt numbersRequestAt requestAt wholeCall setupAt editCall editAt readAt moveAt numberCallAt lineOf
 calls = record {
   comment = refl;
   show = refl;
@@ -36,6 +38,8 @@ calls = record {
   send = refl;
   refresh = refl;
   collect = refl;
+  move = refl;
+  move-anywhere = refl;
   van = refl;
   by-numbers = refl;
   by-title = refl;
@@ -50,6 +54,10 @@ pub record Mistakes : Type 0 where
   unknown-operation : callOf (bytesOf "commit 1: recut 7") ≡ Unreadable UnknownOperation 10
   number-missing : callOf (bytesOf "send") ≡ Unreadable NumberMissing 4
   number-large : callOf (bytesOf "send 4294967296") ≡ Unreadable NumberTooLarge 5
+  move-nobody : callOf (bytesOf "move to 2") ≡ Unreadable NumberMissing 5
+  move-without-to : callOf (bytesOf "move 1 2") ≡ Unreadable ToMissing 7
+  move-nowhere : callOf (bytesOf "move 1 to") ≡ Unreadable NumberMissing 9
+  move-two : callOf (bytesOf "move 1 to 2 3") ≡ Unreadable TooMuch 12
   van-edits : callOf (bytesOf "van 1 2") ≡ Unreadable TooMuch 6
   colon-missing : callOf (bytesOf "read 1 7") ≡ Unreadable ColonMissing 7
   forward-unreadable : callOf (bytesOf "forward 1") ≡ Unreadable ColonMissing 9
@@ -64,12 +72,16 @@ pub record Mistakes : Type 0 where
   too-much : callOf (bytesOf "send 1 2") ≡ Unreadable TooMuch 7
 
 pub mistakes : Mistakes
-unfolding zeros u16Bytes pairwise every within printable runLength numeral numberOf pastWord pastMark numberAt titleFrom titleAt isOver endedAt u32Bytes titleField operationBytes u16List numbersBytes lowBytes studioBytes titleIf numberIf fieldsAt operationAt moreOperations operationsAt numbersAt titleRequestAt numbersRequestAt requestAt wholeCall setupAt editCall editAt readAt numberCallAt lineOf
+unfolding zeros u16Bytes pairwise every within printable runLength numeral numberOf pastWord pastMark numberAt titleFrom titleAt isOver endedAt u32Bytes titleField operationBytes u16List numbersBytes lowBytes studioBytes titleIf numberIf fieldsAt operationAt moreOperations operationsAt numbersAt titleRequestAt numbersRequestAt requestAt wholeCall setupAt editCall editAt readAt moveAt numberCallAt lineOf
 mistakes = record {
   unknown-word = refl;
   unknown-operation = refl;
   number-missing = refl;
   number-large = refl;
+  move-nobody = refl;
+  move-without-to = refl;
+  move-nowhere = refl;
+  move-two = refl;
   van-edits = refl;
   colon-missing = refl;
   forward-unreadable = refl;

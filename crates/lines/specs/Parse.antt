@@ -10,12 +10,12 @@ use Rattle.carts.specs.Bytes.{zeros}
 use Rattle.lines.specs.declared.text.Class.the-variants.{Digit}
 use Rattle.lines.specs.declared.cursor.Cursor.{Cursor}
 use Rattle.lines.specs.declared.cursor.Mistake.{Mistake}
-use Rattle.lines.specs.declared.cursor.Mistake.the-variants.{UnknownWord, UnknownOperation, ColonMissing, AudioMissing, LengthMissing, TooManyOperations, TooManyNumbers, TooMuch}
+use Rattle.lines.specs.declared.cursor.Mistake.the-variants.{UnknownWord, UnknownOperation, ColonMissing, AudioMissing, LengthMissing, ToMissing, TooManyOperations, TooManyNumbers, TooMuch}
 use Rattle.lines.specs.declared.cursor.Taken.{Taken}
 use Rattle.lines.specs.declared.cursor.Quoted.{Quoted}
 use Rattle.lines.specs.declared.parse.Counted.{Counted}
 use Rattle.lines.specs.declared.parse.Call.{Call}
-use Rattle.lines.specs.declared.parse.Call.the-variants.{Nothing, Show, Setup, Commit, Preview, Send, Refresh, Read, Collect, Van, Unreadable}
+use Rattle.lines.specs.declared.parse.Call.the-variants.{Nothing, Show, Setup, Commit, Preview, Send, Refresh, Read, Collect, Move, Van, Unreadable}
 use Rattle.lines.specs.Text.{inClass}
 use Rattle.lines.specs.Cursor.{newAt, movedTo, stoppedBy, nextPlace, nextByte, nextWord, wordEnd, pastWord, pastMark, numberAt, titleAt, lettersOf, isOver, endedAt}
 use Rattle.lines.specs.Build.{operationBytes, numbersBytes, studioBytes, mostNumbers, mostStudios}
@@ -136,6 +136,13 @@ readAt s c forwards =
     let read = requestAt s (pastMark s (session .cursor) 58 ColonMissing) in
     line (wholeCall s (read .cursor) (Read (session .value) forwards)) (read .items)
 
+-- move, "a call that moves a session to another studio" (02, S-7): the session, the word to, the studio
+unfoldable pub moveAt : List ℕ → Cursor → Call
+moveAt s c =
+    let session = numberAt s c anyNumber in
+    let studio = numberAt s (pastWord s (session .cursor) (bytesOf "to") ToMissing) anyNumber in
+    wholeCall s (studio .cursor) (Move (session .value) (studio .value))
+
 -- a call that has one number: a studio, a session, or the edit whose message goes to the van (02, S-6)
 unfoldable pub numberCallAt : List ℕ → Cursor → List ℕ → Call
 numberCallAt s c word =
@@ -159,7 +166,8 @@ lineOf s =
     (cond (says word "preview") (editAt s next true)
     (cond (says word "read") (readAt s next false)
     (cond (says word "forward") (readAt s next true)
-    (line (numberCallAt s next word) [])))))))
+    (cond (says word "move") (line (moveAt s next) [])
+    (line (numberCallAt s next word) []))))))))
 
 -- memory whose start is these bytes or numbers, the rest of it as it was
 abbrev pub begunWith : List ℕ → List ℕ → List ℕ
@@ -183,6 +191,7 @@ callFits (Send n) = Unit {0}
 callFits (Refresh n) = Unit {0}
 callFits (Read s forwards) = Unit {0}
 callFits (Collect n) = Unit {0}
+callFits (Move s i) = Unit {0}
 callFits (Van n) = Unit {0}
 callFits (Unreadable m at) = Unit {0}
 

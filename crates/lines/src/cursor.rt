@@ -18,6 +18,7 @@ pub enum Mistake {
     ColonMissing,
     AudioMissing,
     LengthMissing,
+    ToMissing,
     TitleMissing,
     TitleOpen,
     TitleEmpty,

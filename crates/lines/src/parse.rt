@@ -15,7 +15,7 @@ ghost use lib.ListN.{length};
 ghost use Rattle.lines.specs.Build.{payloadSize};
 ghost use Rattle.carts.specs.Cart.{cartSize};
 ghost use Rattle.lines.specs.Cursor.{Titled};
-ghost use Rattle.lines.specs.Parse.{gathered, titleIf, numberIf, fieldsAt, operationAt, operationsAt, numbersAt, titleRequestAt, numbersRequestAt, wholeCall, setupAt, editCall, editAt, readAt, numberCallAt, callOf, payloadOf, callFits, Means, Stored};
+ghost use Rattle.lines.specs.Parse.{gathered, titleIf, numberIf, fieldsAt, operationAt, operationsAt, numbersAt, titleRequestAt, numbersRequestAt, wholeCall, setupAt, editCall, editAt, readAt, moveAt, numberCallAt, callOf, payloadOf, callFits, Means, Stored};
 
 // What a line asks for. The bytes that belong to it stand at the start of the payload: a setup's 16 studio bytes,
 // a commit's or a preview's operations of 80 bytes, a read's or a forward's request of 80 bytes.
@@ -29,6 +29,7 @@ pub enum Call {
     Refresh(u32),
     Read { session: u32, forwards: bool },
     Collect(u32),
+    Move { session: u32, studio: u32 },
     Van(u32),
     Unreadable { mistake: Mistake, at: usize },
 }
@@ -279,6 +280,20 @@ fn read(s: &[u8], c: Cursor, payload: &mut [u8], forwards: bool) -> Call
     whole(s, end, call)
 }
 
+// Move: the session, the word to, the studio.
+fn move_session(s: &[u8], c: Cursor) -> Call
+    ensures { λ r. ⌜ (r ≡ moveAt (now (s .entry)) c) × callFits r ⌝ }
+{
+    let session = cursor::number(s, c, ANY);
+    let to = cursor::word(s, session.cursor, b"to", Mistake::ToMissing);
+    let studio = cursor::number(s, to, ANY);
+    let call = Call::Move {
+        session: session.value,
+        studio: studio.value,
+    };
+    whole(s, studio.cursor, call)
+}
+
 // A call that has one number: a studio, a session or an edit.
 fn by_number(s: &[u8], c: Cursor, word: &[u8]) -> Call
     ensures { λ r. ⌜ (r ≡ numberCallAt (now (s .entry)) c (now (word .entry))) × callFits r ⌝ }
@@ -330,6 +345,9 @@ pub fn parse(s: &[u8], payload: &mut [u8]) -> Call
     }
     if text::same(word, b"forward") {
         return read(s, next, payload, true);
+    }
+    if text::same(word, b"move") {
+        return move_session(s, next);
     }
     by_number(s, next, word)
 }

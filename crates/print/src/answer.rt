@@ -11,6 +11,7 @@ use replication::answer::ReadAnswer;
 use replication::answer::SetupAnswer;
 use replication::control::Control;
 use report::cart;
+use report::known;
 use report::show;
 use van::answer::ReceiveAnswer;
 use van::answer::ReceiveResult;
@@ -195,6 +196,29 @@ pub fn read(answer: ReadAnswer, control: Control, session: u32, block: &[u8]) {
         ReadAnswer::Answered { state, found } => { answered(control, session, block, state, found) }
         ReadAnswer::Waits(edit) => waits(edit),
         ReadAnswer::Refused(row) => refusals::print::refusal_of_session(false, row, session),
+    }
+}
+
+fn at_studio(session: u32, studio: u32) {
+    let mut page = io::buffer();
+    let n = words::answer::moved(&mut page, session, studio);
+    line::told(&page, n);
+}
+
+// A refused move: 3 names the studio where the session is known, else the session.
+fn refused_move(row: u32, control: Control, session: u32, studio: u32) {
+    if (row == 3) & known::is_known(control, session) {
+        refusals::print::refusal_of_studio(row, studio);
+        return;
+    }
+    refusals::print::refusal_of_session(false, row, session);
+}
+
+// What a move of a session to a studio answered, with the control that the call was given.
+pub fn moved(answer: CountAnswer, control: Control, session: u32, studio: u32) {
+    match answer {
+        CountAnswer::Number(place) => at_studio(session, place),
+        CountAnswer::Refused(row) => refused_move(row, control, session, studio),
     }
 }
 

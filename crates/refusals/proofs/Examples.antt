@@ -1,7 +1,7 @@
 -- WORKED EXAMPLES of refusals and mistakes as text, by computation.
 use mathlib.Core.Path.{_≡_, refl}
 use mathlib.Core.Bool.{true, false}
-use Rattle.lines.specs.declared.cursor.Mistake.the-variants.{NumberMissing}
+use Rattle.lines.specs.declared.cursor.Mistake.the-variants.{NumberMissing, ToMissing}
 use Rattle.lines.specs.Words.{bytesOf}
 use Rattle.words.specs.Page.{digitsOf, decimal, countOf}
 use Rattle.refusals.specs.Sentences.{refusalSentence}
@@ -16,6 +16,7 @@ pub record Refusals : Type 0 where
   no-edit : noEditText 9 ≡ bytesOf "  refused (17): there is no edit 9\n"
   ahead : aheadText 1 3 ≡ bytesOf "  refused (18): the van has applied 1 edit, and edit 3 is not the next\n"
   unreadable : unreadableText 3 5 NumberMissing ≡ bytesOf "  line 3, column 5 cannot be read: a number is missing\n"
+  without-to : unreadableText 4 8 ToMissing ≡ bytesOf "  line 4, column 8 cannot be read: the word to is missing\n"
   operation : atOperationText 2 8 ≡ bytesOf "    it is operation 2 of the commit, on cart 8\n"
 
 pub refusals : Refusals
@@ -29,5 +30,6 @@ refusals = record {
   no-edit = refl;
   ahead = refl;
   unreadable = refl;
+  without-to = refl;
   operation = refl;
 }

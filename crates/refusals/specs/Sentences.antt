@@ -4,7 +4,7 @@ use mathlib.Core.List.{List}
 use Prim.Native.Nat.{ℕ}
 use lib.Dec.{eqb}
 use Rattle.lines.specs.declared.cursor.Mistake.{Mistake}
-use Rattle.lines.specs.declared.cursor.Mistake.the-variants.{None, UnknownWord, UnknownOperation, NumberMissing, NumberTooLarge, ColonMissing, AudioMissing, LengthMissing, TitleMissing, TitleOpen, TitleEmpty, TitleTooLong, TitleUnprintable, TooManyOperations, TooManyNumbers, TooMuch}
+use Rattle.lines.specs.declared.cursor.Mistake.the-variants.{None, UnknownWord, UnknownOperation, NumberMissing, NumberTooLarge, ColonMissing, AudioMissing, LengthMissing, ToMissing, TitleMissing, TitleOpen, TitleEmpty, TitleTooLong, TitleUnprintable, TooManyOperations, TooManyNumbers, TooMuch}
 use Rattle.lines.specs.Words.{bytesOf}
 
 -- what a refusal means, by its number in documents 01 and 02
@@ -33,13 +33,14 @@ refusalSentence n =
 -- what is wrong with a line
 abbrev pub mistakeSentence : Mistake → List ℕ
 mistakeSentence None = bytesOf "nothing is wrong"
-mistakeSentence UnknownWord = bytesOf "the line begins with none of setup, commit, preview, send, refresh, read, collect, forward, van, show"
+mistakeSentence UnknownWord = bytesOf "the line begins with none of setup, commit, preview, send, refresh, read, collect, forward, move, van, show"
 mistakeSentence UnknownOperation = bytesOf "an operation begins with new, retitle, re-cut or withdraw"
 mistakeSentence NumberMissing = bytesOf "a number is missing"
 mistakeSentence NumberTooLarge = bytesOf "a number is too large"
 mistakeSentence ColonMissing = bytesOf "a colon is missing"
 mistakeSentence AudioMissing = bytesOf "the word audio is missing"
 mistakeSentence LengthMissing = bytesOf "the word length is missing"
+mistakeSentence ToMissing = bytesOf "the word to is missing"
 mistakeSentence TitleMissing = bytesOf "a title in quotes is missing"
 mistakeSentence TitleOpen = bytesOf "a title's closing quote is missing"
 mistakeSentence TitleEmpty = bytesOf "a title is empty"

@@ -18,7 +18,7 @@ fn put_reason(out: &mut [u8], at: usize, mistake: Mistake) -> usize
         Mistake::UnknownWord => page::put(
             out,
             at,
-            b"the line begins with none of setup, commit, preview, send, refresh, read, collect, forward, van, show",
+            b"the line begins with none of setup, commit, preview, send, refresh, read, collect, forward, move, van, show",
         ),
         Mistake::UnknownOperation => page::put(
             out,
@@ -30,6 +30,7 @@ fn put_reason(out: &mut [u8], at: usize, mistake: Mistake) -> usize
         Mistake::ColonMissing => page::put(out, at, b"a colon is missing"),
         Mistake::AudioMissing => page::put(out, at, b"the word audio is missing"),
         Mistake::LengthMissing => page::put(out, at, b"the word length is missing"),
+        Mistake::ToMissing => page::put(out, at, b"the word to is missing"),
         Mistake::TitleMissing => page::put(out, at, b"a title in quotes is missing"),
         Mistake::TitleOpen => page::put(out, at, b"a title's closing quote is missing"),
         Mistake::TitleEmpty => page::put(out, at, b"a title is empty"),

@@ -70,6 +70,12 @@ enum-known-came-7 c = search needs
 after-receive-requires : tie.Need-after-receive-requires
 after-receive-requires c κs = search needs
 
+enum-known-came-8 : tie.Need-enum-known-came-8
+enum-known-came-8 c = search needs
+
+after-count-requires-4 : tie.Need-after-count-requires-4
+after-count-requires-4 c κs = search needs
+
 returns : tie.Need-returns
 unfolding cameKept
 returns c = let s = c .before .before .before .before .before .before .before .before .before in
@@ -140,6 +146,11 @@ unfolding cameKept
 returns-10 c = let s = c .before .before .before .before .before .before .before .before .before in
     (by-came _ _ _ _ _ _ (c .before .before .came7 .given .1) (same-entries (s .args .cells .now) (s .args .store .now) (c .after-receive .ensures .0)), omega (arith, c .after-receive .ensures .1, s .pre .1))
 
+returns-11 : tie.Need-returns-11
+unfolding cameKept
+returns-11 c = let s = c .before .before .before .before .before .before .before .before .before in
+    (by-came _ _ _ _ _ _ (c .before .before .came8 .given .1) (same-entries (s .args .cells .now) (s .args .store .now) (c .after-count4 .ensures .0)), omega (arith, c .after-count4 .ensures .1, s .pre .1))
+
 pub keep-spec : {M : Type 1} → statement M
 keep-spec =
     tie.close
@@ -165,6 +176,8 @@ keep-spec =
     after-count-requires-3
     enum-known-came-7
     after-receive-requires
+    enum-known-came-8
+    after-count-requires-4
     returns
     same-length
     same-length-2
@@ -178,4 +191,5 @@ keep-spec =
     returns-7
     returns-8
     returns-9
-    returns-10)
+    returns-10
+    returns-11)

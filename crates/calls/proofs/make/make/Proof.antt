@@ -70,6 +70,12 @@ enum-known-call-9 c = search needs
 deliver-requires : tie.Need-deliver-requires
 deliver-requires c κs = search needs
 
+enum-known-call-10 : tie.Need-enum-known-call-10
+enum-known-call-10 c = search needs
+
+make-move-requires : tie.Need-make-move-requires
+make-move-requires c κs = search needs
+
 same-length : tie.Need-same-length
 same-length c = search needs
 
@@ -220,6 +226,21 @@ returns-11 c = let called = c .before .before in
     let start = arm .before .before .before .before .before .before .before .before .before in
     by-case _ _ _ _ _ _ (arm .call9 .given .1) (with-van (start .args .block .now) (called .deliver .ensures))
 
+same-length-29 : tie.Need-same-length-29
+same-length-29 c = search needs
+
+same-length-30 : tie.Need-same-length-30
+same-length-30 c = search needs
+
+same-length-31 : tie.Need-same-length-31
+same-length-31 c = search needs
+
+returns-12 : tie.Need-returns-12
+unfolding lineLeaves
+returns-12 c = let arm = c .before .before .before .before .before in
+    let start = arm .before .before .before .before .before .before .before .before .before in
+    by-case _ _ _ _ _ _ (arm .call10 .given .1) (with-block (start .args .copy .now) (start .args .block .now) (c .make-move .ensures))
+
 pub make-spec : {M : Type 1} → statement M
 make-spec =
     tie.close
@@ -246,6 +267,8 @@ make-spec =
     no-call-requires-3
     enum-known-call-9
     deliver-requires
+    enum-known-call-10
+    make-move-requires
     same-length
     same-length-2
     same-length-3
@@ -284,4 +307,8 @@ make-spec =
     same-length-26
     same-length-27
     same-length-28
-    returns-11)
+    returns-11
+    same-length-29
+    same-length-30
+    same-length-31
+    returns-12)

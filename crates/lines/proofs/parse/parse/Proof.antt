@@ -3,7 +3,7 @@ use mathlib.Core.Bool.{true, false}
 use mathlib.Core.List.{[]}
 use Rattle.lines.specs.declared.parse.Call.the-variants.{Nothing, Show}
 use Rattle.lines.specs.Cursor.{newAt, movedTo, nextWord, wordEnd, isOver}
-use Rattle.lines.specs.Parse.{line, lineOf, wholeCall, numberCallAt}
+use Rattle.lines.specs.Parse.{line, lineOf, wholeCall, moveAt, numberCallAt}
 use Rattle.lines.proofs.ParseLaws.{line-means}
 use borrow.Author.Needs.{needs}
 use Rattle.lines.proofs.parse.parse.Statement.{statement}
@@ -129,12 +129,40 @@ returns-7 : tie.Need-returns-7
 unfolding lineOf
 returns-7 c = let else6 = c .before .before .before .before .before .before .before in let else4 = c .before .before .before .before .before .before .before .before .before .before .before .before .before in let else2 = else4 .before .before .before .before .before .before in let at-past-word = else2 .before .before .before in line-means _ _ _ _ _ (c .before .before .read2 .ensures) (rw (next (at-past-word), over (at-past-word .before .before), ← word (at-past-word), ← else2 .before .same .ensures, else2 .if2 .left, ← else4 .before .before .before .before .same2 .ensures, else4 .before .before .before .if3 .left, ← else4 .before .same3 .ensures, else4 .if4 .left, ← else6 .before .before .before .before .same4 .ensures, else6 .before .before .before .if5 .left, ← else6 .before .same5 .ensures, else6 .if6 .left, ← c .before .before .before .before .before .same6 .ensures, c .before .before .before .before .if7 .taken))
 
-by-number-requires : tie.Need-by-number-requires
-by-number-requires c κs = search needs
+slice-aggregate-same-7 : tie.Need-slice-aggregate-same-7
+slice-aggregate-same-7 c = search needs
+
+same-requires-7 : tie.Need-same-requires-7
+same-requires-7 c κs = search needs
+
+move-session-requires : tie.Need-move-session-requires
+move-session-requires c κs = search needs
 
 returns-8 : tie.Need-returns-8
 unfolding lineOf
-returns-8 c = let else5 = c .before .before .before .before .before .before .before in let else3 = c .before .before .before .before .before .before .before .before .before .before .before .before .before in let at-past-word = else3 .before .before .before .before .before .before in line-means _ (line (numberCallAt _ (at-past-word .past-word .result) (at-past-word .before .peek-word .result .now)) []) _ _ _ (record { call = c .by-number .ensures .0; payload = refl; fits = c .by-number .ensures .1 }) (rw (next (at-past-word), over (at-past-word .before .before), ← word (at-past-word), ← else3 .before .before .before .before .same .ensures, else3 .before .before .before .if2 .left, ← else3 .before .same2 .ensures, else3 .if3 .left, ← else5 .before .before .before .before .same3 .ensures, else5 .before .before .before .if4 .left, ← else5 .before .same4 .ensures, else5 .if5 .left, ← c .before .before .before .before .before .same5 .ensures, c .before .before .before .before .if6 .left, ← c .before .before .same6 .ensures, c .before .if7 .left))
+returns-8 c = let else7 = c .before .before .before .before in
+    let else6 = else7 .before .before .before in
+    let else5 = else6 .before .before .before in
+    let else4 = else5 .before .before .before in
+    let else3 = else4 .before .before .before in
+    let else2 = else3 .before .before .before in
+    let at-past-word = else2 .before .before .before in
+    line-means _ (line (moveAt _ (at-past-word .past-word .result)) []) _ _ _ (record { call = c .move-session .ensures .0; payload = refl; fits = c .move-session .ensures .1 }) (rw (next (at-past-word), over (at-past-word .before .before), ← word (at-past-word), ← else2 .before .same .ensures, else2 .if2 .left, ← else3 .before .same2 .ensures, else3 .if3 .left, ← else4 .before .same3 .ensures, else4 .if4 .left, ← else5 .before .same4 .ensures, else5 .if5 .left, ← else6 .before .same5 .ensures, else6 .if6 .left, ← else7 .before .same6 .ensures, else7 .if7 .left, ← c .before .before .same7 .ensures, c .before .if8 .taken))
+
+by-number-requires : tie.Need-by-number-requires
+by-number-requires c κs = search needs
+
+returns-9 : tie.Need-returns-9
+unfolding lineOf
+returns-9 c = let else8 = c .before in
+    let else7 = else8 .before .before .before in
+    let else6 = else7 .before .before .before in
+    let else5 = else6 .before .before .before in
+    let else4 = else5 .before .before .before in
+    let else3 = else4 .before .before .before in
+    let else2 = else3 .before .before .before in
+    let at-past-word = else2 .before .before .before in
+    line-means _ (line (numberCallAt _ (at-past-word .past-word .result) (at-past-word .before .peek-word .result .now)) []) _ _ _ (record { call = c .by-number .ensures .0; payload = refl; fits = c .by-number .ensures .1 }) (rw (next (at-past-word), over (at-past-word .before .before), ← word (at-past-word), ← else2 .before .same .ensures, else2 .if2 .left, ← else3 .before .same2 .ensures, else3 .if3 .left, ← else4 .before .same3 .ensures, else4 .if4 .left, ← else5 .before .same4 .ensures, else5 .if5 .left, ← else6 .before .same5 .ensures, else6 .if6 .left, ← else7 .before .same6 .ensures, else7 .if7 .left, ← else8 .before .same7 .ensures, else8 .if8 .left))
 
 pub parse-spec : {M : Type 1} → statement M
 parse-spec =
@@ -174,5 +202,9 @@ parse-spec =
     read-requires-2
     same-length-5
     returns-7
+    slice-aggregate-same-7
+    same-requires-7
+    move-session-requires
+    returns-8
     by-number-requires
-    returns-8)
+    returns-9)

@@ -147,6 +147,15 @@ slice-aggregate-put-16 c = search needs
 put-requires-16 : tie.Need-put-requires-16
 put-requires-16 c κs = search needs
 
+enum-told-17 : tie.Need-enum-told-17
+enum-told-17 c = search needs
+
+slice-aggregate-put-17 : tie.Need-slice-aggregate-put-17
+slice-aggregate-put-17 c = search needs
+
+put-requires-17 : tie.Need-put-requires-17
+put-requires-17 c κs = search needs
+
 same-length : tie.Need-same-length
 same-length c = search needs
 
@@ -243,6 +252,12 @@ same-length-16 c = search needs
 returns-16 : tie.Need-returns-16
 returns-16 c = let p = c .before .before .put16 .ensures in let f = p .end in (rw (c .before .before .before .before .before .enum-told16 .given .1) p, omega arith)
 
+same-length-17 : tie.Need-same-length-17
+same-length-17 c = search needs
+
+returns-17 : tie.Need-returns-17
+returns-17 c = let p = c .before .before .put17 .ensures in let f = p .end in (rw (c .before .before .before .before .before .enum-told17 .given .1) p, omega arith)
+
 pub put-reason-spec : {M : Type 1} → statement M
 put-reason-spec =
     tie.close
@@ -295,6 +310,9 @@ put-reason-spec =
     enum-told-16
     slice-aggregate-put-16
     put-requires-16
+    enum-told-17
+    slice-aggregate-put-17
+    put-requires-17
     same-length
     returns
     same-length-2
@@ -326,4 +344,6 @@ put-reason-spec =
     same-length-15
     returns-15
     same-length-16
-    returns-16)
+    returns-16
+    same-length-17
+    returns-17)
