@@ -6,6 +6,7 @@ use replication::collect;
 use replication::commit;
 use replication::control::Control;
 use replication::forward;
+use replication::move_session;
 use replication::preview;
 use replication::read;
 use replication::refresh;
@@ -17,7 +18,7 @@ use van::write;
 ghost use mathlib.Core.Path.{_≡_};
 ghost use mathlib.Core.List.{[]};
 ghost use Rattle.replication.specs.Memory.{memory};
-ghost use Rattle.replication.specs.Calls.{setup, commit, preview, send, refresh, read, collect, forward, write};
+ghost use Rattle.replication.specs.Calls.{setup, commit, preview, send, refresh, read, collect, forward, write, move};
 ghost use Rattle.van.specs.Receive.{van, receive};
 ghost use Rattle.sulyobak.specs.Words.{left, leftBy, layoutWords, version};
 ghost use Rattle.sulyobak.specs.VanWords.{vanLeft, vanLeftBy};
@@ -158,6 +159,22 @@ pub extern "C" fn sulyobak_forward(
         ≡ leftBy (forward control (memory (now (library .entry)) (now (log .entry)) (now (sessions .entry))) session (now (request .entry)) (now (output .entry))) ⌝ }
 {
     Words::of_read(forward::forward(control, library, log, sessions, session, request, output))
+}
+
+// Move: a session goes to another studio. Memory is only read.
+#[no_mangle]
+pub extern "C" fn sulyobak_move(
+    library: &[u8],
+    log: &[u8],
+    sessions: &[u8],
+    control: Control,
+    session: u32,
+    studio: u32,
+) -> Words
+    ensures { λ r. ⌜ left r (memory (now (library .entry)) (now (log .entry)) (now (sessions .entry))) []
+        ≡ leftBy (move control (memory (now (library .entry)) (now (log .entry)) (now (sessions .entry))) session studio) ⌝ }
+{
+    Words::of_count(move_session::move_session(control, library, log, sessions, session, studio))
 }
 
 // The test of lengths and layout alone, which every call that is passed control and memory begins with. Memory is only read.

@@ -5,7 +5,7 @@
 pub mod sizes;
 
 /// The version of the interface that these declarations are for: `SULYOBAK_VERSION`.
-pub const VERSION: u32 = 6;
+pub const VERSION: u32 = 7;
 
 /// The counts of a system. The engine is passed them and hands them back; any value may stand in any field, and each has its answer.
 ///
@@ -15,7 +15,7 @@ pub const VERSION: u32 = 6;
 pub struct Control {
     /// How many studios, 1 to 4.
     pub studios: u32,
-    /// The studio of each session; 0 for a session that is not in use.
+    /// The studio at which each session is; 0 for a session that is not in use.
     pub session_studios: [u32; sizes::SESSION_COUNT],
     /// Records of the log that hold operations, up to 512.
     pub used: u32,
@@ -181,6 +181,19 @@ extern "C" {
         request_len: usize,
         output: *mut u8,
         output_len: usize,
+    ) -> Answer;
+
+    /// Moves a session to another studio.
+    pub fn sulyobak_move(
+        library: *const u8,
+        library_len: usize,
+        log: *const u8,
+        log_len: usize,
+        sessions: *const u8,
+        sessions_len: usize,
+        control: Control,
+        session: u32,
+        studio: u32,
     ) -> Answer;
 
     /// Tests memory and control alone.
