@@ -197,8 +197,8 @@ static inline const uint8_t *sulyobak_session_at(const uint8_t *sessions, uint32
     return session >= 1 && session <= SULYOBAK_SESSIONS ? sessions + 80 * (session - 1) : NULL;
 }
 
-/* The session's number: that of its last commit, or what was committed when the head end refused it a commit by 8 or answered its forward,
- * whichever was later; 0 before the first. Its reads wait until its studio's copy has taken so many. */
+/* The session's number: that of its last commit, what was committed when the head end refused it a commit by 8 or answered its forward, or
+ * the state that a read showed it, whichever is highest; 0 before the first. Its reads wait until its studio's copy has taken so many. */
 static inline uint32_t sulyobak_session_number(const uint8_t *session)
 {
     return sulyobak_get(session + 2, 2);

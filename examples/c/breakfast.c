@@ -10,7 +10,9 @@
  * five: ten seconds before the hour the presenter re-cuts the news bed and cannot wait for the studio. The read is forwarded, and the head
  * end shows the new cut. A plain read then waits until the studio's copy has all that the head end had shown. Part six: a van at the fair
  * has a copy of its own, beyond a radio link that loses, repeats and reorders messages. The van applies each transaction in its turn and
- * once, so its presenter sees the carts of one moment, and at last those of the head end.
+ * once, so its presenter sees the carts of one moment, and at last those of the head end. Part seven: the presenter is shown in the studio
+ * that take B is gone, and walks to the other studio, whose copy still has it. The read there waits until that copy has all that the
+ * presenter was shown, and is collected.
  */
 #include "sulyobak_util.h"
 
@@ -18,8 +20,8 @@
 #include <stdlib.h>
 #include <string.h>
 
-enum { MANAGER = 1, PRODUCER = 2, PRESENTER = 3, SECOND = 4 }; /* sessions, all of them in studio 1; the last one by mistake */
-enum { STUDIO = 1 };
+enum { MANAGER = 1, PRODUCER = 2, PRESENTER = 3, SECOND = 4 }; /* sessions, all of them in studio 1 at first; the last one by mistake */
+enum { STUDIO = 1, OTHER = 2 };
 enum { JINGLE_A = 11, JINGLE_B = 12, SPONSOR = 20, NEWS = 30, WEATHER = 31 }; /* carts */
 
 /* The system: three memories, and the control that the last call handed back. */
@@ -119,10 +121,19 @@ static void forward_numbers(const char *what, uint32_t session, const uint32_t *
     say(what, sulyobak_forward(MEMORY, control, session, request, sizeof request, output, sizeof output));
 }
 
-static void catch_up(void)
+static void catch_up(uint32_t studio)
 {
-    say("  the line sends one transaction to the studio", sulyobak_send(MEMORY, control, STUDIO));
-    say("  the studio's copy takes it", sulyobak_refresh(MEMORY, control, STUDIO));
+    say("  the line sends one transaction to the studio", sulyobak_send(MEMORY, control, studio));
+    say("  the studio's copy takes it", sulyobak_refresh(MEMORY, control, studio));
+}
+
+/* A studio's copy takes so many transactions more; nothing is said of each. */
+static void take(uint32_t studio, uint32_t count)
+{
+    for (; count > 0; count--) {
+        control = sulyobak_send(MEMORY, control, studio).control;
+        control = sulyobak_refresh(MEMORY, control, studio).control;
+    }
 }
 
 /* The head end writes the message of a transaction, and the link brings it to the van. */
@@ -160,7 +171,7 @@ static void the_title_column(void)
     made(sulyobak_operation_new(operations + 160, SPONSOR, "Sponsor: Kovacs bakery", 301, 15000));
     commit("the manager commits two jingles and the sponsor's", MANAGER, operations, 3);
     printf("a title of 65 letters: %s\n", sulyobak_made_sentence(sulyobak_operation_retitle(operations, JINGLE_A, too_long)));
-    catch_up();
+    catch_up(STUDIO);
     read_title("the presenter imports take A by title", PRESENTER, version_a);
     show(0);
     memcpy(by_title, output, SULYOBAK_CART_SIZE);
@@ -188,9 +199,9 @@ static void the_sponsors_jingle(void)
     read_numbers("a second session in that chair reads the old cut", SECOND, sponsor, 1);
     show(0);
     commit("the producer edits on, with a read waiting", PRODUCER, operation, 1);
-    catch_up();
+    catch_up(STUDIO);
     say("the producer collects", sulyobak_collect(MEMORY, control, PRODUCER, output, sizeof output));
-    catch_up();
+    catch_up(STUDIO);
     say("the producer collects", sulyobak_collect(MEMORY, control, PRODUCER, output, sizeof output));
     show(0);
     say("nothing more is waiting", sulyobak_collect(MEMORY, control, PRODUCER, output, sizeof output));
@@ -224,7 +235,7 @@ static void the_taken_cart(void)
     printf("the presenter's number is %u now: the refusal spoke of %u commits\n", (unsigned)sulyobak_session_number(presenter),
            (unsigned)control.commits);
     read_numbers("the presenter reads the cart, which the studio's copy has empty", PRESENTER, weather, 1);
-    catch_up();
+    catch_up(STUDIO);
     say("the presenter collects", sulyobak_collect(MEMORY, control, PRESENTER, output, sizeof output));
     show(0);
 }
@@ -244,9 +255,9 @@ static void ten_seconds_before_the_hour(void)
     printf("commits %u, the studio's copy has taken %u\n", (unsigned)control.commits, (unsigned)control.applied[STUDIO - 1]);
     read_numbers("a plain read waits for what the head end has shown", PRESENTER, news, 1);
     forward_numbers("the presenter forwards again, with a read waiting", PRESENTER, news, 1);
-    catch_up();
+    catch_up(STUDIO);
     say("the presenter collects", sulyobak_collect(MEMORY, control, PRESENTER, output, sizeof output));
-    catch_up();
+    catch_up(STUDIO);
     say("the presenter collects", sulyobak_collect(MEMORY, control, PRESENTER, output, sizeof output));
     show(0);
     forward_numbers("the studio has caught up, and answers a forward itself", PRESENTER, news, 1);
@@ -280,6 +291,29 @@ static void the_van(void)
            memcmp(van_copy, library_memory, sizeof van_copy) == 0 ? "the same carts" : "DIFFERENT carts");
 }
 
+static void the_other_studio(void)
+{
+    static const uint32_t take_b[1] = {JINGLE_B};
+    const uint8_t *presenter = sulyobak_session_at(session_memory, PRESENTER);
+
+    printf("\nThe other studio\n");
+    take(OTHER, 6);
+    catch_up(STUDIO);
+    printf("the studio's copy has taken %u, the other studio's %u\n", (unsigned)control.applied[STUDIO - 1],
+           (unsigned)control.applied[OTHER - 1]);
+    read_numbers("the presenter looks for take B in the studio", PRESENTER, take_b, 1);
+    show(0);
+    printf("the presenter's number is %u now: the read has shown so many commits\n", (unsigned)sulyobak_session_number(presenter));
+    say("the presenter walks to the other studio", sulyobak_move(MEMORY, control, PRESENTER, OTHER));
+    read_numbers("the presenter looks for take B, which the copy there still has", PRESENTER, take_b, 1);
+    say("the presenter walks back, with a read waiting", sulyobak_move(MEMORY, control, PRESENTER, STUDIO));
+    catch_up(OTHER);
+    say("the presenter collects", sulyobak_collect(MEMORY, control, PRESENTER, output, sizeof output));
+    show(0);
+    say("the presenter walks back", sulyobak_move(MEMORY, control, PRESENTER, STUDIO));
+    say("control and memory are of the layout", sulyobak_layout(MEMORY, control));
+}
+
 int main(void)
 {
     static const uint8_t studios[SULYOBAK_SESSIONS] = {STUDIO, STUDIO, STUDIO, STUDIO};
@@ -287,12 +321,13 @@ int main(void)
         printf("the linked library is of version %u, the header of %d\n", (unsigned)sulyobak_version(), SULYOBAK_VERSION);
         return 1;
     }
-    say("set up one studio with three chairs, one of them with two sessions", sulyobak_setup(MEMORY, 1, studios, sizeof studios));
+    say("set up two studios; three chairs, one of them with two sessions", sulyobak_setup(MEMORY, 2, studios, sizeof studios));
     the_title_column();
     the_sponsors_jingle();
     the_weather_bed();
     the_taken_cart();
     ten_seconds_before_the_hour();
     the_van();
+    the_other_studio();
     return 0;
 }

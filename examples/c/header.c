@@ -29,6 +29,7 @@ sulyobak_answer (*const of_a_refresh[])(WRITTEN, READ, READ, sulyobak_control, u
 sulyobak_answer (*const of_a_read[])(READ, READ, WRITTEN, sulyobak_control, uint32_t, READ, WRITTEN) = {sulyobak_read};
 sulyobak_answer (*const of_a_collect[])(READ, READ, WRITTEN, sulyobak_control, uint32_t, WRITTEN) = {sulyobak_collect};
 sulyobak_answer (*const of_a_forward[])(READ, READ, WRITTEN, sulyobak_control, uint32_t, READ, WRITTEN) = {sulyobak_forward};
+sulyobak_answer (*const of_a_move[])(READ, READ, READ, sulyobak_control, uint32_t, uint32_t) = {sulyobak_move};
 sulyobak_answer (*const of_the_layout[])(READ, READ, READ, sulyobak_control) = {sulyobak_layout};
 sulyobak_answer (*const of_a_van_write[])(READ, READ, READ, sulyobak_control, uint32_t, WRITTEN) = {sulyobak_van_write};
 sulyobak_van_answer (*const of_a_van_receive[])(WRITTEN, uint32_t, READ) = {sulyobak_van_receive};

@@ -48,6 +48,7 @@ static sulyobak_answer forward_as(uint32_t session)
 }
 static sulyobak_answer forward(void) { return forward_as(READER); }
 static sulyobak_answer forward_own(void) { return forward_as(EDITOR); }
+static sulyobak_answer move(void) { return sulyobak_move(MEMORY, answer.control, READER, 1); }
 static sulyobak_answer layout(void) { return sulyobak_layout(MEMORY, answer.control); }
 static sulyobak_answer van_write(void)
 {
@@ -154,6 +155,7 @@ int main(void)
     measure("van_receive of the same", van_receive);
     measure("send", send);
     measure("refresh", refresh);
+    measure("move", move);
     sulyobak_request_numbers(request, carts, SULYOBAK_NUMBERS);
     measure("read of 32 numbers", read);
     measure("forward of 32 numbers", forward);

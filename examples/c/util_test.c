@@ -163,6 +163,27 @@ static void test_forward(void)
     HOLD(sulyobak_session_number(session) == 4 && sulyobak_session_waiting(session) == 0);
 }
 
+/* An answered read leaves its session's number at the state that it showed; a move leaves session memory alone. */
+static void test_move(void)
+{
+    uint8_t request[80], output[SULYOBAK_OUTPUT_MOST], before[SULYOBAK_SESSIONS_SIZE];
+    static const uint32_t carts[1] = {1};
+    const uint8_t *session = sulyobak_session_at(session_memory, 3);
+    sulyobak_answer answer;
+    HOLD(sulyobak_session_number(session) == 0 && control.applied[0] == 2 && control.applied[1] == 0);
+    HOLD(sulyobak_request_numbers(request, carts, 1) == SULYOBAK_MADE);
+    answer = keep(sulyobak_read(MEMORY, control, 3, request, 80, output, 80));
+    HOLD(answer.kind == SULYOBAK_ANSWERED && answer.value == 2 && sulyobak_session_number(session) == 2);
+    memcpy(before, session_memory, sizeof before);
+    answer = keep(sulyobak_move(MEMORY, control, 3, 2));
+    HOLD(answer.kind == SULYOBAK_DONE && answer.value == 2 && control.session_studios[2] == 2);
+    HOLD(memcmp(before, session_memory, sizeof before) == 0);
+    answer = keep(sulyobak_read(MEMORY, control, 3, request, 80, output, 80));
+    HOLD(answer.kind == SULYOBAK_WAITS && answer.value == 2);
+    answer = keep(sulyobak_move(MEMORY, control, 3, 1));
+    HOLD(answer.kind == SULYOBAK_REFUSED && answer.value == SULYOBAK_READ_WAITING && control.session_studios[2] == 2);
+}
+
 /* A message is of the number and the operations that were committed, and a fresh van applies it. */
 static void test_messages(void)
 {
@@ -194,15 +215,16 @@ static void test_sentences(void)
 
 int main(void)
 {
-    static const uint8_t studios[SULYOBAK_SESSIONS] = {1, 1};
+    static const uint8_t studios[SULYOBAK_SESSIONS] = {1, 1, 1};
     HOLD(sulyobak_version() == SULYOBAK_VERSION);
-    HOLD(keep(sulyobak_setup(MEMORY, 1, studios, sizeof studios)).kind == SULYOBAK_DONE);
+    HOLD(keep(sulyobak_setup(MEMORY, 2, studios, sizeof studios)).kind == SULYOBAK_DONE);
     test_misfits();
     test_operations();
     test_spaces();
     test_sessions();
     test_taken();
     test_forward();
+    test_move();
     test_messages();
     test_sentences();
     printf("util_test: everything held\n");
