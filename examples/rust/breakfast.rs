@@ -7,18 +7,20 @@
 //! told what is wrong with it, mends it and commits it. Then the presenter is told that the cart of that edit is taken: the studio's copy
 //! still has it empty, so the presenter's read of it waits, and is collected with what is there. Then, ten seconds before the hour, the
 //! presenter re-cuts the news bed and cannot wait for the studio: the read is forwarded, and the head end shows the new cut. A plain read
-//! then waits until the studio's copy has all that the head end had shown. Last, a van at the fair has a copy of its own, beyond a radio
+//! then waits until the studio's copy has all that the head end had shown. Then a van at the fair has a copy of its own, beyond a radio
 //! link that loses, repeats and reorders messages: the van applies each transaction in its turn and once, so its presenter sees the carts
-//! of one moment, and at last those of the head end.
+//! of one moment, and at last those of the head end. Last, the presenter is shown in the studio that take B is gone, and walks to the other
+//! studio, whose copy still has it: the read there waits until that copy has all that the presenter was shown, and is collected.
 use std::error::Error;
 use sulyobak::{sizes, Cart, Forwarded, Library, Operation, Read, Received, Refusal, Request, Title, Van};
 
-// Sessions, and the studio that all of them sit in.
+// Sessions, the studio that all of them sit in at first, and the one that the presenter walks to.
 const MANAGER: u32 = 1;
 const PRODUCER: u32 = 2;
 const PRESENTER: u32 = 3;
 const SECOND: u32 = 4; // in the producer's chair, by mistake
 const STUDIO: u32 = 1;
+const OTHER: u32 = 2;
 
 // Carts.
 const JINGLE_A: u16 = 11;
@@ -28,7 +30,7 @@ const NEWS: u16 = 30;
 const WEATHER: u16 = 31;
 
 fn main() -> Result<(), Box<dyn Error>> {
-    let mut wall = Library::new(1, &[1, 1, 1, 1])?;
+    let mut wall = Library::new(2, &[1, 1, 1, 1])?;
     the_title_column(&mut wall)?;
     println!();
     the_sponsors_jingle(&mut wall)?;
@@ -40,6 +42,8 @@ fn main() -> Result<(), Box<dyn Error>> {
     ten_seconds_before_the_hour(&mut wall)?;
     println!();
     the_van(&mut wall)?;
+    println!();
+    the_other_studio(&mut wall)?;
     Ok(())
 }
 
@@ -60,7 +64,7 @@ fn the_title_column(wall: &mut Library) -> Result<(), Box<dyn Error>> {
         ],
     )?;
     println!("commit {number}: two jingles and the sponsor's");
-    catch_up(wall)?;
+    catch_up(wall, STUDIO)?;
 
     let first = wall.read(PRESENTER, &Request::Title(take_a))?;
     show("take A by title", &first);
@@ -85,9 +89,9 @@ fn the_sponsors_jingle(wall: &mut Library) -> Result<(), Box<dyn Error>> {
         Err(refusal) => println!("another commit in that chair: {refusal}"),
     }
     show("a second session in that chair reads the old cut", &wall.read(SECOND, &request)?);
-    catch_up(wall)?;
+    catch_up(wall, STUDIO)?;
     show("the producer collects", &wall.collect(PRODUCER)?);
-    catch_up(wall)?;
+    catch_up(wall, STUDIO)?;
     show("the producer collects", &wall.collect(PRODUCER)?);
     Ok(())
 }
@@ -118,7 +122,7 @@ fn the_taken_cart(wall: &mut Library) -> Result<(), Box<dyn Error>> {
         Err(refusal) => println!("the presenter's travel bed there: {refusal}"),
     }
     show("the presenter reads the cart, which the studio's copy has empty", &wall.read(PRESENTER, &request)?);
-    catch_up(wall)?;
+    catch_up(wall, STUDIO)?;
     show("the presenter collects", &wall.collect(PRESENTER)?);
     Ok(())
 }
@@ -138,9 +142,9 @@ fn ten_seconds_before_the_hour(wall: &mut Library) -> Result<(), Box<dyn Error>>
         Ok(shown) => show_forwarded("the presenter forwards again", wall, &shown),
         Err(refusal) => println!("the presenter forwards again, with a read waiting: {refusal}"),
     }
-    catch_up(wall)?;
+    catch_up(wall, STUDIO)?;
     show("the presenter collects", &wall.collect(PRESENTER)?);
-    catch_up(wall)?;
+    catch_up(wall, STUDIO)?;
     show("the presenter collects", &wall.collect(PRESENTER)?);
     let shown = wall.forward(PRESENTER, &request)?;
     show_forwarded("the presenter forwards once more", wall, &shown);
@@ -169,6 +173,28 @@ fn the_van(wall: &mut Library) -> Result<(), Box<dyn Error>> {
     Ok(())
 }
 
+fn the_other_studio(wall: &mut Library) -> Result<(), Box<dyn Error>> {
+    println!("The other studio");
+    for _ in 0..6 {
+        wall.send(OTHER)?;
+        wall.refresh(OTHER)?;
+    }
+    println!("the other studio's copy has taken {} of {}", wall.control().applied[OTHER as usize - 1], wall.control().commits);
+    catch_up(wall, STUDIO)?;
+    let request = Request::cart(JINGLE_B);
+    show("the presenter looks for take B in the studio", &wall.read(PRESENTER, &request)?);
+    println!("the presenter walks to studio {}", wall.move_session(PRESENTER, OTHER)?);
+    show("the presenter looks for take B, which the copy there still has", &wall.read(PRESENTER, &request)?);
+    match wall.move_session(PRESENTER, STUDIO) {
+        Ok(studio) => println!("the presenter walks to studio {studio}"),
+        Err(refusal) => println!("the presenter walks back, with a read waiting: {refusal}"),
+    }
+    catch_up(wall, OTHER)?;
+    show("the presenter collects", &wall.collect(PRESENTER)?);
+    println!("the presenter walks back to studio {}", wall.move_session(PRESENTER, STUDIO)?);
+    Ok(())
+}
+
 // The head end writes the message of a transaction, and the link brings it to the van.
 fn bring(wall: &Library, van: &mut Van, what: &str, number: u32) -> Result<(), Refusal> {
     let message = wall.van_write(number)?;
@@ -186,9 +212,9 @@ fn show_van(wall: &Library, van: &Van) {
 }
 
 // The line sends one transaction, and the studio's copy takes it.
-fn catch_up(wall: &mut Library) -> Result<(), Refusal> {
-    let sent = wall.send(STUDIO)?;
-    let applied = wall.refresh(STUDIO)?;
+fn catch_up(wall: &mut Library, studio: u32) -> Result<(), Refusal> {
+    let sent = wall.send(studio)?;
+    let applied = wall.refresh(studio)?;
     println!("sent {sent}, applied {applied} of {}", wall.control().commits);
     Ok(())
 }

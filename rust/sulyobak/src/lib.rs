@@ -1,12 +1,13 @@
 //! A replication engine for radio cart libraries.
 //!
 //! One head end commits edits to its copy of the library and to a log. Up to four studios are sent the committed transactions and
-//! apply them, in order, to copies of their own. A session belongs to one studio and reads that studio's copy. Its read is answered
+//! apply them, in order, to copies of their own. A session is at one studio at a time and reads that studio's copy. Its read is answered
 //! once the copy has reached the session's number, and waits until then; where it cannot wait, the read is forwarded to the head end
-//! ([`Library::forward`]). The number is that of the session's last commit, or the count of commits at which the head end refused it one
-//! because of a cart's state ([`Refusal::WrongState`]) or answered it, whichever came later. So nobody is handed an old cut that they have
-//! just replaced, or told or shown what the head end has and then shown a copy from before. A copy beyond a line that loses, repeats and
-//! reorders, in an outside-broadcast van, is kept by messages, one for each transaction ([`Library::van_write`], [`Van::receive`]).
+//! ([`Library::forward`]). The number is the highest of what the session knows of: its last commit, the count of commits at which the head
+//! end refused it one because of a cart's state ([`Refusal::WrongState`]) or answered it, and the state that a read showed it. So nobody is
+//! handed an old cut that they have just replaced, or told or shown what the head end or a studio has and then shown a copy from before,
+//! also after a move to another studio ([`Library::move_session`]). A copy beyond a line that loses, repeats and reorders, in an
+//! outside-broadcast van, is kept by messages, one for each transaction ([`Library::van_write`], [`Van::receive`]).
 //!
 //! The engine is written in Rattle and linked as a static library; each of its functions is proved to answer, and to leave in
 //! memory, exactly what its specification gives. This crate is a safe wrapper around it, with no dependency but the

@@ -191,17 +191,21 @@ impl Library {
 
     /// Reads from the copy of the session's studio, or waits until that copy has reached the session's number. Where a session
     /// cannot wait, call [`forward`](Library::forward).
+    ///
+    /// An answer raises the session's number to the state that it shows, where that is higher: so no later read of the session shows a
+    /// lower state, also after a move to another studio ([`move_session`](Library::move_session)).
     pub fn read(&mut self, session: u32, request: &Request) -> Result<Read, Refusal> {
         self.memory().read(session, request)
     }
 
-    /// Collects the read that the session has waiting, if its studio's copy has caught up; else it waits on.
+    /// Collects the read that the session has waiting, if its studio's copy has caught up; else it waits on. An answer raises the session's
+    /// number as that of [`read`](Library::read) does.
     pub fn collect(&mut self, session: u32) -> Result<Read, Refusal> {
         self.memory().collect(session)
     }
 
-    /// Reads now, where a session cannot wait. Where the copy of the session's studio has reached the session's number, it answers exactly
-    /// what [`read`](Library::read) would. Else it answers from the head end's copy, and the session's number becomes the count of commits:
+    /// Reads now, where a session cannot wait. Where the copy of the session's studio has reached the session's number, it answers and leaves
+    /// exactly what [`read`](Library::read) would. Else it answers from the head end's copy, and the session's number becomes the count of commits:
     /// so the session's later reads wait until its studio's copy has all that was committed by then, and none shows a copy from before.
     ///
     /// It never waits and keeps no request. A session that has a read waiting is refused ([`Refusal::ReadWaiting`]), and that read waits
@@ -231,6 +235,40 @@ impl Library {
     /// ```
     pub fn forward(&mut self, session: u32, request: &Request) -> Result<Forwarded, Refusal> {
         self.memory().forward(session, request)
+    }
+
+    /// Moves a session to another studio. Returns that studio. Its later reads are answered from the copy there; at a studio whose copy is
+    /// behind the session's number they wait, or are forwarded. A move to the session's own studio is no refusal, and changes nothing.
+    ///
+    /// Nothing but control changes: the studio of that session. A session that has a read waiting is refused ([`Refusal::ReadWaiting`]),
+    /// and so is a studio that there is not ([`Refusal::Nobody`]).
+    ///
+    /// A presenter walks to the other studio, and not back in time:
+    ///
+    /// ```
+    /// use sulyobak::{Library, Operation, Read, Request, Title};
+    ///
+    /// # fn main() -> Result<(), Box<dyn std::error::Error>> {
+    /// // The editor, session 1, and the presenter, session 2, sit in studio 1.
+    /// let mut library = Library::new(2, &[1, 1])?;
+    /// library.commit(1, &[Operation::New { cart: 7, title: Title::new("Top hour A")?, audio: 501, milliseconds: 8_000 }])?;
+    /// library.send(1)?;
+    /// library.refresh(1)?;
+    ///
+    /// // The presenter is shown cart 7 in studio 1, and then not the copy of studio 2 in which it is empty.
+    /// let Read::Answered { state: 1, found: 1, .. } = library.read(2, &Request::cart(7))? else { panic!("not answered") };
+    /// assert_eq!(library.move_session(2, 2)?, 2);
+    /// assert_eq!(library.read(2, &Request::cart(7))?, Read::Waits { number: 1 });
+    ///
+    /// library.send(2)?;
+    /// library.refresh(2)?;
+    /// let Read::Answered { carts, .. } = library.collect(2)? else { panic!("still waiting") };
+    /// assert_eq!(carts[0].map(|cart| cart.audio), Some(501));
+    /// # Ok(())
+    /// # }
+    /// ```
+    pub fn move_session(&mut self, session: u32, studio: u32) -> Result<u32, Refusal> {
+        self.memory().move_session(session, studio)
     }
 
     /// Writes the message of a committed transaction, for a [`Van`](crate::Van), and changes nothing. The transaction need not have been

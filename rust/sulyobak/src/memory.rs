@@ -100,7 +100,8 @@ impl Memory<'_> {
         self.done(answer)
     }
 
-    /// Reads from the copy of the session's studio, or waits until it has reached the session's number.
+    /// Reads from the copy of the session's studio, or waits until it has reached the session's number. Answered, the session's number is
+    /// raised: [`Library::read`](crate::Library::read) says to what.
     pub fn read(&mut self, session: u32, request: &Request) -> Result<Read, Refusal> {
         let mut output = [0; sizes::OUTPUT_MOST];
         let output = &mut output[..sizes::CART * request.places()];
@@ -113,7 +114,8 @@ impl Memory<'_> {
         ask!(sulyobak_read, self, session, request, output)
     }
 
-    /// Collects the read that the session has waiting, if its studio's copy has caught up; else it waits on.
+    /// Collects the read that the session has waiting, if its studio's copy has caught up; else it waits on. Answered, the session's number
+    /// is raised as by [`read`](Memory::read).
     pub fn collect(&mut self, session: u32) -> Result<Read, Refusal> {
         let places = self.places_waiting(session);
         let mut output = [0; sizes::OUTPUT_MOST];
@@ -144,6 +146,13 @@ impl Memory<'_> {
         }
     }
 
+    /// Moves a session to another studio. Returns that studio. Control alone changes:
+    /// [`Library::move_session`](crate::Library::move_session) has an example.
+    pub fn move_session(&mut self, session: u32, studio: u32) -> Result<u32, Refusal> {
+        let answer = call!(as_ptr, sulyobak_move, self, *self.control, session, studio);
+        self.done(answer)
+    }
+
     /// Writes the message of a committed transaction, for a van, and changes nothing: [`Library::van_write`](crate::Library::van_write) has
     /// an example.
     pub fn van_write(&self, number: u32) -> Result<Message, Refusal> {
@@ -166,7 +175,7 @@ impl Memory<'_> {
         bytes.map_or(0, Request::places_in).min(sizes::NUMBERS)
     }
 
-    // The answer of commit, send or refresh.
+    // The answer of commit, send, refresh or move.
     fn done(&mut self, answer: sys::Answer) -> Result<u32, Refusal> {
         *self.control = answer.control;
         counted(&answer)
