@@ -82,14 +82,24 @@ pub fn collect(system: &mut System, session: u32, output: &mut [u8]) -> Ended {
     if output.len() < request.output_bytes() {
         return Err(13);
     }
-    match caught_up(system, place) {
-        Some(studio) => {
-            let answered = answer(&studio.copy, studio.applied, &request, output);
-            session_at_mut(system, place).waiting = None;
-            Ok(answered)
-        }
-        None => Ok(Outcome::Waits(session_at(system, place).number)),
+    let answered = answer_at_studio(system, place, &request, output);
+    let session = session_at_mut(system, place);
+    if answered.is_some() {
+        session.waiting = None;
     }
+    Ok(answered.unwrap_or(Outcome::Waits(session.number)))
+}
+
+/// S-7: "refused by the old 3 and 4 on their conditions". The present studio is no condition.
+pub fn move_session(system: &mut System, session: u32, studio: u32) -> Ended {
+    let place = used_session(system, session)?;
+    known_studio(system, studio)?;
+    let session = session_at_mut(system, place);
+    if session.waiting.is_some() {
+        return Err(4);
+    }
+    session.studio = usize::try_from(studio).expect("at most 4");
+    Ok(Outcome::Done(studio))
 }
 
 /// What a reading call does where the studio's copy is behind the session's number.
@@ -106,10 +116,8 @@ fn reading(system: &mut System, session: u32, request: &[u8], output: &mut [u8],
     if output.len() < request.output_bytes() {
         return Err(13);
     }
-    match caught_up(system, place) {
-        Some(studio) => Ok(answer(&studio.copy, studio.applied, &request, output)),
-        None => Ok(behind(system, place, request, output)),
-    }
+    let answered = answer_at_studio(system, place, &request, output);
+    Ok(answered.unwrap_or_else(|| behind(system, place, request, output)))
 }
 
 /// 01, read: "the request is stored and the answer is waits". Output is left alone.
@@ -140,11 +148,18 @@ fn acted(copy: &Copy, transaction: &Transaction) -> Option<Copy> {
     Some(copy)
 }
 
-/// The session's studio, if its copy has reached the session's number.
-fn caught_up(system: &System, place: usize) -> Option<&Studio> {
-    let session = session_at(system, place);
-    let studio = &system.studios[session.studio - 1];
-    (studio.applied >= session.number).then_some(studio)
+/// Answers from the copy of the session's studio, if that has reached the session's
+/// number. S-7: the answer raises the number "to the state it showed, if that is higher".
+fn answer_at_studio(system: &mut System, place: usize, request: &Request, output: &mut [u8]) -> Option<Outcome> {
+    let number = session_at(system, place).number;
+    let studio = &system.studios[session_at(system, place).studio - 1];
+    if studio.applied < number {
+        return None;
+    }
+    let state = studio.applied;
+    let answered = answer(&studio.copy, state, request, output);
+    session_at_mut(system, place).number = number.max(state);
+    Some(answered)
 }
 
 /// Answers a request from a copy of that state, from output's start.

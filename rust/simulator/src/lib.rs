@@ -1,4 +1,4 @@
-//! The cart wall of document 01, with requests S-1 to S-6 of document 02, by
+//! The cart wall of document 01, with requests S-1 to S-7 of document 02, by
 //! another hand.
 //!
 //! Every call decodes the lent memory and the control into a value, acts on
@@ -67,7 +67,8 @@ pub fn refresh(library: &mut [u8], log: &mut [u8], sessions: &mut [u8], control:
     play(library, log, sessions, control, |system| calls::refresh(system, studio))
 }
 
-/// Read.
+/// Read. Answered, it raises the session's number to the state it showed, if that is
+/// higher.
 pub fn read(
     library: &mut [u8],
     log: &mut [u8],
@@ -80,13 +81,14 @@ pub fn read(
     play(library, log, sessions, control, |system| calls::read(system, session, request, output))
 }
 
-/// Collect.
+/// Collect. Answered, it raises the session's number as read does.
 pub fn collect(library: &mut [u8], log: &mut [u8], sessions: &mut [u8], control: Control, session: u32, output: &mut [u8]) -> Answer {
     play(library, log, sessions, control, |system| calls::collect(system, session, output))
 }
 
 /// Forward: a read that does not wait. Where its studio's copy is behind the session's
-/// number, the head end's copy answers and the number becomes commits.
+/// number, the head end's copy answers and the number becomes commits; else it is
+/// answered, and the number raised, as by read.
 pub fn forward(
     library: &mut [u8],
     log: &mut [u8],
@@ -97,6 +99,12 @@ pub fn forward(
     output: &mut [u8],
 ) -> Answer {
     play(library, log, sessions, control, |system| calls::forward(system, session, request, output))
+}
+
+/// Move: the session's studio becomes this one. No byte of memory changes, and so not
+/// the session's number.
+pub fn move_session(library: &mut [u8], log: &mut [u8], sessions: &mut [u8], control: Control, session: u32, studio: u32) -> Answer {
+    play(library, log, sessions, control, |system| calls::move_session(system, session, studio))
 }
 
 /// The van's writer: the message of one transaction, at output's start. It reads the

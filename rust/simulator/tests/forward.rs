@@ -1,48 +1,11 @@
 //! Forward, of request S-4: where the studio's copy has reached the session's number,
 //! read's answer; otherwise the head end's, and the session's number becomes commits.
-//! That a refused forward leaves memory and control is asserted by `Wall::forward`.
+//! That a refused forward leaves memory and control, and what an answered one leaves, is
+//! asserted by `Wall::forward`.
 
 mod wall;
 use simulator::{COPY, UNIT};
 use wall::*;
-
-/// Six commits, all sent to both studios, and no L(n) is like the one before it.
-/// Studio 1 has applied as many as asked for, studio 2 none. Sessions 1 to 3 have
-/// the numbers 1, 4 and 6.
-fn six(applied: u32) -> Wall {
-    let mut wall = fresh();
-    for (n, session, operations) in [
-        (1, 1, vec![top_hour()]),
-        (2, 3, vec![new(8, "Bed", 2, 2)]),
-        (3, 3, vec![recut(7, 3, 3), new(9, "Bed", 3, 3)]),
-        (4, 2, vec![recut(7, 4, 4)]),
-        (5, 3, vec![withdraw(8)]),
-        (6, 3, vec![retitle(7, "Top hour B")]),
-    ] {
-        assert_eq!(wall.commit(session, &operations), done(n));
-    }
-    for n in 1..=6 {
-        assert_eq!((wall.send(1), wall.send(2)), (done(n), done(n)));
-    }
-    for n in 1..=applied {
-        assert_eq!(wall.refresh(1), done(n));
-    }
-    wall
-}
-
-/// `six` for every count applied at studio 1 and every number of session 1.
-fn every_six() -> Vec<(Wall, u32, u32)> {
-    let mut walls = Vec::new();
-    for applied in 0..=6 {
-        let wall = six(applied);
-        for number in 0..=6 {
-            let mut wall = wall.clone();
-            wall.put_number(1, number);
-            walls.push((wall, applied, number));
-        }
-    }
-    walls
-}
 
 /// Requests, and how many each of them finds in L(0) to L(6) of `six`.
 fn asked() -> [([u8; UNIT], [u32; 7]); 5] {
@@ -89,12 +52,13 @@ fn a_recut_is_shown_at_once() {
 fn reached_it_answers_as_read_does() {
     for (wall, applied, number) in every_six().into_iter().filter(|(_, applied, number)| number <= applied) {
         for (request, found) in asked() {
-            let (mut left, mut output) = (wall.clone(), [9; 400]);
+            let (mut left, mut raised, mut output) = (wall.clone(), wall.clone(), [9; 400]);
             let words = left.forward(1, &request, &mut output);
             let case = format!("{applied} applied, number {number}, {request:?}");
             assert_eq!(words, answered(applied, found[applied as usize]), "{case}");
             assert_eq!((words, output), answer_of_read(&wall, 1, &request), "{case}");
-            assert_eq!(left, wall, "{case}: neither memory nor control");
+            raised.put_number(1, applied);
+            assert_eq!(left, raised, "{case}: the number and nothing else");
         }
     }
 }
@@ -133,10 +97,10 @@ fn each_session_looks_at_its_studio() {
     }
     for session in 1..=16 {
         let mut output = [9; UNIT];
-        let (state, number) = [(4, 4), (4, 4), (3, 3), (4, 3)][(session as usize - 1) % 4];
+        let state = [4, 4, 3, 4][(session as usize - 1) % 4];
         assert_eq!(wall.forward(session, &by_numbers(&[7]), &mut output), answered(state, 1), "session {session}");
         assert_eq!(output, new(7, "Top hour A", state, state), "session {session}");
-        assert_eq!(wall.number(session), number, "session {session}");
+        assert_eq!(wall.number(session), state, "session {session}");
     }
 }
 
@@ -342,9 +306,10 @@ fn a_studio_that_the_log_does_not_make() {
     let (bed, mut wall, mut output) = (new(10, "Jingle", 10, 10), six(6), [9; UNIT]);
     wall.library[COPY + 720..COPY + 800].copy_from_slice(&bed);
     for request in [by_numbers(&[10]), by_title("Jingle")] {
-        let mut left = wall.clone();
+        let (mut left, mut raised) = (wall.clone(), wall.clone());
         assert_eq!(left.forward(1, &request, &mut output), answered(6, 1));
-        assert_eq!((output, left), (bed, wall.clone()));
+        raised.put_number(1, 6);
+        assert_eq!((output, left), (bed, raised));
     }
 }
 
@@ -415,22 +380,6 @@ fn after_a_commit_refused_with_8() {
     assert_eq!(wall.commit(3, &[top_hour()]), done(2));
     assert_eq!(wall.forward(1, &by_numbers(&[40]), &mut output), answered(2, 1));
     assert_eq!((output, wall.number(1)), (theirs, 2));
-}
-
-/// One call of a list that a seed makes: its session, or 0 for a send or refresh,
-/// and its answer.
-fn call(wall: &mut Wall, seed: u32) -> (u32, Words) {
-    let (session, studio, cart) = (1 + seed / 8 % 3, 1 + seed / 8 % 2, 7 + u16::try_from(seed / 32 % 2).unwrap());
-    let (request, mut output) = ([by_numbers(&[7, 8]), by_title("Bed")][seed as usize / 64 % 2], [9; 2 * UNIT]);
-    let operation = [new(cart, "Bed", seed, 1), recut(cart, seed, 2), withdraw(cart)][seed as usize / 128 % 3];
-    match seed % 8 {
-        0 | 1 => (session, wall.commit(session, &[operation])),
-        2 => (0, wall.send(studio)),
-        3 => (0, wall.refresh(studio)),
-        4 => (session, wall.collect(session, &mut output)),
-        5 => (session, wall.read(session, &request, &mut output)),
-        _ => (session, wall.forward(session, &request, &mut output)),
-    }
 }
 
 /// What a session was last told, its commit's number or a state, is never followed by

@@ -72,5 +72,5 @@ fn copies_need_not_be_libraries_of_the_log() {
     let mut output = [9; 80];
     assert_eq!(wall.collect(2, &mut output), answered(2, 0));
     assert_eq!(output, [0; 80]);
-    assert_eq!(wall.sessions[80..84], [0, 0, 2, 0], "collect keeps the number");
+    assert_eq!(wall.sessions[80..84], [0, 0, 2, 0], "the number was the state that collect showed");
 }

@@ -38,7 +38,7 @@ fn the_cart_that_is_taken_is_shown() {
     assert_eq!(wall.refresh(1), done(2));
     assert_eq!(wall.collect(1, &mut output), answered(2, 1));
     assert_eq!(output, theirs);
-    assert_eq!(wall.number(1), 2, "collect keeps it");
+    assert_eq!(wall.number(1), 2, "the state that collect showed is no higher");
 }
 
 /// 01's cases 8 and 10, asked by session 2, whose number is 0.
@@ -147,15 +147,17 @@ fn an_earlier_row_leaves_the_number() {
     assert_eq!((wall.number(1), wall.number(2), wall.number(3)), (1, 511, 511));
 }
 
+/// An answered read raises it to the state that it showed, of 6 commits.
 #[test]
-fn no_other_call_raises_it() {
+fn no_other_refusal_raises_it() {
     let (mut wall, mut output) = (busy(), [0; UNIT]);
     assert_eq!(wall.read(2, &[0; UNIT], &mut output), refused(12));
     assert_eq!(wall.read(2, &by_numbers(&[7, 8]), &mut output), refused(13));
     assert_eq!(wall.collect(2, &mut output), refused(14));
     assert_eq!(wall.refresh(2), refused(11));
-    assert_eq!(wall.read(2, &by_numbers(&[7]), &mut output), answered(2, 1));
     assert_eq!(wall, busy());
+    assert_eq!(wall.read(2, &by_numbers(&[7]), &mut output), answered(2, 1));
+    assert_eq!(wall.number(2), 2);
 }
 
 #[test]
@@ -224,6 +226,6 @@ fn a_withdraw_afterwards_does_not_matter() {
     refreshed(&mut wall, 2);
     assert_eq!(wall.read(1, &asked, &mut output), answered(2, 0));
     assert_eq!(output, [0; UNIT]);
-    assert_eq!(wall.number(1), 1);
+    assert_eq!(wall.number(1), 2, "the state that the read showed");
     assert_eq!(wall.commit(1, &[top_hour()]), done(3));
 }

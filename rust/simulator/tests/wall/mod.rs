@@ -48,6 +48,18 @@ impl Wall {
         (answer.kind, answer.value, answer.found)
     }
 
+    /// An answered read, collect or forward leaves no request, and its session's number
+    /// as the state it showed if that is higher. Nothing else changes.
+    fn keep_read(&mut self, mut before: Wall, session: u32, answer: Answer) -> Words {
+        if answer.kind == simulator::ANSWERED {
+            before.put_request(session, &[0; UNIT]);
+            before.put_number(session, before.number(session).max(answer.value));
+        }
+        self.control = answer.control;
+        assert_eq!(*self, before, "a reading call changes its session's request and number alone");
+        (answer.kind, answer.value, answer.found)
+    }
+
     /// A session's number, bytes 2 and 3 of its 80.
     pub fn number(&self, session: u32) -> u32 {
         let at = number_at(session);
@@ -57,6 +69,13 @@ impl Wall {
     pub fn put_number(&mut self, session: u32, number: u32) {
         let (at, number) = (number_at(session), u16::try_from(number).unwrap());
         self.sessions[at..at + 2].copy_from_slice(&number.to_le_bytes());
+    }
+
+    /// Bytes 0, 1 and 16 to 79 of a session: its waiting read, or none by zeros.
+    pub fn put_request(&mut self, session: u32, request: &[u8]) {
+        let at = number_at(session) - 2;
+        self.sessions[at..at + 2].copy_from_slice(&request[..2]);
+        self.sessions[at + 16..at + UNIT].copy_from_slice(&request[16..]);
     }
 
     pub fn setup(&mut self, studios: u32, bytes: &[u8]) -> Words {
@@ -109,12 +128,15 @@ impl Wall {
     }
 
     pub fn read(&mut self, session: u32, request: &[u8], output: &mut [u8]) -> Words {
-        let before = self.clone();
+        let mut before = self.clone();
         let (library, log) = (&mut self.library, &mut self.log);
         let sessions = &mut self.sessions;
         let control = self.control;
         let answer = simulator::read(library, log, sessions, control, session, request, output);
-        self.keep(before, answer)
+        if answer.kind == simulator::WAITS {
+            before.put_request(session, request);
+        }
+        self.keep_read(before, session, answer)
     }
 
     pub fn collect(&mut self, session: u32, output: &mut [u8]) -> Words {
@@ -122,7 +144,7 @@ impl Wall {
         let (library, log) = (&mut self.library, &mut self.log);
         let sessions = &mut self.sessions;
         let answer = simulator::collect(library, log, sessions, self.control, session, output);
-        self.keep(before, answer)
+        self.keep_read(before, session, answer)
     }
 
     pub fn forward(&mut self, session: u32, request: &[u8], output: &mut [u8]) -> Words {
@@ -131,7 +153,20 @@ impl Wall {
         let sessions = &mut self.sessions;
         let control = self.control;
         let answer = simulator::forward(library, log, sessions, control, session, request, output);
-        self.keep(before, answer)
+        self.keep_read(before, session, answer)
+    }
+
+    /// An accepted move changes one word of control, a refused one nothing.
+    pub fn move_session(&mut self, session: u32, studio: u32) -> Words {
+        let mut before = self.clone();
+        let (library, log) = (&mut self.library, &mut self.log);
+        let answer = simulator::move_session(library, log, &mut self.sessions, self.control, session, studio);
+        if answer.kind != simulator::REFUSED {
+            before.control.session_studios[session as usize - 1] = studio;
+        }
+        self.control = answer.control;
+        assert_eq!(*self, before, "a move changes its session's studio alone");
+        (answer.kind, answer.value, answer.found)
     }
 
     pub fn van_write(&mut self, number: u32, output: &mut [u8]) -> Words {
@@ -214,6 +249,60 @@ pub fn committed(commits: u32) -> Wall {
         assert_eq!(wall.commit(1, &[recut(7, n, n)]), done(n));
     }
     wall
+}
+
+/// Six commits, all sent to both studios, and no L(n) is like the one before it.
+/// Studio 1 has applied as many as asked for, studio 2 none. Sessions 1 to 3 have
+/// the numbers 1, 4 and 6.
+pub fn six(applied: u32) -> Wall {
+    let mut wall = fresh();
+    for (n, session, operations) in [
+        (1, 1, vec![top_hour()]),
+        (2, 3, vec![new(8, "Bed", 2, 2)]),
+        (3, 3, vec![recut(7, 3, 3), new(9, "Bed", 3, 3)]),
+        (4, 2, vec![recut(7, 4, 4)]),
+        (5, 3, vec![withdraw(8)]),
+        (6, 3, vec![retitle(7, "Top hour B")]),
+    ] {
+        assert_eq!(wall.commit(session, &operations), done(n));
+    }
+    for n in 1..=6 {
+        assert_eq!((wall.send(1), wall.send(2)), (done(n), done(n)));
+    }
+    for n in 1..=applied {
+        assert_eq!(wall.refresh(1), done(n));
+    }
+    wall
+}
+
+/// `six` for every count applied at studio 1 and every number of session 1.
+pub fn every_six() -> Vec<(Wall, u32, u32)> {
+    let mut walls = Vec::new();
+    for applied in 0..=6 {
+        let wall = six(applied);
+        for number in 0..=6 {
+            let mut wall = wall.clone();
+            wall.put_number(1, number);
+            walls.push((wall, applied, number));
+        }
+    }
+    walls
+}
+
+/// One call of a list that a seed makes: its session, or 0 for a send or refresh,
+/// and its answer.
+pub fn call(wall: &mut Wall, seed: u32) -> (u32, Words) {
+    let (session, studio, cart) = (1 + seed / 8 % 3, 1 + seed / 8 % 2, 7 + u16::try_from(seed / 32 % 2).unwrap());
+    let (request, mut output) = ([by_numbers(&[7, 8]), by_title("Bed")][seed as usize / 64 % 2], [9; 2 * UNIT]);
+    let operation = [new(cart, "Bed", seed, 1), recut(cart, seed, 2), withdraw(cart)][seed as usize / 128 % 3];
+    match seed % 8 {
+        0 | 1 => (session, wall.commit(session, &[operation])),
+        2 => (0, wall.send(studio)),
+        3 => (0, wall.refresh(studio)),
+        4 => (session, wall.collect(session, &mut output)),
+        5 => (session, wall.read(session, &request, &mut output)),
+        _ => (session, wall.forward(session, &request, &mut output)),
+    }
 }
 
 /// A copy of 128 carts with one title.
