@@ -8,7 +8,7 @@ use crate::rows;
 use crate::wall::Wall;
 
 /// The kinds of call that have a weight, by their places among the weights.
-pub const CALLS: usize = 8;
+pub const CALLS: usize = 9;
 const COMMIT: usize = 0;
 const SEND: usize = 1;
 const REFRESH: usize = 2;
@@ -17,6 +17,7 @@ const COLLECT: usize = 4;
 pub const PREVIEW: usize = 5;
 pub const FORWARD: usize = 6;
 const VAN_WRITE: usize = 7;
+const MOVE: usize = 8;
 
 /// The weights by which one kind alone is chosen.
 pub fn only(kind: usize) -> [usize; CALLS] {
@@ -28,7 +29,7 @@ pub fn only(kind: usize) -> [usize; CALLS] {
 /// How a list chooses its arguments.
 #[derive(Clone, Copy)]
 pub struct Taste {
-    /// Weights of commit, send, refresh, read, collect, preview, forward and van_write.
+    /// Weights of commit, send, refresh, read, collect, preview, forward, van_write and move.
     pub weights: [usize; CALLS],
     /// Operations of a commit or a preview, from and to.
     pub sizes: (usize, usize),
@@ -46,7 +47,7 @@ pub fn call(random: &mut Random, maker: &Maker, taste: &Taste, wall: &Wall) -> C
         return commit.clone();
     }
     let mut kind = random.weighted(&taste.weights);
-    if matches!(kind, COMMIT | READ | PREVIEW | FORWARD) && all_waiting(wall) && random.percent(90) {
+    if matches!(kind, COMMIT | READ | PREVIEW | FORWARD | MOVE) && all_waiting(wall) && random.percent(90) {
         kind = *random.pick(&[SEND, REFRESH, REFRESH, COLLECT]);
     }
     match kind {
@@ -63,6 +64,7 @@ pub fn call(random: &mut Random, maker: &Maker, taste: &Taste, wall: &Wall) -> C
         READ => read(random, maker, taste, wall),
         FORWARD => forward(random, maker, taste, wall),
         VAN_WRITE => van_write(random, taste, wall),
+        MOVE => move_session(random, taste, wall),
         _ => collect(random, taste, wall),
     }
 }
@@ -119,9 +121,9 @@ fn unsettle(random: &mut Random, maker: &Maker, operations: &mut Vec<u8>) {
     }
 }
 
-/// A read; often by a session that has not read since the head end told or showed it something.
+/// A read; often by a session that has not read since the head end told or showed it something, or since it moved.
 fn read(random: &mut Random, maker: &Maker, taste: &Taste, wall: &Wall) -> Call {
-    let session = one_of(random, taste, wall, &wall.told.unread());
+    let session = one_of(random, taste, wall, &[wall.told.unread(), wall.walks.unread()].concat());
     let (request, output) = request(random, maker, taste);
     Call::Read { session, request, output }
 }
@@ -131,6 +133,18 @@ fn forward(random: &mut Random, maker: &Maker, taste: &Taste, wall: &Wall) -> Ca
     let session = one_of(random, taste, wall, &wall.behind());
     let (request, output) = request(random, maker, taste);
     Call::Forward { session, request, output }
+}
+
+/// A move; often to a studio that is behind the session's number, now and then of a session that waits.
+fn move_session(random: &mut Random, taste: &Taste, wall: &Wall) -> Call {
+    let waiting = random.percent(12);
+    let session = session(random, taste, wall, waiting);
+    let behind = wall.studios_behind(session);
+    let studio = match behind.is_empty() || random.percent(50) {
+        true => studio(random, taste, wall),
+        false => *random.pick(&behind),
+    };
+    Call::Move { session, studio }
 }
 
 /// One of these sessions, if there are any, as often as one that has nothing waiting.

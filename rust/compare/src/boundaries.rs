@@ -1,7 +1,9 @@
 //! The boundaries that a run must have met, with how their calls ended.
 
 use crate::keys::{ACTED, PASSED_OVER, RECEIVE_AHEAD, RECEIVE_APPLIED, RECEIVE_BYTES, RECEIVE_CART, RECEIVE_COPY, RECEIVE_COUNT};
+use crate::keys::{ANSWERS, ANSWERS_MOVED, MOVE_ABOVE, MOVE_AHEAD, MOVE_BEHIND, MOVE_SESSION, MOVE_STUDIO};
 use crate::keys::{APPLIED, Asked, COLLECT_SPACES, COMMIT, DONE, Edit, Key, PREVIEW, READ, READ_ASKED, READ_SPACES, Reading, SENT_OVER};
+use crate::keys::{COLLECT_RAISES, FORWARD_RAISES, READ_RAISES};
 use crate::keys::{FORWARD_ASKED, FORWARD_COMMITS, FORWARD_HIGH, FORWARD_IN_LIST, FORWARD_NUMBER, FORWARD_RAISED, FORWARD_SPACES};
 use crate::keys::{FORWARD_STUDIO, FORWARD_UNMADE, HEAD_END, WAITED};
 use crate::keys::{HELD, RECEIVE_NUMBER, RECEIVE_OPERATION, RECEIVE_SPACED, RECEIVE_SPARE, REPEATED, RUN, RUN_HIGH};
@@ -17,7 +19,30 @@ const HUGE: u32 = u32::MAX;
 pub fn all() -> Vec<Key> {
     let spaces = [reading(&READ_SPACES, WAITED), reading(&COLLECT_SPACES, WAITED), reading(&FORWARD_SPACES, HEAD_END)].concat();
     let asked = [asked(&READ_ASKED, WAITED), asked(&FORWARD_ASKED, HEAD_END)].concat();
-    [edit(&COMMIT), edit(&PREVIEW), taken(), asked, forward(), spaces, searches(), van_write(), receive(), OTHERS.to_vec()].concat()
+    let calls = [edit(&COMMIT), edit(&PREVIEW), taken(), asked, forward(), spaces, moves(), van_write(), OTHERS.to_vec()].concat();
+    [calls, searches(), receive()].concat()
+}
+
+/// Those of a move, of the numbers that answers raise, and of two answers to one session.
+fn moves() -> Vec<Key> {
+    let raises = [READ_RAISES, COLLECT_RAISES, FORWARD_RAISES]
+        .map(|of| numbered(&[(of.from, &[0, 1], READ), (of.by, &[1, 2], READ), (of.high, &[0, 1, 2], READ)]));
+    let answers = [READ, HEAD_END].map(|end| numbered(&[(ANSWERS, &[0, 1, 2], end), (ANSWERS_MOVED, &[0, 1, 2], end)]));
+    let others = numbered(&[
+        (MOVE_SESSION, &[1, 16], DONE),
+        (MOVE_SESSION, &[1, 16], 4),
+        (MOVE_SESSION, &[0, 17, 257, 65_537, HUGE], 3),
+        (MOVE_STUDIO, &[1, 2, 3, 4], DONE),
+        (MOVE_STUDIO, &[1, 2, 3, 4], 4),
+        (MOVE_STUDIO, &[0, 2, 3, 4, 5, 257, 65_537, HUGE], 3),
+        (MOVE_ABOVE, &[LESS, 0], DONE),
+        (MOVE_ABOVE, &[1], 3),
+        (MOVE_BEHIND, &[LESS, 0, 1], DONE),
+        (MOVE_BEHIND, &[0, 1], 4),
+        (MOVE_AHEAD, &[LESS, 0, 1], DONE),
+        (MOVE_AHEAD, &[LESS, 0, 1], 4),
+    ]);
+    [raises.concat(), answers.concat(), others].concat()
 }
 
 /// Those of a van_write.

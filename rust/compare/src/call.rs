@@ -13,6 +13,7 @@ pub enum Call {
     Collect { session: u32, output: usize },
     Forward { session: u32, request: Vec<u8>, output: usize },
     VanWrite { number: u32, output: usize },
+    Move { session: u32, studio: u32 },
 }
 
 impl Call {
@@ -27,6 +28,7 @@ impl Call {
             Call::Collect { .. } => "collect",
             Call::Forward { .. } => "forward",
             Call::VanWrite { .. } => "van_write",
+            Call::Move { .. } => "move",
         }
     }
 
@@ -40,6 +42,7 @@ impl Call {
             Call::Read { .. } | Call::Forward { .. } => &[1, 2, 3, 4, 12, 13],
             Call::Collect { .. } => &[1, 2, 3, 14, 13],
             Call::VanWrite { .. } => &[1, 2, 17],
+            Call::Move { .. } => &[1, 2, 3, 4],
         }
     }
 
@@ -91,6 +94,7 @@ impl fmt::Display for Call {
                 write!(f, "collect session={session} output={output}")
             }
             Call::VanWrite { number, output } => write!(f, "van_write number={number} output={output}"),
+            Call::Move { session, studio } => write!(f, "move session={session} studio={studio}"),
         }
     }
 }

@@ -26,6 +26,11 @@ pub struct Coverage {
     /// Entries that are commits refused with 8, and that are forwards.
     pub refusals: u64,
     pub forwards: u64,
+    /// Answers held to the one before of their session, and those with a move between them.
+    pub watched: u64,
+    pub watched_moved: u64,
+    /// Calls played again without moves, by S-7's rule and by the one before.
+    pub unmoved: u64,
     /// Title searches.
     pub searches: u64,
     /// Receives; fresh vans, and the receives of these.
@@ -73,6 +78,8 @@ impl Coverage {
             self.note_spaces(call, before, after, answer);
             self.note_wrong_state(call, control, holding, before, answer);
             self.note_van_write(call, control, after, answer);
+            self.note_move(call, control, before, answer);
+            self.note_raise(call, before, answer);
         }
     }
 
@@ -109,8 +116,8 @@ impl Coverage {
                 self.count(("collect, kind of read", u32::from(before.session[0]), end));
             }
             Call::Forward { .. } => self.note_asked(&FORWARD_ASKED, call, control, before, answer),
-            // `note_van_write` has its arguments.
-            Call::VanWrite { .. } => {}
+            // `note_van_write` and `note_move` have their arguments.
+            Call::VanWrite { .. } | Call::Move { .. } => {}
         }
     }
 
@@ -265,6 +272,9 @@ impl Coverage {
         self.entries += other.entries;
         self.refusals += other.refusals;
         self.forwards += other.forwards;
+        self.watched += other.watched;
+        self.watched_moved += other.watched_moved;
+        self.unmoved += other.unmoved;
         self.searches += other.searches;
         self.receives += other.receives;
         self.vans += other.vans;
@@ -300,5 +310,6 @@ fn call_place(call: &Call) -> usize {
         Call::Preview { .. } => 6,
         Call::Forward { .. } => 7,
         Call::VanWrite { .. } => 8,
+        Call::Move { .. } => 9,
     }
 }

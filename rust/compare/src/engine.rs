@@ -33,6 +33,7 @@ macro_rules! play {
             Call::Collect { session, .. } => $by::collect(library, log, sessions, $control, session, output),
             Call::Forward { session, .. } => $by::forward(library, log, sessions, $control, session, input, output),
             Call::VanWrite { number, .. } => $by::van_write(library, log, sessions, $control, number, output),
+            Call::Move { session, studio } => $by::move_session(library, log, sessions, $control, session, studio),
         }
     }};
 }

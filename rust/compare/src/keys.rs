@@ -64,6 +64,67 @@ pub const COLLECT_KEPT: &str = "collect of a read because of which 4 refused a f
 /// A list whose order has entries of reads, of collects and of forwards.
 pub const MIXED: &str = "list with reads, collects and forwards in its order";
 
+/// Of a move that rows 1 and 2 let through: its session, its studio, and that less S.
+pub const MOVE_SESSION: &str = "move, session";
+pub const MOVE_STUDIO: &str = "move, studio";
+pub const MOVE_ABOVE: &str = "move, studio − S";
+/// By what row 3 stops it: each part of the row alone, and session and studio both.
+pub const BY_OUTSIDE: &str = "move of a session outside 1 to 16, to a studio that there is";
+pub const BY_UNUSED: &str = "move of an unused session, to a studio that there is";
+pub const BY_STUDIO: &str = "move of a session in use, to a studio that there is not";
+pub const BY_BOTH: &str = "move of a session not in use, to a studio that there is not";
+/// Where there are both: to the studio where the session is, or to another; the session's number less what that has applied.
+pub const MOVE_HERE: &str = "move to the session's own studio";
+pub const MOVE_AWAY: &str = "move to another studio";
+pub const MOVE_BEHIND: &str = "move, session number − applied of its studio";
+pub const MOVE_AHEAD: &str = "move, session number − applied of the other studio";
+/// The next read and forward of a session that went to another studio, and the collect of that read.
+pub const READ_MOVED: &str = "next read after a move";
+pub const FORWARD_MOVED: &str = "next forward after a move";
+pub const COLLECT_MOVED: &str = "collect of the next read after a move";
+/// Those that the number alone stops to which a read, a collect or a forward of the other studio has raised it.
+pub const READ_HELD: [&str; 3] = [
+    "next read after a move, alone because of a read",
+    "next read after a move, alone because of a collect",
+    "next read after a move, alone because of a forward",
+];
+pub const FORWARD_HELD: [&str; 3] = [
+    "next forward after a move, alone because of a read",
+    "next forward after a move, alone because of a collect",
+    "next forward after a move, alone because of a forward",
+];
+/// Two answers to one session, one after the other: the later state less the earlier, 2 standing for more too. Then those with a move
+/// between them; in lists from fresh systems, where both are entries; in lists from memory that no list reaches.
+pub const ANSWERS: &str = "two answers to a session, state − state";
+pub const ANSWERS_MOVED: &str = "two answers to a session and a move between them, state − state";
+pub const ANSWERS_IN_LIST: &str = "two answers to a session and a move between them, in a list";
+pub const ANSWERS_UNREACHED: &str = "list from unreached memory with two answers to a session and a move between them";
+
+/// A list that was played again without its moves and by the rule before S-7, where a session's number is another at the end.
+pub const UNMOVED: &str = "list without its moves, with a number raised by an answer";
+
+/// The subjects of a session's number that an answer of its studio raises.
+pub struct Raises {
+    /// The number before, how far it is raised, 2 standing for more too, and the high byte that is written.
+    pub from: &'static str,
+    pub by: &'static str,
+    pub high: &'static str,
+}
+
+macro_rules! raises {
+    ($call:literal) => {
+        Raises {
+            from: concat!("number raised by an answered ", $call, ", from"),
+            by: concat!("number raised by an answered ", $call, ", state − number"),
+            high: concat!("number raised by an answered ", $call, ", high byte"),
+        }
+    };
+}
+
+pub const READ_RAISES: Raises = raises!("read");
+pub const COLLECT_RAISES: Raises = raises!("collect");
+pub const FORWARD_RAISES: Raises = raises!("forward");
+
 /// Title searches: the lengths of the copy and of the title, where the other one is right and where it is not.
 pub const SEARCH_COPY: &str = "search, copy bytes";
 pub const SEARCH_TITLE: &str = "search, title bytes";
@@ -253,8 +314,9 @@ pub const SENT_OVER: &str = "send over spaced titles, studio";
 /// The kind of a record with a spaced title that a refresh has applied.
 pub const APPLIED: &str = "refresh, record with a spaced title, kind";
 
-/// The subjects for the length of each memory, call by call: setup, commit, send, refresh, read, collect, preview, forward, van_write.
-pub const LENGTHS: [[&str; 3]; 9] = [
+/// The subjects for the length of each memory, call by call: setup, commit, send, refresh, read, collect, preview, forward, van_write,
+/// move.
+pub const LENGTHS: [[&str; 3]; 10] = [
     ["setup, library bytes", "setup, log bytes", "setup, session bytes"],
     ["commit, library bytes", "commit, log bytes", "commit, session bytes"],
     ["send, library bytes", "send, log bytes", "send, session bytes"],
@@ -264,4 +326,5 @@ pub const LENGTHS: [[&str; 3]; 9] = [
     ["preview, library bytes", "preview, log bytes", "preview, session bytes"],
     ["forward, library bytes", "forward, log bytes", "forward, session bytes"],
     ["van_write, library bytes", "van_write, log bytes", "van_write, session bytes"],
+    ["move, library bytes", "move, log bytes", "move, session bytes"],
 ];

@@ -1,7 +1,8 @@
-//! What a refused call leaves, and what a forward, a van_write and a receive answer and leave, by the words of 01 and 02 and not by the
-//! simulator (the form of one operation apart, of a receive). A refused call changes nothing, with one exception (02's S-3). A forward
-//! that no row stops is answered by the session's studio, or by the head end (02's S-4). A van_write changes nothing but output, a
-//! receive nothing but the van's copy (02's S-6).
+//! What a refused call leaves, and what a read, a collect, a forward, a move, a van_write and a receive answer and leave, by the words of
+//! 01 and 02 and not by the simulator (the form of one operation apart, of a receive). A refused call changes nothing, with one exception
+//! (02's S-3). A reading call that no row stops is answered by the session's studio, and raises its number (02's S-7), or it waits, or is
+//! answered by the head end (02's S-4). A move changes one word of control (02's S-7). A van_write changes nothing but output, a receive
+//! nothing but the van's copy (02's S-6).
 
 use crate::call::Call;
 use crate::delivery::Delivery;
@@ -9,7 +10,7 @@ use crate::faults;
 use crate::lent::Lent;
 use crate::message;
 use crate::single;
-use simulator::{ANSWERED, Answer, COPY, Control, DONE, HELD, REFUSED, UNIT, VanAnswer};
+use simulator::{ANSWERED, Answer, COPY, Control, DONE, HELD, REFUSED, UNIT, VanAnswer, WAITS};
 use std::cmp::Ordering;
 
 /// The answer of a call that this number refuses; `lent` is what it was lent, and becomes what it leaves.
@@ -22,20 +23,63 @@ pub fn by_refusal(number: u32, call: &Call, control: Control, lent: &mut Lent) -
     Answer { kind: REFUSED, value: number, found: 0, control }
 }
 
-/// The answer of a forward that no row stops; `lent` is what it was lent, and becomes what it leaves. "Where the studio's copy has reached
-/// the session's number, it answers exactly as read does. Otherwise it answers from the head end's copy with state commits, and the
-/// session's number becomes commits."
+/// The answer of a read that no row stops; `lent` is what it was lent, and becomes what it leaves. "If applied of the session's studio is
+/// at least the session's number, answered; else the request is stored and the answer is waits, with the session's number."
+pub fn by_read(session: u32, request: &[u8], control: Control, lent: &mut Lent) -> Answer {
+    by_studio(session, request, control, lent).unwrap_or_else(|| {
+        let unit = session_unit(lent, session);
+        unit[..2].copy_from_slice(&request[..2]);
+        unit[16..].copy_from_slice(&request[16..]);
+        waits(session, control, lent)
+    })
+}
+
+/// That of a collect: "The same test on the stored request; answered clears it".
+pub fn by_collect(session: u32, control: Control, lent: &mut Lent) -> Answer {
+    let request = session_unit(lent, session).to_vec();
+    let Some(answer) = by_studio(session, &request, control, lent) else { return waits(session, control, lent) };
+    let unit = session_unit(lent, session);
+    unit[..2].fill(0);
+    unit[16..].fill(0);
+    answer
+}
+
+/// That of a forward: "Where the studio's copy has reached the session's number, it answers exactly as read does. Otherwise it answers from
+/// the head end's copy with state commits, and the session's number becomes commits."
 pub fn by_forward(session: u32, request: &[u8], control: Control, lent: &mut Lent) -> Answer {
+    by_studio(session, request, control, lent).unwrap_or_else(|| {
+        set_number(lent, session, control.commits);
+        shown(0, control.commits, request, control, lent)
+    })
+}
+
+/// The answer of the session's studio, if that has reached the session's number: it "raises the session's number to the state it showed, if
+/// that is higher".
+fn by_studio(session: u32, request: &[u8], control: Control, lent: &mut Lent) -> Option<Answer> {
     let studio = control.session_studios[session as usize - 1] as usize;
-    let applied = control.applied[studio - 1];
-    let reached = applied >= number(lent, session);
-    let (copy, state) = if reached { (studio, applied) } else { (0, control.commits) };
+    let (applied, number) = (control.applied[studio - 1], number(lent, session));
+    if applied < number {
+        return None;
+    }
+    set_number(lent, session, number.max(applied));
+    Some(shown(studio, applied, request, control, lent))
+}
+
+/// An answer from the copy of a studio, or of the head end for 0, with this state.
+fn shown(copy: usize, state: u32, request: &[u8], control: Control, lent: &mut Lent) -> Answer {
     let (found, carts) = single::read(&lent.library.lent()[COPY * copy..COPY * (copy + 1)], request);
     lent.output.lent_mut()[..carts.len()].copy_from_slice(&carts);
-    if !reached {
-        set_number(lent, session, control.commits);
-    }
     Answer { kind: ANSWERED, value: state, found, control }
+}
+
+fn waits(session: u32, control: Control, lent: &Lent) -> Answer {
+    Answer { kind: WAITS, value: number(lent, session), found: 0, control }
+}
+
+/// The answer of a move that no row stops: it "moves a session to another studio, returns that studio". No lent byte changes.
+pub fn by_move(session: u32, studio: u32, mut control: Control) -> Answer {
+    control.session_studios[session as usize - 1] = studio;
+    Answer { kind: DONE, value: studio, found: 0, control }
 }
 
 /// The answer of a van_write that no row stops; `lent` is what it was lent, and becomes what it leaves. "The writer puts one message at
@@ -68,6 +112,12 @@ pub fn by_number(delivery: &mut Delivery) -> VanAnswer {
             VanAnswer { kind: DONE, value: number, applied: number }
         }
     }
+}
+
+/// The 80 bytes of a session from 1 to 16.
+fn session_unit(lent: &mut Lent, session: u32) -> &mut [u8] {
+    let start = UNIT * (session as usize - 1);
+    &mut lent.sessions.lent_mut()[start..start + UNIT]
 }
 
 /// The number of a session from 1 to 16.

@@ -5,14 +5,14 @@ use crate::asides;
 use crate::chaos;
 use crate::direct;
 use crate::guided::{self, Aim};
-use crate::keys::{DONE, RAISED, RAISED_UNREACHED};
+use crate::keys::{ANSWERS_UNREACHED, DONE, RAISED, RAISED_UNREACHED};
 use crate::make::Maker;
 use crate::player::{Mismatch, Player};
 use crate::random::Random;
 use crate::sweep;
 use crate::written::{self, Written};
 
-const KINDS: [&str; 20] = [
+const KINDS: [&str; 21] = [
     "mixed",
     "direct",
     "waits",
@@ -33,6 +33,7 @@ const KINDS: [&str; 20] = [
     "older",
     "taken",
     "forwards",
+    "moves",
 ];
 
 pub fn kind(seed: u64) -> &'static str {
@@ -58,6 +59,7 @@ pub fn play(player: &mut Player<'_>, seed: u64) -> Result<(), Mismatch> {
         "older" => guided::play(player, seed, Aim::Older),
         "taken" => guided::play(player, seed, Aim::Taken),
         "forwards" => guided::play(player, seed, Aim::Forwards),
+        "moves" => guided::play(player, seed, Aim::Moves),
         "direct" => unreached(player, seed),
         "damage" => damage(player, seed),
         "memory sweep" => sweep::memory(player, seed, turn),
@@ -68,18 +70,18 @@ pub fn play(player: &mut Player<'_>, seed: u64) -> Result<(), Mismatch> {
     }
 }
 
-/// Only lists from fresh systems, for the one-copy order alone, and for fresh vans.
+/// Only lists from fresh systems, for the one-copy order alone, for what S-7 says of them alone, and for fresh vans.
 pub fn play_fresh(player: &mut Player<'_>, seed: u64) -> Result<(), Mismatch> {
     player.begin_list(seed);
-    let aims = [Aim::Waits, Aim::Titles, Aim::Mixed, Aim::Window, Aim::Older, Aim::Taken, Aim::Forwards];
+    let aims = [Aim::Waits, Aim::Titles, Aim::Mixed, Aim::Window, Aim::Older, Aim::Taken, Aim::Forwards, Aim::Moves];
     guided::play(player, seed, aims[seed as usize % aims.len()])
 }
 
 /// Lists from memory of the layout that no list reaches. The messages of the last one go to vans, the first ones among them.
 fn unreached(player: &mut Player<'_>, seed: u64) -> Result<(), Mismatch> {
     let mut random = Random::new(seed);
-    let taste = Taste { weights: [25, 15, 30, 18, 12, 12, 16, 14], sizes: (1, 8), fitting: 92, misfits: 8 };
-    let raised = player.coverage.met(&RAISED);
+    let taste = Taste { weights: [25, 15, 30, 18, 12, 12, 16, 14, 14], sizes: (1, 8), fitting: 92, misfits: 8 };
+    let (raised, walked) = (player.coverage.met(&RAISED), player.coverage.watched_moved);
     for _ in 0..8 {
         let maker = Maker::new(&mut random, 6);
         let mut wall = direct::wall(&mut random, &maker);
@@ -92,6 +94,9 @@ fn unreached(player: &mut Player<'_>, seed: u64) -> Result<(), Mismatch> {
     }
     if player.coverage.met(&RAISED) > raised {
         player.coverage.count((RAISED_UNREACHED, 0, DONE));
+    }
+    if player.coverage.watched_moved > walked {
+        player.coverage.count((ANSWERS_UNREACHED, 0, DONE));
     }
     Ok(())
 }
@@ -115,13 +120,14 @@ fn damage(player: &mut Player<'_>, seed: u64) -> Result<(), Mismatch> {
 mod tests {
     use super::*;
     use crate::engine::Simulated;
+    use crate::player::Judge;
 
     #[test]
     fn every_kind_of_list_passes_and_is_repeatable() {
         for seed in 0..KINDS.len() as u64 {
             let calls = [0, 1].map(|_| {
                 let mut engine = Simulated;
-                let mut player = Player::new(&mut engine, true);
+                let mut player = Player::new(&mut engine, Judge::All);
                 play(&mut player, seed).expect("the simulator agrees with itself");
                 player.calls
             });

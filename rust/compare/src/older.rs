@@ -48,7 +48,10 @@ pub fn exchange_titles(random: &mut Random, maker: &Maker, wall: &mut Wall, hist
         part.lent_mut().chunks_exact_mut(UNIT).for_each(|unit| exchange.unit(unit));
     }
     sessions.lent_mut().chunks_exact_mut(UNIT).for_each(|unit| exchange.request(unit));
+    // The titles are others, the states that the sessions were shown are not.
+    let walks = wall.walks;
     wall.mirror();
+    wall.walks = walks;
     history.change(|unit| exchange.unit(unit), |request| exchange.request(request));
     written.change(|unit| exchange.unit(unit));
 

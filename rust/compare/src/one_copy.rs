@@ -1,6 +1,7 @@
 //! 01's one-copy order: the list's accepted commits, its commits refused with 8
 //! (02's S-3) and its answered reads, forwards (02's S-4) among them, put into
-//! one order and played on the single library.
+//! one order and played on the single library. A session's entries stand in its
+//! order whatever studios it was at (02's S-7).
 
 use crate::call::Call;
 use crate::single::SingleLibrary;
@@ -61,8 +62,8 @@ impl History {
         History { entries: Vec::new(), waited: vec![Vec::new(); 17] }
     }
 
-    /// Takes in one call of H; `output` is as it stood when the call ended. Waits, sends, refreshes, previews, written messages and
-    /// refusals have no entry, but for a commit's refusal 8.
+    /// Takes in one call of H; `output` is as it stood when the call ended. Waits, sends, refreshes, previews, written messages, moves
+    /// and refusals have no entry, but for a commit's refusal 8.
     pub fn note(&mut self, number: u64, call: &Call, answer: &Answer, output: &[u8]) {
         match (call, answer.kind) {
             (Call::Commit { session, operations }, DONE) => {
@@ -322,6 +323,23 @@ mod tests {
         let mut history = history(answer(WAITS, 1, 0), &[]);
         history.note(3, &forward_cart_1(2), &answer(ANSWERED, 0, 1), &new_cart_1());
         assert!(history.check().unwrap_err().1.contains("read state 0 found 1 is the library's state 0 found 0"));
+    }
+
+    /// Session 2 is shown cart 1 after commit 1, and moves; then it is answered so.
+    fn moved(state: u32, output: &[u8]) -> History {
+        let mut history = history(answer(WAITS, 1, 0), &[]);
+        history.note(3, &read_cart_1(2), &answer(ANSWERED, 1, 1), &new_cart_1());
+        history.note(4, &Call::Move { session: 2, studio: 2 }, &answer(DONE, 2, 0), &[]);
+        history.note(5, &read_cart_1(2), &answer(ANSWERED, state, state), output);
+        history
+    }
+
+    #[test]
+    fn a_move_has_no_entry_and_its_session_is_one() {
+        let walked = moved(1, &new_cart_1());
+        assert_eq!((walked.len(), walked.check()), (3, Ok(())));
+        let back = moved(0, &[0; 80]).check();
+        assert_eq!(back.unwrap_err(), (3, "one-copy order: session 2 out of its order".to_string()));
     }
 
     #[test]

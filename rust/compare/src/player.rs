@@ -5,16 +5,18 @@ use crate::coverage::Coverage;
 use crate::delivery::Delivery;
 use crate::differ::{answer_text, first_difference, receive_difference, search_difference};
 use crate::engine::{Engine, simulate};
-use crate::keys::{FORWARD_IN_LIST, HEAD_END, PREVIEWED, PREVIEWED_IN_LIST, READ, REFUSED_IN_LIST};
+use crate::keys::{ANSWERS_IN_LIST, DONE, FORWARD_IN_LIST, HEAD_END, PREVIEWED, PREVIEWED_IN_LIST, READ, REFUSED_IN_LIST, UNMOVED};
 use crate::left;
 use crate::lent::Lent;
 use crate::one_copy::History;
 use crate::rows;
 use crate::sought::Sought;
+use crate::unmoved;
+use crate::walks::Walk;
 use crate::wall::Wall;
 use crate::watch;
 use crate::written::Written;
-use simulator::{Answer, Control, REFUSED, VanAnswer};
+use simulator::{ANSWERED, Answer, Control, REFUSED, VanAnswer};
 
 /// Where and how engine and simulator parted.
 #[derive(Debug)]
@@ -24,10 +26,22 @@ pub struct Mismatch {
     pub words: String,
 }
 
+/// What an engine is held to.
+#[derive(Clone, Copy, PartialEq, Eq)]
+pub enum Judge {
+    /// The simulator, what `left.rs` says, and all below.
+    All,
+    /// The one-copy order, and what S-6 says of fresh vans.
+    Order,
+    /// S-7's "nobody walks back in time".
+    Walks,
+    /// S-7's "In a list without moves every answer is the same as it was".
+    Unmoved,
+}
+
 pub struct Player<'e> {
     engine: &'e mut dyn Engine,
-    /// Without it only the one-copy order and what S-6 says of fresh vans are checked.
-    compares: bool,
+    judge: Judge,
     pub coverage: Coverage,
     /// Calls, searches and receives of this list, and calls of all lists.
     pub call_number: u64,
@@ -40,9 +54,9 @@ pub struct Player<'e> {
 }
 
 impl<'e> Player<'e> {
-    pub fn new(engine: &'e mut dyn Engine, compares: bool) -> Player<'e> {
+    pub fn new(engine: &'e mut dyn Engine, judge: Judge) -> Player<'e> {
         let (coverage, written) = (Coverage::default(), Written::default());
-        Player { engine, compares, coverage, call_number: 0, calls: 0, written, scratch: None, before: Lent::zeros() }
+        Player { engine, judge, coverage, call_number: 0, calls: 0, written, scratch: None, before: Lent::zeros() }
     }
 
     /// Begins the list of a seed.
@@ -59,10 +73,13 @@ impl<'e> Player<'e> {
         wall.lend(call, self.call_number);
         watch::call_begins(self.call_number, call);
         let number = rows::session_number(&rows::stored(call, &wall.played));
-        let answer = match self.compares {
-            true => self.compare(wall, call)?,
-            false => self.engine.play(call, wall.control, &mut wall.played),
+        let answer = match self.judge {
+            Judge::All => self.compare(wall, call)?,
+            _ => self.engine.play(call, wall.control, &mut wall.played),
         };
+        if self.judge == Judge::Walks {
+            self.check_walk(wall, call, &answer)?;
+        }
         wall.follow(call, number, &answer);
         Ok(answer)
     }
@@ -84,10 +101,12 @@ impl<'e> Player<'e> {
         self.check_rows(&holding, call, &answer)?;
         self.check_left(call, control, &answer, &wall.played)?;
         self.check_preview(wall, call, &answer)?;
+        self.check_walk(wall, call, &answer)?;
         self.coverage.note(call, &control, &holding, &before, &wall.simulated, &answer);
         self.coverage.note_told(call, wall.told.of(call), &control, &before, &answer);
         self.coverage.note_forward(call, &control, &before, &wall.simulated, &answer);
         self.coverage.note_after_forward(call, &wall.told, &control, &before, &answer);
+        self.coverage.note_walk(call, wall.walks.of(call), &control, &before, &answer);
         Ok(answer)
     }
 
@@ -101,7 +120,7 @@ impl<'e> Player<'e> {
     /// Plays a call of H and takes it into the history.
     pub fn play_in(&mut self, history: &mut History, wall: &mut Wall, call: &Call) -> Result<Answer, Mismatch> {
         let previewed = wall.answer_previewed(call);
-        let number = rows::session_number(&rows::stored(call, &wall.played));
+        let (number, walk) = (rows::session_number(&rows::stored(call, &wall.played)), wall.walks.of(call));
         let answer = self.play_on(wall, call)?;
         if previewed.is_some() {
             self.coverage.count_end(PREVIEWED_IN_LIST, &answer);
@@ -111,11 +130,21 @@ impl<'e> Player<'e> {
         if answer.kind == REFUSED && history.len() > entries {
             self.coverage.count((REFUSED_IN_LIST, answer.control.commits, answer.value));
         }
-        if let (Call::Forward { request, .. }, true) = (call, history.len() > entries) {
+        if rows::reads(call) && history.len() > entries {
             let end = if rows::by_head_end(call, number, &answer) { HEAD_END } else { READ };
-            self.coverage.count((FORWARD_IN_LIST, u32::from(request[0]), end));
+            self.note_entry(call, walk, end);
         }
         Ok(answer)
+    }
+
+    /// An answered read, collect or forward that is an entry; `walk` is its session's before it.
+    fn note_entry(&mut self, call: &Call, walk: Walk, end: u32) {
+        if let Call::Forward { request, .. } = call {
+            self.coverage.count((FORWARD_IN_LIST, u32::from(request[0]), end));
+        }
+        if walk.moved && walk.shown.is_some() {
+            self.coverage.count((ANSWERS_IN_LIST, 0, end));
+        }
     }
 
     /// Plays a call on a changed copy of the wall, which itself stays; after a preview also the commit that it was of.
@@ -154,7 +183,7 @@ impl<'e> Player<'e> {
     pub fn receive(&mut self, delivery: &mut Delivery) -> Result<VanAnswer, Mismatch> {
         self.call_number += 1;
         watch::call_begins(self.call_number, delivery);
-        if !self.compares {
+        if self.judge != Judge::All {
             return Ok(self.engine.receive(delivery));
         }
         let before = delivery.clone();
@@ -173,7 +202,23 @@ impl<'e> Player<'e> {
     /// Checks the one-copy order of a whole list.
     pub fn check_order(&mut self, history: &History) -> Result<(), Mismatch> {
         self.coverage.count_order(history);
+        if !matches!(self.judge, Judge::All | Judge::Order) {
+            return Ok(());
+        }
         history.check().map_err(|(call_number, words)| Mismatch { call_number, call: "(the whole list)".to_string(), words })
+    }
+
+    /// Plays a whole list, from its setup on, again without its moves.
+    pub fn check_unmoved(&mut self, calls: &[Call]) -> Result<(), Mismatch> {
+        if !matches!(self.judge, Judge::All | Judge::Unmoved) {
+            return Ok(());
+        }
+        let (played, raised) = unmoved::check(self.engine, calls).map_err(|(call, words)| self.mismatch(call.to_string(), words))?;
+        self.coverage.unmoved += played;
+        if raised {
+            self.coverage.count((UNMOVED, 0, DONE));
+        }
+        Ok(())
     }
 
     pub fn mismatch(&self, call: String, words: String) -> Mismatch {
@@ -203,11 +248,25 @@ impl<'e> Player<'e> {
         Err(self.mismatch(call.to_string(), words))
     }
 
-    /// A refused call, a forward and a van_write leave what `left.rs` says, apart from the simulator.
+    /// 02's "nobody walks back in time" (S-7): a session's answer shows no lower state than the one before.
+    fn check_walk(&self, wall: &Wall, call: &Call, answer: &Answer) -> Result<(), Mismatch> {
+        let walk = wall.walks.of(call);
+        if answer.kind != ANSWERED || !walk.leads_back(answer.value) {
+            return Ok(());
+        }
+        let (shown, state) = (walk.shown.unwrap_or_default(), answer.value);
+        let words = format!("a walk back in time: state {state}, and the session was shown {shown} before");
+        Err(self.mismatch(call.to_string(), words))
+    }
+
+    /// A refused call, the reading calls, a move and a van_write leave what `left.rs` says, apart from the simulator.
     fn check_left(&mut self, call: &Call, control: Control, answer: &Answer, played: &Lent) -> Result<(), Mismatch> {
         let right = match call {
             _ if answer.kind == REFUSED => left::by_refusal(answer.value, call, control, &mut self.before),
+            Call::Read { session, request, .. } => left::by_read(*session, request, control, &mut self.before),
+            Call::Collect { session, .. } => left::by_collect(*session, control, &mut self.before),
             Call::Forward { session, request, .. } => left::by_forward(*session, request, control, &mut self.before),
+            Call::Move { session, studio } => left::by_move(*session, *studio, control),
             Call::VanWrite { number, .. } => left::by_van_write(*number, control, &mut self.before),
             _ => return Ok(()),
         };
@@ -237,7 +296,7 @@ mod tests {
     #[test]
     fn a_commit_must_answer_what_its_preview_did() {
         let mut engine = Simulated;
-        let mut player = Player::new(&mut engine, true);
+        let mut player = Player::new(&mut engine, Judge::All);
         let mut wall = Wall::zeros();
         player.play(&mut wall, &Call::Setup { studios: 1, session_studios: vec![1; 16] }).expect("no mismatch");
         let preview = Call::Preview { session: 1, operations: vec![0; 81] };
@@ -258,7 +317,7 @@ mod tests {
         raised.sessions.lent_mut()[82..84].copy_from_slice(&[44, 1]);
         let passes = |call: &Call, value: u32, played: &Lent| {
             let answer = Answer { kind: REFUSED, value, found: 0, control };
-            Player::new(&mut Simulated, true).check_left(call, control, &answer, played).is_ok()
+            Player::new(&mut Simulated, Judge::All).check_left(call, control, &answer, played).is_ok()
         };
         let commit = Call::Commit { session: 2, operations: Vec::new() };
         let preview = Call::Preview { session: 2, operations: Vec::new() };
@@ -273,7 +332,7 @@ mod tests {
         let (control, call) = (Control { commits: 1, ..Control::default() }, Call::VanWrite { number: 1, output: 85 });
         let passes = |value: u32, later: u8, link: u8| {
             let mut engine = Simulated;
-            let mut player = Player::new(&mut engine, true);
+            let mut player = Player::new(&mut engine, Judge::All);
             player.before.log.lent_mut()[..3].copy_from_slice(&[4, 0, 7]);
             player.before.output.set(&[9; 85]);
             let mut played = player.before.clone();
@@ -285,6 +344,66 @@ mod tests {
         assert!(!passes(80, 9, 0), "another length");
         assert!(!passes(84, 0, 0), "the later byte is cleared");
         assert!(!passes(84, 9, 2), "a link is left in");
+    }
+
+    #[test]
+    fn a_move_must_leave_nothing_but_the_studio_of_its_session() {
+        let control = Control { studios: 2, session_studios: [1; 16], ..Control::default() };
+        let call = Call::Move { session: 3, studio: 2 };
+        let passes = |value: u32, studios: [u32; 16], number: u8| {
+            let answer = Answer { kind: simulator::DONE, value, found: 0, control: Control { session_studios: studios, ..control } };
+            let mut played = Lent::zeros();
+            played.sessions.lent_mut()[162] = number;
+            Player::new(&mut Simulated, Judge::All).check_left(&call, control, &answer, &played).is_ok()
+        };
+        let (mut moved, mut another) = ([1; 16], [1; 16]);
+        (moved[2], another[3]) = (2, 2);
+        assert!(passes(2, moved, 0), "the studio, and the session is there");
+        assert!(!passes(1, moved, 0), "another studio is returned");
+        assert!(!passes(2, [1; 16], 0), "the session is where it was");
+        assert!(!passes(2, another, 0), "another session is moved");
+        assert!(!passes(2, moved, 1), "the session's number is another");
+    }
+
+    #[test]
+    fn a_collect_must_clear_its_request_and_raise_the_number() {
+        // Studio 1 has applied 2 of 3 commits; session 1 waits for cart 1.
+        let control = Control { session_studios: [1; 16], commits: 3, applied: [2, 0, 0, 0], ..Control::default() };
+        let call = Call::Collect { session: 1, output: 80 };
+        let left = |waiting: u8, number: u8| {
+            let mut lent = Lent::zeros();
+            let unit = lent.sessions.lent_mut();
+            (unit[0], unit[1], unit[2], unit[16]) = (waiting, waiting, number, waiting);
+            lent.output.set(&[0; 80]);
+            lent
+        };
+        let passes = |before: u8, kind: u32, value: u32, played: &Lent| {
+            let mut engine = Simulated;
+            let mut player = Player::new(&mut engine, Judge::All);
+            player.before = left(1, before);
+            player.check_left(&call, control, &Answer { kind, value, found: 0, control }, played).is_ok()
+        };
+        assert!(passes(1, ANSWERED, 2, &left(0, 2)), "answered, with the number raised");
+        assert!(passes(2, ANSWERED, 2, &left(0, 2)), "answered, and the number is the state already");
+        assert!(!passes(1, ANSWERED, 2, &left(0, 1)), "the number is not raised");
+        assert!(!passes(1, ANSWERED, 2, &left(0, 3)), "the number is raised to commits");
+        assert!(!passes(1, ANSWERED, 2, &left(1, 2)), "the request is kept");
+        assert!(passes(3, simulator::WAITS, 3, &left(1, 3)), "waits, and nothing is changed");
+        assert!(!passes(3, simulator::WAITS, 2, &left(1, 3)), "waits for another number");
+    }
+
+    #[test]
+    fn an_answer_must_not_lead_back_in_time() {
+        let control = Control { session_studios: [1; 16], ..Control::default() };
+        let answer = |value: u32| Answer { kind: ANSWERED, value, found: 0, control };
+        let read = |session: u32| Call::Read { session, request: vec![1; 80], output: 80 };
+        let mut wall = Wall::zeros();
+        wall.follow(&read(2), 0, &answer(5));
+        let mut engine = Simulated;
+        let player = Player::new(&mut engine, Judge::All);
+        assert!(player.check_walk(&wall, &read(2), &answer(5)).is_ok() && player.check_walk(&wall, &read(1), &answer(4)).is_ok());
+        let mismatch = player.check_walk(&wall, &read(2), &answer(4)).expect_err("a lower state");
+        assert_eq!(mismatch.words, "a walk back in time: state 4, and the session was shown 5 before");
     }
 
     #[test]
@@ -304,7 +423,7 @@ mod tests {
         };
         let passes = |number: u8, value: u32, found: u32, played: &Lent| {
             let mut engine = Simulated;
-            let mut player = Player::new(&mut engine, true);
+            let mut player = Player::new(&mut engine, Judge::All);
             player.before = left(number, 9);
             let answer = Answer { kind: simulator::ANSWERED, value, found, control };
             player.check_left(&call, control, &answer, played).is_ok()
@@ -313,8 +432,10 @@ mod tests {
         assert!(!passes(2, 3, 1, &left(2, 1)), "the number is not raised");
         assert!(!passes(2, 1, 1, &left(3, 1)), "the state is what the studio has applied");
         assert!(!passes(2, 3, 0, &left(3, 0)), "the carts are the studio's");
-        assert!(passes(1, 1, 0, &left(1, 0)), "the studio answers, and the number stays");
-        assert!(!passes(1, 1, 0, &left(3, 0)), "the number is raised");
+        assert!(passes(1, 1, 0, &left(1, 0)), "the studio answers, and the number is its state already");
+        assert!(passes(0, 1, 0, &left(1, 0)), "the studio answers, and the number is raised to its state");
+        assert!(!passes(0, 1, 0, &left(0, 0)), "the number is not raised to the studio's state");
+        assert!(!passes(1, 1, 0, &left(3, 0)), "the number is raised to commits");
         assert!(!passes(1, 3, 1, &left(3, 1)), "the head end answers though the studio has caught up");
     }
 }

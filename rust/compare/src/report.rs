@@ -20,8 +20,10 @@ pub fn print(coverage: &Coverage) -> usize {
     for (call, row, other, reason) in required::EXCLUDED {
         println!("{:>9}  {call}: rows {row} and {other} at once: {reason}", "-");
     }
-    let Coverage { orders, entries, refusals, forwards, vans, arrived, .. } = coverage;
+    let Coverage { orders, entries, refusals, forwards, watched, watched_moved, unmoved, vans, arrived, .. } = coverage;
     println!("one-copy orders: {orders}, entries in them: {entries}, of these refusals 8: {refusals}, forwards: {forwards}");
+    println!("answers held to the one before of their session: {watched}, of these with a move between them: {watched_moved}");
+    println!("calls played again without moves, by S-7's rule and by the one before: {unmoved}");
     println!("fresh vans: {vans}, messages for them: {arrived}");
     println!("required lines: {}, not met: {missing}", lines.len());
     missing

@@ -3,7 +3,9 @@
 use crate::boundaries;
 use crate::damage;
 use crate::faults::FAULTS;
+use crate::keys::{ANSWERS_IN_LIST, ANSWERS_UNREACHED, COLLECT_MOVED, FORWARD_HELD, FORWARD_MOVED, READ_HELD, READ_MOVED};
 use crate::keys::{ARRIVED_AGAIN, ARRIVED_LATE, ARRIVED_SPACED, HELD, RECEIVE, RUN_LOST, RUN_SOON, RUN_WHOLE};
+use crate::keys::{BY_BOTH, BY_OUTSIDE, BY_STUDIO, BY_UNUSED, MOVE_AWAY, MOVE_HERE, UNMOVED};
 use crate::keys::{COLLECT_FORWARDED, COLLECT_KEPT, FORWARD_AGAIN, FORWARD_AGAIN_ALONE, FORWARD_TOLD, MIXED};
 use crate::keys::{COLLECT_TOLD, RAISED, RAISED_UNREACHED, READ_TOLD, READ_TOLD_ALONE};
 use crate::keys::{DONE, HEAD_END, Key, LENGTHS, PREVIEWED, PREVIEWED_IN_LIST, READ, WAITED};
@@ -68,7 +70,7 @@ pub const EXCLUDED: [(&str, u32, u32, &str); 5] = [
 /// The rows of commit and of preview, by their numbers.
 const EDIT_ROWS: &[u32] = &[1, 2, 3, 4, 5, 6, 7, 8, 16];
 
-const CALLS: [(&str, &[u32], &[u32]); 9] = [
+const CALLS: [(&str, &[u32], &[u32]); 10] = [
     ("setup", &[1, 15], &[DONE]),
     ("commit", EDIT_ROWS, &[DONE]),
     ("preview", EDIT_ROWS, &[DONE]),
@@ -78,6 +80,7 @@ const CALLS: [(&str, &[u32], &[u32]); 9] = [
     ("collect", &[1, 2, 3, 13, 14], &[READ, WAITED]),
     ("forward", &[1, 2, 3, 4, 12, 13], &[READ, HEAD_END]),
     ("van_write", &[1, 2, 17], &[DONE]),
+    ("move", &[1, 2, 3, 4], &[DONE]),
 ];
 
 /// Every line a run must have met.
@@ -106,6 +109,7 @@ pub fn lines() -> Vec<Line> {
     lines.push(Line::Ended((older::NAME, 0, DONE)));
     lines.extend(told().map(Line::Ended));
     lines.extend(forwarded().map(Line::Ended));
+    lines.extend(moved().into_iter().map(Line::Ended));
     lines.extend([SEARCH_NUMBER, SEARCH_AFTER].map(|subject| Line::Ended((subject, 0, ONE))));
     lines.extend(faulty().map(Line::Met));
     lines.extend(vans().map(Line::Ended));
@@ -142,6 +146,17 @@ fn forwarded() -> [Key; 13] {
         (COLLECT_KEPT, 0, READ),
         (MIXED, 0, DONE),
     ]
+}
+
+/// Moves by the parts of row 3 and by the studio, the reading calls after them, and that nobody is led back by one.
+fn moved() -> Vec<Key> {
+    let row_3 = [BY_OUTSIDE, BY_UNUSED, BY_STUDIO, BY_BOTH].map(|subject| (subject, 0, 3));
+    let known = [MOVE_HERE, MOVE_AWAY].map(|subject| [(subject, 0, DONE), (subject, 0, 4)]);
+    let waits = [READ_MOVED, COLLECT_MOVED].map(|subject| [(subject, 0, READ), (subject, 0, WAITED)]);
+    let forwards = [FORWARD_MOVED, ANSWERS_IN_LIST].map(|subject| [(subject, 0, READ), (subject, 0, HEAD_END)]);
+    let held = [READ_HELD.map(|subject| (subject, 0, WAITED)), FORWARD_HELD.map(|subject| (subject, 0, HEAD_END))];
+    let lists = [ANSWERS_UNREACHED, UNMOVED].map(|subject| (subject, 0, DONE));
+    [&row_3[..], &known.concat(), &waits.concat(), &forwards.concat(), &held.concat(), &lists].concat()
 }
 
 /// Each reason for refusal 17 at the receiver, alone, with a number that else is held, applied or refused with 18. A number 0 else is held.

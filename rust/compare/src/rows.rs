@@ -38,7 +38,8 @@ fn sized(part: &Part, length: usize) -> Cow<'_, [u8]> {
 fn row_holds(row: u32, call: &Call, control: &Control, lent: &Lent) -> bool {
     match (row, call) {
         (1, _) => !lent.right_lengths(),
-        (3, Call::Send { studio } | Call::Refresh { studio }) => !(1..=control.studios).contains(studio),
+        (3, Call::Send { studio } | Call::Refresh { studio }) => unknown_studio(*studio, control),
+        (3, Call::Move { studio, .. }) => session_studio(call, control) == 0 || unknown_studio(*studio, control),
         (3, _) => session_studio(call, control) == 0,
         (4, _) => waiting(call, lent),
         (14, _) => !waiting(call, lent),
@@ -58,12 +59,26 @@ fn row_holds(row: u32, call: &Call, control: &Control, lent: &Lent) -> bool {
     }
 }
 
+/// Row 3 by a studio: outside 1 to S.
+pub fn unknown_studio(studio: u32, control: &Control) -> bool {
+    !(1..=control.studios).contains(&studio)
+}
+
 /// The session that a call names.
 pub fn session_of(call: &Call) -> Option<u32> {
     match call {
         Call::Commit { session, .. } | Call::Preview { session, .. } => Some(*session),
         Call::Read { session, .. } | Call::Collect { session, .. } | Call::Forward { session, .. } => Some(*session),
+        Call::Move { session, .. } => Some(*session),
         _ => None,
+    }
+}
+
+/// The place of the call's session among 1 to 16, 0 when there is none.
+pub fn place(call: &Call) -> usize {
+    match session_of(call) {
+        Some(session @ 1..=16) => session as usize,
+        _ => 0,
     }
 }
 
@@ -101,6 +116,11 @@ pub fn applied(call: &Call, control: &Control) -> Option<u32> {
 pub fn by_head_end(call: &Call, number: u32, answer: &Answer) -> bool {
     let forwarded = matches!(call, Call::Forward { .. }) && answer.kind == ANSWERED;
     forwarded && applied(call, &answer.control).is_some_and(|applied| applied < number)
+}
+
+/// Whether a call is one of those that answer a read.
+pub fn reads(call: &Call) -> bool {
+    matches!(call, Call::Read { .. } | Call::Collect { .. } | Call::Forward { .. })
 }
 
 fn waiting(call: &Call, lent: &Lent) -> bool {

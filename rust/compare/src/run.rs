@@ -3,7 +3,7 @@
 use crate::coverage::Coverage;
 use crate::engine::Engine;
 use crate::lists;
-use crate::player::{Mismatch, Player};
+use crate::player::{Judge, Mismatch, Player};
 use crate::searches;
 use crate::vans;
 
@@ -17,7 +17,7 @@ pub struct Found {
 
 /// Plays lists, searches and vans of seeds `seed`, `seed` + step, … until enough calls were made.
 pub fn play_lists(engine: &mut dyn Engine, (seed, step): (u64, u64), calls: u64) -> Result<(Coverage, u64), Found> {
-    let mut player = Player::new(engine, true);
+    let mut player = Player::new(engine, Judge::All);
     let mut seed = seed;
     while player.calls < calls {
         play_seed(&mut player, seed).map_err(|mismatch| Found { seed, mismatch })?;

@@ -2,7 +2,7 @@
 
 use crate::engine::Simulated;
 use crate::lists;
-use crate::player::{Mismatch, Player};
+use crate::player::{Judge, Mismatch, Player};
 use crate::run::{self, Found};
 use crate::vans;
 use crate::wrong::{self, Alone, Mistake, Wrong};
@@ -61,20 +61,30 @@ fn try_mistake(mistake: &Mistake) -> (bool, String) {
             (true, format!("caught  {}\n          {place}: {}", mistake.name, mismatch.words))
         }
     };
-    let alone = match mistake.alone {
-        Alone::Nothing => return (caught, line),
-        Alone::Order => caught_alone(mistake, lists::play_fresh),
-        Alone::Vans => caught_alone(mistake, |player, seed| lists::play_fresh(player, seed).and_then(|()| vans::play_fresh(player, seed))),
-    };
-    caught &= alone.is_some();
-    line.push_str(&format!("\n          {}", alone.unwrap_or("MISSED without the simulator".to_string())));
+    for alone in alone(mistake) {
+        caught &= alone.is_some();
+        line.push_str(&format!("\n          {}", alone.unwrap_or("MISSED without the simulator".to_string())));
+    }
     (caught, line)
 }
 
+/// What each judge that must catch a mistake without the simulator says of it.
+fn alone(mistake: &Mistake) -> Vec<Option<String>> {
+    match mistake.alone {
+        Alone::Nothing => Vec::new(),
+        Alone::Order => vec![caught_alone(mistake, Judge::Order, lists::play_fresh)],
+        Alone::Walks => [Judge::Order, Judge::Walks].map(|judge| caught_alone(mistake, judge, lists::play_fresh)).to_vec(),
+        Alone::Unmoved => vec![caught_alone(mistake, Judge::Unmoved, lists::play_fresh)],
+        Alone::Vans => vec![caught_alone(mistake, Judge::Order, |player, seed| {
+            lists::play_fresh(player, seed).and_then(|()| vans::play_fresh(player, seed))
+        })],
+    }
+}
+
 /// How lists from fresh systems, without the simulator, catch a mistake.
-fn caught_alone(mistake: &Mistake, play: fn(&mut Player<'_>, u64) -> Result<(), Mismatch>) -> Option<String> {
+fn caught_alone(mistake: &Mistake, judge: Judge, play: fn(&mut Player<'_>, u64) -> Result<(), Mismatch>) -> Option<String> {
     let mut engine = Wrong::new(mistake);
-    let mut player = Player::new(&mut engine, false);
+    let mut player = Player::new(&mut engine, judge);
     let mut seed = SEED;
     while player.calls < PATIENCE {
         if let Err(mismatch) = play(&mut player, seed) {

@@ -33,7 +33,7 @@ pub struct Sessions {
 impl Sessions {
     /// Takes in a call; `number` is its session's before it.
     pub fn follow(&mut self, call: &Call, number: u32, answer: &Answer) {
-        let place = place(call);
+        let place = rows::place(call);
         let forwarded = rows::by_head_end(call, number, answer);
         self.latest = forwarded.then_some(place);
         let told = &mut self.told[place];
@@ -53,17 +53,17 @@ impl Sessions {
 
     /// What the session of a call has.
     pub fn of(&self, call: &Call) -> Told {
-        self.told[place(call)]
+        self.told[rows::place(call)]
     }
 
     /// Whether a forward of the call's session was refused because of the read that waits.
     pub fn stopped_by_4(&self, call: &Call) -> bool {
-        self.stopped_by_4[place(call)]
+        self.stopped_by_4[rows::place(call)]
     }
 
     /// Whether the latest call was a forward of this call's session, answered by the head end.
     pub fn straight_after(&self, call: &Call) -> bool {
-        self.latest == Some(place(call))
+        self.latest == Some(rows::place(call))
     }
 
     /// The sessions that have not read since then.
@@ -81,12 +81,5 @@ impl Told {
             Told::Forwarded(_) => Told::ForwardedWaits,
             other => other,
         }
-    }
-}
-
-fn place(call: &Call) -> usize {
-    match rows::session_of(call) {
-        Some(session @ 1..=16) => session as usize,
-        _ => 0,
     }
 }

@@ -4,6 +4,7 @@ use crate::call::Call;
 use crate::lent::Lent;
 use crate::rows;
 use crate::told::Sessions;
+use crate::walks::Walks;
 use simulator::{Answer, Control, DONE};
 
 #[derive(Clone)]
@@ -14,14 +15,15 @@ pub struct Wall {
     /// If the latest call was a preview: the commit that it was of, and its answer.
     pub previewed: Option<(Call, Answer)>,
     pub told: Sessions,
+    pub walks: Walks,
     /// How many of the messages 1, 2, 3, … were written in turn.
     pub written: u32,
 }
 
 impl Wall {
     pub fn zeros() -> Wall {
-        let (control, told) = (Control::default(), Sessions::default());
-        Wall { simulated: Lent::zeros(), played: Lent::zeros(), control, previewed: None, told, written: 0 }
+        let (control, told, walks) = (Control::default(), Sessions::default(), Walks::default());
+        Wall { simulated: Lent::zeros(), played: Lent::zeros(), control, previewed: None, told, walks, written: 0 }
     }
 
     pub fn copy_from(&mut self, other: &Wall) {
@@ -30,11 +32,13 @@ impl Wall {
         self.control = other.control;
         self.previewed.clone_from(&other.previewed);
         self.told.clone_from(&other.told);
+        self.walks = other.walks;
         self.written = other.written;
     }
 
     /// Takes in a call that was played; `number` is its session's before it.
     pub fn follow(&mut self, call: &Call, number: u32, answer: &Answer) {
+        self.walks.follow(call, number, rows::session_studio(call, &self.control), answer);
         self.control = answer.control;
         self.previewed = call.previewed().map(|commit| (commit, *answer));
         self.told.follow(call, number, answer);
@@ -44,11 +48,12 @@ impl Wall {
         }
     }
 
-    /// Gives the simulator the engine's memory, after the latter was changed.
+    /// Gives the simulator the engine's memory, after the latter was changed. What the sessions were told and shown is forgotten.
     pub fn mirror(&mut self) {
         self.simulated.copy_from(&self.played);
         self.previewed = None;
         self.told = Sessions::default();
+        self.walks = Walks::default();
     }
 
     /// The answer of the preview right before this call, if the call is the commit that it was of.
@@ -78,12 +83,24 @@ impl Wall {
     /// The sessions that have nothing waiting and whose studio has not reached their number.
     pub fn behind(&self) -> Vec<u32> {
         let behind = |session: &u32| {
-            let unit = 80 * (*session as usize - 1);
-            let number = rows::session_number(&self.played.sessions.lent()[unit..unit + 80]);
+            let number = self.number(*session);
             let studio = self.control.session_studios[*session as usize - 1] as usize;
             !self.waiting(*session) && self.control.applied.get(studio - 1).is_some_and(|applied| *applied < number)
         };
         self.used_sessions().into_iter().filter(behind).collect()
+    }
+
+    /// The studios that have not reached the session's number; none for a session outside 1 to 16.
+    pub fn studios_behind(&self, session: u32) -> Vec<u32> {
+        let (1..=16) = session else { return Vec::new() };
+        let behind = |studio: &u32| self.control.applied[*studio as usize - 1] < self.number(session);
+        (1..=self.control.studios.min(4)).filter(behind).collect()
+    }
+
+    /// The number of session 1 to 16.
+    fn number(&self, session: u32) -> u32 {
+        let unit = 80 * (session as usize - 1);
+        rows::session_number(&self.played.sessions.lent()[unit..unit + 80])
     }
 
     pub fn used_sessions(&self) -> Vec<u32> {

@@ -95,6 +95,12 @@ pub fn forward(
     call!(sulyobak_forward, library, log, sessions, passed(control), session, asked.0, asked.1, shown.0, shown.1)
 }
 
+/// Move.
+#[inline]
+pub fn move_session(library: &mut [u8], log: &mut [u8], sessions: &mut [u8], control: Control, session: u32, studio: u32) -> Answer {
+    call!(sulyobak_move, library, log, sessions, passed(control), session, studio)
+}
+
 /// The layout test alone.
 #[inline]
 pub fn layout(library: &mut [u8], log: &mut [u8], sessions: &mut [u8], control: Control) -> Answer {

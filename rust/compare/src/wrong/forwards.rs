@@ -24,7 +24,6 @@ pub const MISTAKES: &[Mistake] = &[
     mistake("forward answered by the head end where the studio is behind it", behind_head_end),
     mistake("forward answered by the head end where applied is the number", where_level),
     mistake("forward by the studio raises the number to commits", raised_by_studio),
-    mistake("forward by the studio raises the number to the state", raised_to_state),
     mistake("forward by the head end raises the number to the state + 1", raised_past_state),
     mistake("forward by the head end raises the number to the low byte of commits", low_byte),
     mistake("forward by the head end raises the numbers of all sessions of the studio", raised_for_the_studio),
@@ -197,10 +196,6 @@ fn where_level(_: &mut Notes, call: &Call, control: Control, lent: &mut Lent) ->
 
 fn raised_by_studio(_: &mut Notes, call: &Call, control: Control, lent: &mut Lent) -> Answer {
     changed(call, control, lent, |forward, control, lent, _| set_number(lent, forward.session, control.commits))
-}
-
-fn raised_to_state(_: &mut Notes, call: &Call, control: Control, lent: &mut Lent) -> Answer {
-    changed(call, control, lent, |forward, _, lent, answer| set_number(lent, forward.session, answer.value))
 }
 
 fn raised_past_state(_: &mut Notes, call: &Call, control: Control, lent: &mut Lent) -> Answer {

@@ -14,6 +14,8 @@ use std::collections::BTreeMap;
 pub struct Notes {
     /// The session of each commit.
     pub sessions: BTreeMap<u32, u32>,
+    /// The studio that each session left by its latest move, until it reads.
+    pub left: BTreeMap<usize, u32>,
 }
 
 pub type Play = fn(&mut Notes, &Call, Control, &mut Lent) -> Answer;
@@ -26,6 +28,10 @@ pub enum Alone {
     Nothing,
     /// The one-copy order: for one of 01's "Mistakes this trade has made", or one that demand 3 shows.
     Order,
+    /// The one-copy order, and apart from it S-7's "nobody walks back in time".
+    Walks,
+    /// S-7's "In a list without moves every answer is the same as it was".
+    Unmoved,
     /// What 02's S-6 says of fresh vans.
     Vans,
 }
@@ -59,6 +65,16 @@ pub const fn mistake(name: &'static str, play: Play) -> Mistake {
 /// A mistake that the one-copy order alone must catch as well.
 pub const fn order_mistake(name: &'static str, play: Play) -> Mistake {
     Mistake { alone: Alone::Order, ..mistake(name, play) }
+}
+
+/// A mistake that the one-copy order alone must catch as well, and apart from it that nobody walks back in time.
+pub const fn walk_mistake(name: &'static str, play: Play) -> Mistake {
+    Mistake { alone: Alone::Walks, ..mistake(name, play) }
+}
+
+/// A mistake that lists without moves alone must catch as well: they are not answered as before S-7.
+pub const fn unmoved_mistake(name: &'static str, play: Play) -> Mistake {
+    Mistake { alone: Alone::Unmoved, ..mistake(name, play) }
 }
 
 /// A mistake of the title search.

@@ -6,7 +6,9 @@ mod commits;
 mod forwards;
 mod layouts;
 mod mistake;
+mod moves;
 mod previews;
+mod raises;
 mod reads;
 mod receives;
 mod searches;
@@ -34,6 +36,8 @@ pub fn all() -> Vec<Mistake> {
         studios::MISTAKES,
         reads::MISTAKES,
         forwards::MISTAKES,
+        moves::MISTAKES,
+        raises::MISTAKES,
         layouts::MISTAKES,
         setups::MISTAKES,
         bounds::MISTAKES,

@@ -3,7 +3,6 @@
 use super::mistake::{Mistake, Notes, copy_of, is_refused, mistake, order_mistake, refused, right};
 use super::mistake::{clear_waiting, session_unit};
 use crate::call::Call;
-use crate::left::set_number;
 use crate::lent::Lent;
 use crate::rows;
 use simulator::{ANSWERED, Answer, COPY, Control, WAITS};
@@ -29,7 +28,6 @@ pub const MISTAKES: &[Mistake] = &[
     order_mistake("an empty cart leaves the output as it was", empty_leaves_output),
     mistake("waits gives applied", waits_gives_applied),
     mistake("waits writes zeros", waits_writes),
-    mistake("read raises the session's number to the state", read_raises_number),
     mistake("a read waits though its copy has caught up", waits_too_long),
     mistake("output must have 2,560 bytes", output_2560),
     order_mistake("title search leaves out cart 128", title_without_last),
@@ -279,16 +277,6 @@ fn waits_writes(_: &mut Notes, call: &Call, control: Control, lent: &mut Lent) -
     let answer = right(call, control, lent);
     if reads(call) && answer.kind == WAITS {
         lent.output.lent_mut()[..80].fill(0);
-    }
-    answer
-}
-
-fn read_raises_number(_: &mut Notes, call: &Call, control: Control, lent: &mut Lent) -> Answer {
-    let answer = right(call, control, lent);
-    if let Call::Read { session, .. } = call
-        && answer.kind == ANSWERED
-    {
-        set_number(lent, *session, answer.value);
     }
     answer
 }
