@@ -41,7 +41,7 @@ impl Bar {
 
 pub struct Bars {
     pub layout: Bar,
-    calls: [(Kind, Bar); 6],
+    calls: [(Kind, Bar); 7],
     pub setup: Bar,
     pub van_write: Bar,
     pub van_receive: Bar,
@@ -58,6 +58,7 @@ impl Bars {
                 (Kind::Title, Bar::new("read, collect by title / layout test", 1.3)),
                 (Kind::Forward, Bar::new("forward by numbers / layout test", 1.1)),
                 (Kind::ForwardTitle, Bar::new("forward by title / layout test", 1.3)),
+                (Kind::Move, Bar::new("move / layout test", 1.1)),
             ],
             setup: Bar::new("setup / memset of 93,440 bytes", 1.5),
             van_write: Bar::new("van_write / layout test, full memory", 1.4),

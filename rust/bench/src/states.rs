@@ -28,6 +28,7 @@ pub enum Kind {
     Forward,
     /// Forwards by title.
     ForwardTitle,
+    Move,
     /// Every other call that begins with the layout test.
     Other,
 }
@@ -54,6 +55,7 @@ fn calls(letters: &[u8], operations: Vec<u8>, is_empty: bool) -> Vec<(&'static s
         ("collect, title", Kind::Title, Call::Collect { session: wall::TITLE_COLLECTOR }),
         ("forward, studio, 32", Kind::Forward, Call::Forward { session, request: thirty_two }),
         ("forward, studio, title", Kind::ForwardTitle, Call::Forward { session, request: title }),
+        ("move", Kind::Move, Call::Move { session, studio: wall::MOVED_TO }),
     ];
     if !is_empty {
         let by_head_end = |request| Call::Forward { session: wall::WAITING_READER, request };

@@ -24,6 +24,9 @@ const EDITOR: u32 = 6;
 pub const REFRESHED: u32 = 1;
 pub const SENT: u32 = 2;
 
+/// The studio that the reader moves to.
+pub const MOVED_TO: u32 = 2;
+
 impl Wall {
     fn fresh(studios: u32, places: [u8; 16]) -> Wall {
         let memory = Memory { library: [0; LIBRARY], log: [0; LOG], sessions: [0; SESSION_MEMORY] };
