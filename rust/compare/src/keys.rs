@@ -82,16 +82,17 @@ pub const MOVE_AHEAD: &str = "move, session number − applied of the other stud
 pub const READ_MOVED: &str = "next read after a move";
 pub const FORWARD_MOVED: &str = "next forward after a move";
 pub const COLLECT_MOVED: &str = "collect of the next read after a move";
-/// Those that the number alone stops to which a read, a collect or a forward of the other studio has raised it.
+/// Those at a studio that has not reached the session's number, and has reached what it was before answers raised it, the last of these
+/// by a read, a collect or a forward.
 pub const READ_HELD: [&str; 3] = [
-    "next read after a move, alone because of a read",
-    "next read after a move, alone because of a collect",
-    "next read after a move, alone because of a forward",
+    "next read after a move, studio behind only what a read showed",
+    "next read after a move, studio behind only what a collect showed",
+    "next read after a move, studio behind only what a forward showed",
 ];
 pub const FORWARD_HELD: [&str; 3] = [
-    "next forward after a move, alone because of a read",
-    "next forward after a move, alone because of a collect",
-    "next forward after a move, alone because of a forward",
+    "next forward after a move, studio behind only what a read showed",
+    "next forward after a move, studio behind only what a collect showed",
+    "next forward after a move, studio behind only what a forward showed",
 ];
 /// Two answers to one session, one after the other: the later state less the earlier, 2 standing for more too. Then those with a move
 /// between them; in lists from fresh systems, where both are entries; in lists from memory that no list reaches.

@@ -33,7 +33,8 @@ impl Walk {
         self.shown.is_some_and(|shown| state < shown)
     }
 
-    /// The call that alone makes the session wait at a studio which has applied so many: without what answers raised, it would not.
+    /// After a move, at a studio that has applied so many: the last call that raised the number, if the studio has reached what the number
+    /// was before answers raised it.
     pub fn held_by(&self, applied: u32) -> Option<By> {
         self.raised.filter(|(_, number)| self.moved && *number <= applied).map(|(by, _)| by)
     }
