@@ -122,7 +122,7 @@ answerFrom state copy q c m s n x out =
     (withSessions m (withSession (m .sessions) s (withSequence n x)))
     (over out 0 (needed q) (shownFrom copy q))
 
--- "if applied of the session's studio is at least the session's number, answered; else ..": `behind`
+-- "if applied of the session's studio is at least the session's number, answered; else ..": `behind`; by a rule
 unfoldable pub blockBy : Rule → Control → Memory → ℕ → Request → List ℕ → After → List ℕ → After
 blockBy rule c m s q x behind out =
     let i = studioOf c s in
@@ -171,6 +171,7 @@ withStudio c s i = control (c .studios) (set (c .«session_studios») (s - 1) i)
 unfoldable pub move : Control → Memory → ℕ → ℕ → After
 move c m s i = unless (moveStop c m s i) (refusal c m []) (after (done i) (withStudio c s i) m [])
 
+-- each call, the reading calls and collect by a rule
 unfoldable pub callBy : Rule → Control → Memory → Call.Call → After
 callBy rule c m (Call.commit s bytes) = commit c m s bytes
 callBy rule c m (Call.preview s bytes) = preview c m s bytes
@@ -182,7 +183,7 @@ callBy rule c m (Call.forward s request out) = forwardBy rule c m s request out
 callBy rule c m (Call.write n out) = write c m n out
 callBy rule c m (Call.move s i) = move c m s i
 
--- a list of calls, each given what the call before it left and handed back
+-- a list of calls by a rule, each given what the call before it left and handed back
 abbrev pub runBy : Rule → After → List Call.Call → List (Call.Turn After)
 runBy rule r H = Call.run (λ p x. callBy rule (p .control) (p .memory) x) r H
 
