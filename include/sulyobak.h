@@ -29,11 +29,17 @@
  *   - the buffers of one call do not overlap: the three memories, output, the van's copy, and what is read (operations, request,
  *     message, session_studios);
  *   - one call at a time on the same memory, and nobody else reads or writes it while a call runs (calls on different memories may
- *     run at the same time, and so may previews, layout tests and van_writes, each with an output of its own, of one memory: they change
- *     neither memory nor control);
+ *     run at the same time, and so may previews, layout tests, loads and van_writes, each with an output of its own, of one memory: they
+ *     change neither memory nor control);
  *   - the control that the last call handed back goes into the next one, and memory is kept as that call left it. (Where control
- *     or memory are damaged so that they are no longer of the layout, each call that is passed them says so with the number 2. A control
- *     that is old, but still of the layout for this memory, cannot be told from the right one.)
+ *     or memory are damaged so that they are no longer of the layout, each call that is passed them says so with the number 2. That the
+ *     copies are what the log makes is tested by sulyobak_load alone.)
+ *
+ * SAVING. Save the three memories and control together, as one call left them, with the version that wrote them, so that a stop in the
+ * middle leaves the last whole save (write another file, then rename it). After reading them back call sulyobak_load once, before any
+ * other call: it refuses what is torn so that it shows, and what it accepts goes on exactly as if the system had never stopped. From
+ * a save that is whole no number is lost: sessions keep their numbers and their waiting reads. sulyobak_load says what a torn
+ * save gives; examples/c/restart.c saves, reads back, loads and goes on.
  *
  * Numbers inside the memories, operations, requests, messages and carts are little-endian.
  */
@@ -50,11 +56,13 @@ extern "C" {
 /* The version of this interface: functions, structs, numbers and layout of memory. sulyobak_control and sulyobak_answer may change
  * with it, so a header and a library go together (compare the macro with sulyobak_version() at the program's start), and control is stored
  * together with the version that wrote it. docs/FORMAT.md says which versions have the same control and layout. */
-#define SULYOBAK_VERSION 7
+#define SULYOBAK_VERSION 8
 
-/* Stack that every call keeps within, in bytes. Measured on a full system, not proved: examples/run runs examples/c/stack.c, which fails
- * where a call takes more. */
+/* Stack that every call but sulyobak_load keeps within, in bytes; and sulyobak_load, which makes the copies that it compares in one copy of
+ * its own, SULYOBAK_COPY_SIZE (10,240) bytes on the stack. Measured on a full system, not proved: examples/run runs examples/c/stack.c,
+ * which fails where a call takes more. */
 #define SULYOBAK_STACK_MOST 4096
+#define SULYOBAK_LOAD_STACK_MOST 14336
 
 /* Sizes of the memories that a caller lends, in bytes: exactly these. */
 #define SULYOBAK_LIBRARY_SIZE 51200 /* five copies of 128 carts: the head end's, then those of studios 1 to 4 */
@@ -128,7 +136,7 @@ typedef struct {
     uint32_t value; /* refused: the number, below; done: what the call counts; answered: the state; waits: the session's number */
     uint32_t found; /* answered: how many carts were found */
     sulyobak_control control; /* control for the next call; unchanged where the call was refused (setup's apart), and by preview, read,
-                               * collect, forward, layout and van_write */
+                               * collect, forward, layout, load and van_write */
 } sulyobak_answer;
 
 /* What sulyobak_van_receive answers. */
@@ -141,7 +149,7 @@ typedef struct {
 /* Kinds of answer. */
 #define SULYOBAK_REFUSED 0  /* value says why; nothing was done, no byte was changed (but a session's number, by a commit refused by 8) */
 #define SULYOBAK_DONE 1     /* done; value: the commit's number (of a preview the one it would have), sent, applied, the studio moved to, a
-                             * message's length, or the number of a message that a van applied; 0 for setup and layout */
+                             * message's length, the number of a message that a van applied, or the commits of a load; 0 for setup and layout */
 #define SULYOBAK_ANSWERED 2 /* the read or forward is answered; value: transactions that the copy had taken; found; carts are in output */
 #define SULYOBAK_WAITS 3    /* the read is kept in the session; value: the number that the studio's copy has to reach first */
 #define SULYOBAK_HELD 4     /* the van holds this message's transaction already; nothing was changed */
@@ -166,6 +174,7 @@ typedef struct {
 #define SULYOBAK_BAD_MESSAGE 17     /* van_receive: the message is out of form, or the copy is not 10,240 bytes of the layout.
                                      * van_write: no such transaction (1 to control.commits), or output is shorter than its message. */
 #define SULYOBAK_MESSAGE_AHEAD 18   /* The message's number is above applied + 1: one before it has not been applied yet. */
+#define SULYOBAK_NOT_WHOLE 19       /* A copy is not what the log's transactions make, or an operation in the log met its cart in the wrong state. */
 
 /* The version of the linked library: SULYOBAK_VERSION of the header that it was made with. */
 uint32_t sulyobak_version(void);
@@ -271,15 +280,29 @@ sulyobak_answer sulyobak_forward(const uint8_t *library, size_t library_len, con
 sulyobak_answer sulyobak_move(const uint8_t *library, size_t library_len, const uint8_t *log, size_t log_len,
                               const uint8_t *sessions, size_t sessions_len, sulyobak_control control, uint32_t session, uint32_t studio);
 
-/* Tests memory and control alone, as every call that is passed both does first: for use after loading them from a disk. Changes no memory.
- *   control   as it was stored
+/* Tests memory and control alone, as every call that is passed both does first. Changes no memory. For memory that was read back after a
+ * restart call sulyobak_load, which tests more: this one does not tell whether a copy is what the log makes.
+ *   control   as the last call handed it back
  * It tells whether every field is within its rule, the log's chain has the transactions and records that control counts, and the counts
- * agree with each other. It does not tell whether memory and control are those that were stored: an older control, or a title with another
- * letter, can be of the layout too. Nor does it tell whether a copy is what the log makes: a test of that is to come (request S-8).
- * examples/c/restart.c stores and loads a system.
+ * agree with each other.
  * Answers done (value 0), or refused 1, 2. */
 sulyobak_answer sulyobak_layout(const uint8_t *library, size_t library_len, const uint8_t *log, size_t log_len,
                                 const uint8_t *sessions, size_t sessions_len, sulyobak_control control);
+
+/* Loads a system that was saved: tests memory and control as they were read back. Changes no memory and hands control back as it was
+ * passed. Beyond the layout it works out from the log what its transactions make, from 128 empty carts, one after the other: the head end's
+ * copy must be that of all of them (control.commits), each studio's, 1 to control.studios, that of the first so many as control.applied counts for it, and each
+ * operation in the log must have met its cart in the right state when it acted. What a list of calls leaves, from a fresh or a loaded
+ * system, is always accepted, so a restart is safe at any moment. From what is accepted every list of calls is answered as from a
+ * fresh system: as by one single library, which took the log's transactions first.
+ *   control   as it was saved
+ * WHAT A TORN SAVE GIVES. A library, a log and a control of different moments are refused by 2 or 19 wherever a copy then differs
+ * from what log and control make of it. What cannot be told, and is accepted: sessions of another moment (a number too low shows its session
+ * an earlier copy; save them with the rest); counts of sent from another moment; and a whole system of an earlier moment. Studios above
+ * control.studios, and sessions, are tested by the layout alone.
+ * Answers done (value: control.commits), or refused 1, 2, 19. Nobody is obliged to load: the other calls go by the layout alone. */
+sulyobak_answer sulyobak_load(const uint8_t *library, size_t library_len, const uint8_t *log, size_t log_len,
+                              const uint8_t *sessions, size_t sessions_len, sulyobak_control control);
 
 /* Writes the message of a committed transaction, for a van. Changes no memory and hands control back as it was passed. The same number
  * gives the same message for as long as the log stands, whatever is called in between: write it again where it was lost.

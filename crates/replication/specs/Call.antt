@@ -21,6 +21,8 @@ pub data Call : Type 0 where
   write : ℕ → List ℕ → Call
   -- 02, S-7, "a call that moves a session to another studio": session, studio
   move : ℕ → ℕ → Call
+  -- 02, S-8, "a load call": nothing but control and memory
+  load : Call
 
 -- a call of a list, and what it left
 pub record Turn (A : Type 0) : Type 0 where

@@ -13,7 +13,7 @@ use Rattle.replication.specs.Memory.{Memory, memory, librarySize, sessio
 use Rattle.replication.specs.Log.{transactionAfter, freshLog, appended}
 use Rattle.replication.specs.Message.{messageIn}
 use Rattle.replication.specs.Request.{Request, requestOf, needed, foundIn, shownFrom}
-use Rattle.replication.specs.Rows.{unless, setupStop, commitStop, sendStop, refreshStop, readStop, collectStop, writeStop, moveStop}
+use Rattle.replication.specs.Rows.{unless, setupStop, commitStop, sendStop, refreshStop, readStop, collectStop, writeStop, moveStop, loadStop}
 use Rattle.replication.specs.Call as Call
 use Rattle.replication.specs.declared.control.Control.{Control}
 
@@ -171,6 +171,10 @@ withStudio c s i = control (c .studios) (set (c .«session_studios») (s - 1) i)
 unfoldable pub move : Control → Memory → ℕ → ℕ → After
 move c m s i = unless (moveStop c m s i) (refusal c m []) (after (done i) (withStudio c s i) m [])
 
+-- 02, S-8, "a load call that tests it and returns commits": it changes nothing that was lent or passed
+unfoldable pub load : Control → Memory → After
+load c m = unless (loadStop c m) (refusal c m []) (after (done (c .commits)) c m [])
+
 -- each call, the reading calls and collect by a rule
 unfoldable pub callBy : Rule → Control → Memory → Call.Call → After
 callBy rule c m (Call.commit s bytes) = commit c m s bytes
@@ -182,6 +186,7 @@ callBy rule c m (Call.collect s out) = collectBy rule c m s out
 callBy rule c m (Call.forward s request out) = forwardBy rule c m s request out
 callBy rule c m (Call.write n out) = write c m n out
 callBy rule c m (Call.move s i) = move c m s i
+callBy rule c m Call.load = load c m
 
 -- a list of calls by a rule, each given what the call before it left and handed back
 abbrev pub runBy : Rule → After → List Call.Call → List (Call.Turn After)

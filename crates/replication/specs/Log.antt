@@ -71,6 +71,10 @@ firstRecord c = cond (eqb (c .commits) 0) 0 1
 unfoldable pub transactionAfter : Control → List ℕ → ℕ → List (List ℕ)
 transactionAfter c log n = transactionAt log (walk n log (firstRecord c))
 
+-- the transactions of the log, as they were handed in
+abbrev pub logged : Control → List ℕ → List Transaction
+logged c log = transactionsFrom (c .commits) log (firstRecord c)
+
 -- r, r + 1, .., n of them
 unfoldable pub upFrom : ℕ → ℕ → List ℕ
 upFrom r zero = []

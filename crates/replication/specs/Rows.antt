@@ -1,16 +1,17 @@
 -- Document 01, "Where a call is stopped": for each call its rows, "checked from top to bottom", over what they look at, so that the
 -- calls on bytes and the plain machine share them. Rows 1 and 2 are the bytes' own. Row 16 is document 02's, S-2, row 17 of
--- the van's writer S-6.
-use mathlib.Core.Bool.{Bool, cond, _||_, not}
+-- the van's writer S-6, row 19 of load S-8.
+use mathlib.Core.Bool.{Bool, cond, _&&_, _||_, not}
 use mathlib.Core.List.{List, [], _∷_, _++_}
 use Prim.Native.Nat.{ℕ, zero, suc, _*_, _-_, _%_}
 use lib.ListN.{length}
 use lib.Dec.{leb, ltb, eqb}
-use Rattle.carts.specs.Bytes.{within, all, every, any}
+use Rattle.carts.specs.Bytes.{within, all, every, any, pairwise}
 use Rattle.carts.specs.Cart.{cartSize}
 use Rattle.carts.specs.Operation.{operationForm, spaced, operationsOf, meetsAll}
+use Rattle.carts.specs.Transaction.{Transaction, L, metAll}
 use Rattle.replication.specs.Memory.{Memory, mostOperations, sessionCount, studioCount, window, lengthsForm, copyAt, nth, studioOf}
-use Rattle.replication.specs.Log.{noRoom}
+use Rattle.replication.specs.Log.{logged, upFrom, noRoom}
 use Rattle.replication.specs.Message.{messageIn}
 use Rattle.replication.specs.Request.{Request, requestOf, requestForm, isWaiting, needed, waitingIn}
 use Rattle.replication.specs.Layout.{ofLayout}
@@ -110,6 +111,11 @@ writeRows commits n size room = row 17 (not (within 1 commits n) || ltb room siz
 unfoldable pub moveRows : ℕ → ℕ → Request → ℕ → ℕ → List Row
 moveRows s studio waiting studios i = sessionRow s studio ∷ studioRow studios i ∷ row 4 (isWaiting waiting) ∷ []
 
+-- 02, S-8, of load: "Refusal 19, a copy differs from its L, or a logged operation met its cart in the wrong state, after 2": whether the copies are
+-- what the log makes; the log
+unfoldable pub loadRows : Bool → List Transaction → List Row
+loadRows same log = row 19 (not (same && metAll log)) ∷ []
+
 -- the number of the row that stops a call on bytes, or 0
 unfoldable pub setupStop : Memory → ℕ → List ℕ → ℕ
 setupStop m studios bytes = stopped (lengthsRow m ∷ setupRows studios bytes)
@@ -135,3 +141,12 @@ writeStop c m n room = stopped (memoryRows c m ++ writeRows (c .commits) n (leng
 
 unfoldable pub moveStop : Control → Memory → ℕ → ℕ → ℕ
 moveStop c m s i = stopped (memoryRows c m ++ moveRows s (studioOf c s) (waitingIn m s) (c .studios) i)
+
+-- "the head end's copy must equal L(commits) and each studio's L(applied), worked out from the log": studios 1 to S
+unfoldable pub copiesForm : Control → List ℕ → List Transaction → Bool
+copiesForm c library log =
+    all (pairwise eqb (copyAt library 0) (L log (c .commits))
+    ∷ every (λ i. pairwise eqb (copyAt library i) (L log (nth (c .applied) i))) (upFrom 1 (c .studios)) ∷ [])
+
+unfoldable pub loadStop : Control → Memory → ℕ
+loadStop c m = let log = logged c (m .log) in stopped (memoryRows c m ++ loadRows (copiesForm c (m .library) log) log)

@@ -1,12 +1,14 @@
--- What the code's parts give, by the definitions: a session's value; a record's links; one transaction of the chain; what a reading call goes by.
+-- What the code's parts give, by the definitions: a session's value; a record's links; one transaction of the chain; what a reading call goes by; what
+-- load compares on its walk.
 use mathlib.Core.Bool.{Bool, true, false, cond, _&&_}
 use mathlib.Core.List.{List, [], _∷_}
 use Prim.Native.Nat.{ℕ, zero, suc, _+_, _*_}
 use lib.ListN.{length}
 use lib.Dec.{leb, eqb}
-use Rattle.carts.specs.Bytes.{byte, u16, within, all, pairwise}
+use Rattle.carts.specs.Bytes.{byte, u16, within, all, every, pairwise}
 use Rattle.carts.specs.Cart.{cartSize, cartCount}
-use Rattle.replication.specs.Log.{nextOperation, nextTransaction, recordsOf, ownForm, upFrom}
+use Rattle.carts.specs.Operation.{meetsAll, actAll}
+use Rattle.replication.specs.Log.{nextOperation, nextTransaction, recordsOf, transactionAt, ownForm, upFrom}
 use Rattle.replication.specs.Memory.{Memory, recordCount, copyAt, recordAt, sessionAt, sequenceOf, nth, studioOf}
 use Rattle.replication.specs.Request.{Request}
 use Rattle.replication.specs.Calls.{After, numberAfter, answerFrom}
@@ -73,3 +75,19 @@ forwardSource c d = cond (leb (d .number) (d .state)) (studioSource d) (primaryS
 -- the answer from a source
 abbrev pub answerBy : Source → Request → Control → Memory → ℕ → List ℕ → List ℕ → After
 answerBy v q c m s x out = answerFrom (v .state) (copyAt (m .library) (v .copy)) q c m s (v .next) x out
+
+-- S-8: studio i, if it has applied n transactions, has this copy; each studio 1 to S
+unfoldable pub isLevel : Control → List ℕ → List ℕ → ℕ → ℕ → Bool
+isLevel c library copy n i = let same = pairwise eqb (copyAt library i) copy in cond (eqb (nth (c .applied) i) n) same true
+
+unfoldable pub areLevel : Control → List ℕ → List ℕ → ℕ → Bool
+areLevel c library copy n = every (isLevel c library copy n) (upFrom 1 (c .studios))
+
+-- S-8: the rest of load's walk, `left` transactions from record r on, after n of them have made `copy`
+unfoldable pub wholeFrom : Control → List ℕ → List ℕ → ℕ → ℕ → ℕ → List ℕ → Bool
+wholeFrom c library log zero n r copy = pairwise eqb (copyAt library 0) copy
+wholeFrom c library log (suc left) n r copy =
+    let ops = transactionAt log r in
+    let next = actAll copy ops in
+    let rest = wholeFrom c library log left (n + 1) (nextTransaction log r) next in
+    meetsAll copy ops && (areLevel c library next (n + 1) && rest)

@@ -9,6 +9,7 @@ pub mod commit;
 pub mod control;
 pub mod forward;
 pub mod layout;
+pub mod load;
 pub mod move_session;
 pub mod output;
 pub mod preview;

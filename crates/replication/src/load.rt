@@ -1,0 +1,105 @@
+// Load: the copies are compared with what the log makes.
+use crate::answer::CountAnswer;
+use crate::answer::CountResult;
+use crate::control::Control;
+use crate::record::Record;
+use crate::rows;
+use crate::transaction;
+use carts::bytes;
+use carts::cart::Cart;
+ghost use mathlib.Core.Path.{_≡_};
+ghost use mathlib.Core.Bool.{true, _&&_};
+ghost use mathlib.Core.List.{[]};
+ghost use Prim.Native.Nat.{_≤_};
+ghost use lib.ListN.{length};
+ghost use Rattle.carts.specs.Bytes.{every};
+ghost use Rattle.carts.specs.Cart.{copySize};
+ghost use Rattle.replication.specs.Answer.{countAnswer};
+ghost use Rattle.replication.specs.Memory.{memory, librarySize, logSize, studioCount};
+ghost use Rattle.replication.specs.Log.{logRecords, firstRecord};
+ghost use Rattle.replication.specs.Rows.{loadStop};
+ghost use Rattle.replication.specs.Calls.{after, load};
+ghost use Rattle.replication.specs.Values.{usable, walkable, isLevel, areLevel, wholeFrom};
+
+// Studio i, if it has applied n transactions, has this copy.
+fn is_level(control: Control, library: &[u8], copy: &[u8], n: u32, i: u32) -> bool
+    requires { ⌜ (length (now library) ≡ librarySize) × ((length (now copy) ≡ copySize) × ((1 ≤ i) × (i ≤ studioCount))) ⌝ }
+    ensures { λ r. ⌜ r ≡ isLevel control (now (library .entry)) (now (copy .entry)) n i ⌝ }
+{
+    if control.applied_by(i) != n {
+        return true;
+    }
+    let start = Cart::COPY_SIZE * (i as usize);
+    let end = start + Cart::COPY_SIZE;
+    bytes::are_equal(&library[start..end], copy)
+}
+
+// Each studio that has applied n transactions has this copy.
+fn are_level(control: Control, library: &[u8], copy: &[u8], n: u32) -> bool
+    requires { ⌜ (length (now library) ≡ librarySize) × ((length (now copy) ≡ copySize) × (control .studios ≤ studioCount)) ⌝ }
+    ensures { λ r. ⌜ r ≡ areLevel control (now (library .entry)) (now (copy .entry)) n ⌝ }
+{
+    let studios = control.studios;
+    let mut ok = true;
+    let mut i: u32 = 0;
+    while i < studios {
+        i += 1;
+        ok &= is_level(control, library, copy, n, i);
+    }
+    ok
+}
+
+// One walk along the log: its transactions act on a copy one after the other. Each operation meets its cart in the right state, each studio's copy is
+// compared when as many have acted as it has applied, the head end's at the end.
+fn are_made(control: Control, library: &[u8], log: &[u8], copy: &mut [u8]) -> bool
+    requires { ⌜ (length (now library) ≡ librarySize) × ((length (now log) ≡ logSize) × ((length (now copy) ≡ copySize) × (control .studios ≤ studioCount))) ⌝ }
+    requires { ⌜ (walkable (control .commits) (now log) (firstRecord control) ≡ true) × (every (usable (now log)) (logRecords (control .commits) (now log) (firstRecord control)) ≡ true) ⌝ }
+    ensures { λ v. ⌜ v ≡ (areLevel control (now (library .entry)) (now (copy .entry)) 0
+        && wholeFrom control (now (library .entry)) (now (log .entry)) (control .commits) 0 (firstRecord control) (now (copy .entry))) ⌝ }
+{
+    let commits = control.commits;
+    let mut ok = are_level(control, library, copy, 0);
+    let mut r = control.first_record();
+    let mut n: u32 = 0;
+    while n < commits {
+        ok &= transaction::try_transaction(copy, log, r);
+        let links = Record::at(log, r);
+        r = links.next_transaction;
+        n += 1;
+        ok &= are_level(control, library, copy, n);
+    }
+    ok & bytes::are_equal(&library[0..Cart::COPY_SIZE], copy)
+}
+
+// The number of the row that stops a load, or 0. The copy on the stack begins as 128 empty carts.
+pub fn decide_load(control: Control, library: &[u8], log: &[u8], sessions: &[u8]) -> u32
+    ensures { λ r. ⌜ r ≡ loadStop control (memory (now (library .entry)) (now (log .entry)) (now (sessions .entry))) ⌝ }
+{
+    let stopped = rows::stopped_by_memory(control, library, log, sessions);
+    if stopped != 0 {
+        return stopped;
+    }
+    let mut copy = [0u8; Cart::COPY_SIZE];
+    if !are_made(control, library, log, &mut copy) {
+        return 19;
+    }
+    0
+}
+
+// Document 02's load, S-8. Memory is only read.
+pub fn load(control: Control, library: &[u8], log: &[u8], sessions: &[u8]) -> CountResult
+    ensures { λ r. ⌜ after (countAnswer (r .answer)) (r .control) (memory (now (library .entry)) (now (log .entry)) (now (sessions .entry))) []
+        ≡ load control (memory (now (library .entry)) (now (log .entry)) (now (sessions .entry))) ⌝ }
+{
+    let stopped = decide_load(control, library, log, sessions);
+    if stopped != 0 {
+        return CountResult {
+            answer: CountAnswer::Refused(stopped),
+            control,
+        };
+    }
+    CountResult {
+        answer: CountAnswer::Number(control.commits),
+        control,
+    }
+}
