@@ -105,6 +105,10 @@ module _ (a b : List ℕ) (front : take 12 a ≡ take 12 b) (back : drop 16 a �
   unfolding act
   act-links copy = rw (number-same, acted-same)
 
+  pub meets-links : (copy : List ℕ) → meets copy a ≡ meets copy b
+  unfolding meets meetsCart
+  meets-links copy = rw (number-same, kind-same)
+
   pub fields-links : operationFields a ≡ operationFields b
   unfolding operationFields hasTitle noTitle hasAudio noAudio
   fields-links = rw (

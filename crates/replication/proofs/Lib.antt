@@ -12,6 +12,7 @@ pub mod Formed
 pub mod GrowLaws
 pub mod LayoutLaws
 pub mod LinkLaws
+pub mod LoadLaws
 pub mod MessageLaws
 pub mod MoveLaws
 pub mod Occurrences

@@ -51,7 +51,7 @@ unfolding upFrom every
 upFrom-every p r zero f = refl
 upFrom-every p r (suc n) f = rw (f r (omega arith) (omega arith)) (upFrom-every p (r + 1) n (λ q l g. f q (omega arith) (omega arith)))
 
-every-upFrom : (p : ℕ → Bool) (r n : ℕ) → every p (upFrom r n) ≡ true → (q : ℕ) → r ≤ q → q < r + n → p q ≡ true
+pub every-upFrom : (p : ℕ → Bool) (r n : ℕ) → every p (upFrom r n) ≡ true → (q : ℕ) → r ≤ q → q < r + n → p q ≡ true
 unfolding upFrom every
 every-upFrom p r zero h q l g = let z : ⊥ = omega arith in absurd z
 every-upFrom p r (suc n) h q l g = go (every-upFrom p (r + 1) n (and-right (p r) (every p (upFrom (r + 1) n)) h) q) (ℕ-discrete q r)
@@ -100,17 +100,21 @@ module _ (c : Control) (m : Memory) (f : Formed c m) where
   pub few-commits : c .commits ≤ 512
   few-commits = omega (arith, chain-count (c .commits) (m .log) (firstRecord c) (f .log .form), log-used, f .log .used)
 
+  -- each record can act on a copy
+  pub log-usable : every (usable (m .log)) (logRecords (c .commits) (m .log) (firstRecord c)) ≡ true
+  unfolding usable
+  log-usable = log-every (usable (m .log)) (λ q a b.
+      let u = f .log .used in
+      let o = fields-cart (recordAt (m .log) q) (f .log .records q a b) in
+      all-cons _ _ (within-of 1 512 q a (omega arith)) (all-cons _ _ (within-of 1 128 _ (o .0) (o .1)) all-nil))
+
   pub log-walkable : (k : ℕ) → k ≤ c .commits → walkable k (m .log) (firstRecord c) ≡ true
   log-walkable = chain-walkable (c .commits) (m .log) (firstRecord c) (f .log .form) log-inside
 
   -- the transaction k further on than the first: its records can act on a copy, it has 1 to 8 of them, and its operations are of their fields
   module _ (k : ℕ) (l : k < c .commits) where
     pub transaction-usable : every (usable (m .log)) (recordsOf (m .log) (walk k (m .log) (firstRecord c))) ≡ true
-    unfolding usable
-    transaction-usable = every-transaction (usable (m .log)) (c .commits) (m .log) (firstRecord c) k l (log-every (usable (m .log)) (λ q a b.
-        let u = f .log .used in
-        let o = fields-cart (recordAt (m .log) q) (f .log .records q a b) in
-        all-cons _ _ (within-of 1 512 q a (omega arith)) (all-cons _ _ (within-of 1 128 _ (o .0) (o .1)) all-nil)))
+    transaction-usable = every-transaction (usable (m .log)) (c .commits) (m .log) (firstRecord c) k l log-usable
 
     pub transaction-length : (1 ≤ length (recordsOf (m .log) (walk k (m .log) (firstRecord c)))) × (length (recordsOf (m .log) (walk k (m .log) (firstRecord c))) ≤ 8)
     transaction-length = own-length (c .commits) (m .log) (firstRecord c) k l (f .log .form)

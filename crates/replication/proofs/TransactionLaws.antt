@@ -6,13 +6,13 @@ use mathlib.Core.List.{List, [], _∷_, map}
 use native.Mathlib.Omega.{arith}
 use borrow.Author.Tests.{eq-eqb}
 use lib.Dec.{eqb}
-use lib.ListN.{length, getD, length-map}
+use lib.ListN.{length, take, drop, getD, length-map}
 use Rattle.carts.specs.Bytes.{zeros, over, u16, within, every}
-use Rattle.carts.specs.Operation.{operationForm, act, actAll}
+use Rattle.carts.specs.Operation.{operationForm, meets, act, meetsAll, actAll}
 use Rattle.carts.proofs.TestLaws.{and-left, and-right, all-at, within-low, within-high}
 use Rattle.carts.proofs.PartLaws.{take-over, drop-over-after}
 use Rattle.carts.proofs.ZeroLaws.{length-zeros}
-use Rattle.carts.proofs.OperationLaws.{Operations, sizes-first, operations-first, act-links}
+use Rattle.carts.proofs.OperationLaws.{Operations, sizes-first, operations-first, act-links, meets-links}
 use Rattle.replication.specs.Memory.{recordAt}
 use Rattle.replication.specs.Log.{nextOperation, nextTransaction, chain, recordsOf, transactionAt, handedIn, transactionsFrom, walk}
 use Rattle.replication.specs.Values.{usable}
@@ -54,6 +54,11 @@ module _ (log : List ℕ) (left r : ℕ) (h : 0 < left) where
   unfolding actAll
   acts copy n = rw (turn n)
 
+  pub met-then : (copy : List ℕ) → (r ≡ 0 → ⊥) → meetsAll copy (map (recordAt log) (chain left log r))
+      ≡ (meets copy (recordAt log r) && meetsAll (act copy (recordAt log r)) (map (recordAt log) (chain (left - 1) log (nextOperation log r))))
+  unfolding meetsAll
+  met-then copy n = rw (turn n)
+
 -- the end of the chain, or of the turns
 pub acts-ends : (log : List ℕ) (left r : ℕ) (copy : List ℕ) → r ≡ 0 → actAll copy (map (recordAt log) (chain left log r)) ≡ copy
 unfolding actAll
@@ -62,6 +67,14 @@ acts-ends log left r copy e = rw (e, chain-zero left log)
 pub acts-stops : (log : List ℕ) (left r : ℕ) (copy : List ℕ) → left ≤ 0 → actAll copy (map (recordAt log) (chain left log r)) ≡ copy
 unfolding actAll chain
 acts-stops log left r copy h = let e : left ≡ 0 = omega arith in rw e
+
+pub met-ends : (log : List ℕ) (left r : ℕ) (copy : List ℕ) → r ≡ 0 → meetsAll copy (map (recordAt log) (chain left log r)) ≡ true
+unfolding meetsAll
+met-ends log left r copy e = rw (e, chain-zero left log)
+
+pub met-stops : (log : List ℕ) (left r : ℕ) (copy : List ℕ) → left ≤ 0 → meetsAll copy (map (recordAt log) (chain left log r)) ≡ true
+unfolding meetsAll chain
+met-stops log left r copy h = let e : left ≡ 0 = omega arith in rw e
 
 -- the transactions read off the log: how many
 pub length-transactions : (n : ℕ) (log : List ℕ) (r : ℕ) → length (transactionsFrom n log r) ≡ n
@@ -82,10 +95,20 @@ unfolding transactionAt
 length-handed-in log r = length-map (map (recordAt log) (recordsOf log r)) handedIn ∙ length-map (recordsOf log r) (recordAt log)
 
 -- an operation's links are not read when it acts
-handed-act : (copy op : List ℕ) → length op ≡ 80 → act copy (handedIn op) ≡ act copy op
-unfolding handedIn
-handed-act copy op h =
-    act-links (over op 12 4 (zeros 4)) op (take-over op 12 4 (zeros 4) 12 (omega arith) (omega arith)) (drop-over-after op 12 4 (zeros 4) 16 (omega arith) (length-zeros 4) (omega arith)) copy
+module _ (copy op : List ℕ) (h : length op ≡ 80) where
+  front-same : take 12 (handedIn op) ≡ take 12 op
+  unfolding handedIn
+  front-same = take-over op 12 4 (zeros 4) 12 (omega arith) (omega arith)
+
+  back-same : drop 16 (handedIn op) ≡ drop 16 op
+  unfolding handedIn
+  back-same = drop-over-after op 12 4 (zeros 4) 16 (omega arith) (length-zeros 4) (omega arith)
+
+  handed-act : act copy (handedIn op) ≡ act copy op
+  handed-act = act-links (handedIn op) op front-same back-same copy
+
+  handed-meets : meets copy (handedIn op) ≡ meets copy op
+  handed-meets = meets-links (handedIn op) op front-same back-same copy
 
 pub handed-actAll : (copy : List ℕ) (ops : List (List ℕ)) → every (λ op. eqb (length op) 80) ops ≡ true → actAll copy (map handedIn ops) ≡ actAll copy ops
 unfolding actAll
@@ -93,6 +116,13 @@ handed-actAll copy [] h = refl
 handed-actAll copy (op ∷ ops) h =
     let (size, sizes) = sizes-first op ops h in
     ap (λ (z : List ℕ). actAll z (map handedIn ops)) (handed-act copy op size) ∙ handed-actAll (act copy op) ops sizes
+
+pub handed-meetsAll : (copy : List ℕ) (ops : List (List ℕ)) → every (λ op. eqb (length op) 80) ops ≡ true → meetsAll copy (map handedIn ops) ≡ meetsAll copy ops
+unfolding meetsAll
+handed-meetsAll copy [] h = refl
+handed-meetsAll copy (op ∷ ops) h =
+    let (size, sizes) = sizes-first op ops h in
+    rw (handed-meets copy op size, handed-act copy op size, handed-meetsAll (act copy op) ops sizes)
 
 -- operations of their fields, as they were handed in, are of their form
 pub handed-operations : (ops : List (List ℕ)) → Operations ops → (every (λ op. eqb (length op) 80) (map handedIn ops) ≡ true) × (every operationForm (map handedIn ops) ≡ true)

@@ -1,38 +1,42 @@
+use mathlib.Core.Path.{_≡_, refl, ap}
+use mathlib.Core.Bool.{_&&_}
+use Prim.Native.Nat.{_≤_, _+_, _-_}
+use native.Mathlib.Omega.{arith}
+use Rattle.carts.specs.Bytes.{every}
+use Rattle.carts.proofs.ScanLaws.{test-more, test-end}
+use Rattle.replication.specs.Log.{upFrom}
+use Rattle.replication.specs.Values.{isLevel, areLevel}
+use Rattle.replication.proofs.LoadLaws.{up-next, up-end, level-studios}
 use Rattle.replication.proofs.load.are_level.Statement.{statement}
 use Rattle.replication.proofs.load.are_level.Tie as tie
-use Rattle.replication.proofs.load.are_level.Reads as reads
-use Rattle.replication.proofs.load.are_level.Lts as lts
-use Rattle.replication.proofs.load.is_level.Reads as is-level-reads
 
 abbrev Inv-loop : tie.InvT-loop
-Inv-loop control library copy n studios ok₀ i₀ ok i = ?
+Inv-loop control library copy n studios ok₀ i₀ ok i = (i ≤ studios) × (areLevel control library copy n ≡ (ok && every (isLevel control library copy n) (upFrom (i + 1) (studios - i))))
 
 abbrev μ-loop : tie.MeasureT-loop
-μ-loop control library copy n studios ok₀ i₀ ok i = ?
+μ-loop control library copy n studios ok₀ i₀ ok i = studios - i
 
--- src/load.rt:45:5
 loop-holds : tie.Need-loop-holds Inv-loop μ-loop
-loop-holds c = ?
+loop-holds c = (omega arith, level-studios _ _ _ _)
 
--- src/load.rt:46:9
 add-i : tie.Need-add-i Inv-loop μ-loop
-add-i c = ?
+add-i c = omega arith
 
--- src/load.rt:47:15
 is-level-requires : tie.Need-is-level-requires Inv-loop μ-loop
-is-level-requires c κs = ?
+is-level-requires c κs = let p = c .before .before .before .before .pre in (p .0, (p .1 .0, (omega arith, omega arith)))
 
--- src/load.rt:45:5
 loop-less : tie.Need-loop-less Inv-loop μ-loop
-loop-less c = ?
+loop-less c = omega arith
 
--- src/load.rt:45:5
 loop-again : tie.Need-loop-again Inv-loop μ-loop
-loop-again c = ?
+loop-again c = let t = c .before .before in
+    let g = t .before .before .before .args in
+    (omega arith, test-more (t .loop .ok) _ _ (t .loop .inv .1) (up-next (isLevel (g .control) (g .library .now) (g .copy .now) (g .n)) (g .control .studios) (t .loop .i) (omega arith)) (ap (λ b. t .loop .ok && b) (c .is-level .ensures)))
 
--- src/load.rt:38:1
 returns : tie.Need-returns Inv-loop μ-loop
-returns c = ?
+returns c = let t = c .before in
+    let g = t .before .before .before .args in
+    test-end (t .loop .ok) (t .loop .inv .1) (up-end (isLevel (g .control) (g .library .now) (g .copy .now) (g .n)) (g .control .studios) (t .loop .i) (omega arith))
 
 pub are-level-spec : {M : Type 1} → statement M
 are-level-spec =

@@ -1,20 +1,15 @@
+use borrow.Author.Needs.{needs}
 use Rattle.replication.proofs.transaction.apply_transaction.Statement.{statement}
 use Rattle.replication.proofs.transaction.apply_transaction.Tie as tie
-use Rattle.replication.proofs.transaction.apply_transaction.Reads as reads
-use Rattle.replication.proofs.transaction.apply_transaction.Lts as lts
-use Rattle.replication.proofs.transaction.try_transaction.Reads as try-transaction-reads
 
--- src/transaction.rt:43:5
 try-transaction-requires : tie.Need-try-transaction-requires
-try-transaction-requires c κs = ?
+try-transaction-requires c κs = search needs
 
--- src/transaction.rt:39:1
 same-length : tie.Need-same-length
-same-length c = ?
+same-length c = search needs
 
--- src/transaction.rt:39:1
 returns : tie.Need-returns
-returns c = ?
+returns c = c .before .before .try-transaction .ensures .1
 
 pub apply-transaction-spec : {M : Type 1} → statement M
 apply-transaction-spec = tie.close (tie.spec try-transaction-requires same-length returns)
