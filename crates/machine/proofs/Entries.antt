@@ -17,7 +17,7 @@ use Rattle.replication.proofs.RowLaws.{unless-case}
 use Rattle.replication.proofs.ShownLaws.{Askable, length-shown, request-askable}
 use Rattle.replication.proofs.DecideLaws.{KnownSession}
 use Rattle.replication.proofs.Accepted.{commit-passed, CommitTold, commit-told, read-passed, collect-passed, move-passed}
-use Rattle.machine.specs.Machine.{Machine, Step, step, refusal, commits, sessionOf, told, commit, preview, send, refresh, answerFrom, block, wait, reading, read, collect, forward, write, move, call, run}
+use Rattle.machine.specs.Machine.{Machine, Step, step, refusal, commits, sessionOf, told, commit, preview, send, refresh, answerFrom, block, wait, reading, read, collect, forward, write, move, load, call, run}
 use Rattle.machine.specs.Library.{operations, Reply, request, at, refused8, shown, library, serve}
 use Rattle.machine.specs.OneCopy.{Event, event, Counted, counted, entry, commitReplies, readReplies, readEntry, Kind, writes, reads, collects, neither, kindOf, entryOf, waitedAfter, entries}
 use Rattle.machine.proofs.Sort.{length-snoc}
@@ -27,7 +27,7 @@ use Rattle.machine.proofs.Cases.{refused-case, block-case, stateFor}
 use Rattle.machine.proofs.Libraries.{length-L}
 use Rattle.machine.proofs.Sound.{Sound, applied-commits}
 use Rattle.machine.proofs.Kept.{number-after, keeps}
-use Rattle.machine.proofs.Follows.{WaitsFor, Follows, appended, other-counts, shown-to, stored-for, left-so}
+use Rattle.machine.proofs.Follows.{Follows, appended, other-counts, shown-to, stored-for, left-so}
 
 -- the events of a list on the plain machine, and with the commits that each call left
 abbrev pub plainEvent : Call.Turn Step → Event
@@ -191,6 +191,10 @@ module _ (H : List Call.Call) (go-on : Goes H) (m : Machine) (copies : ℕ → L
       go-on _ n copies floor waited (i + 1) refl kept
       (left-so m copies floor waited f s _ (a .who) (sound .sixteen) (f .floors s (a .who .low)) (f .waits-for s (a .who .low))))
 
+  when-load : Fits neither (load m)
+  unfolding load entryOf waitedAfter
+  when-load = unless-case (Fits neither) _ _ _ (λ k e kept. nothing-new _ _) (λ e kept. nothing-new _ _)
+
   goes : (x : Call.Call) → Fits (kindOf x) (call m x)
   unfolding call kindOf
   goes (Call.commit s bytes) = when-commit s bytes
@@ -202,6 +206,7 @@ module _ (H : List Call.Call) (go-on : Goes H) (m : Machine) (copies : ℕ → L
   goes (Call.forward s bytes out) = when-forward s bytes out
   goes (Call.write j out) = when-write j out
   goes (Call.move s j) = when-move s j
+  goes Call.load = when-load
 
 pub all-goes : (H : List Call.Call) → Goes H
 unfolding entries plainCounted Call.run
@@ -209,12 +214,3 @@ all-goes [] r n copies floor waited i l sound f = ended
 all-goes (x ∷ H) r n copies floor waited i l sound f =
     subst (λ (k : ℕ). History k copies floor (entries i waited (plainCounted r (x ∷ H)))) l
     (goes H (all-goes H) (r .next) copies floor waited i sound f x (keeps (r .next) sound x))
-
--- a list may begin at any sound machine, with any log, in which each session waits for `waited`
-pub history-from : (r : Step) (waited : ℕ → Request) (i : ℕ) (H : List Call.Call) → Sound (r .next) → ((s : ℕ) → 1 ≤ s → WaitsFor (waited s) (sessionOf (r .next) s))
-    → History (commits (r .next)) (L (r .next .log)) (λ s. 0) (entries i waited (plainCounted r H))
-history-from r waited i H sound w = all-goes H r (commits (r .next)) (L (r .next .log)) (λ s. 0) waited i refl sound (record {
-  libraries = λ k u. refl;
-  floors = λ s u. omega arith;
-  waits-for = w;
-})

@@ -44,6 +44,14 @@ module _ (m : Machine) (copies : ℕ → List ℕ) (floor : ℕ → ℕ) (waited
   pub other-counts : (sent applied : List ℕ) → Follows (machine (m .studios) (m .log) sent applied (m .sessions)) copies floor waited
   other-counts sent applied = record { libraries = f .libraries; floors = f .floors; waits-for = f .waits-for }
 
+  -- what belongs to no session is shown to none
+  pub shown-to-none : (v : ℕ) → Follows m copies (put floor 0 v) waited
+  shown-to-none v = record {
+    libraries = f .libraries;
+    floors = λ j l. put-case (λ x. x ≤ sessionOf m j .number) floor 0 v j (λ e. absurd (omega arith)) (λ e. f .floors j l);
+    waits-for = f .waits-for;
+  }
+
   -- session s becomes x: shown the state v, or waiting for q, or neither
   module _ (s : ℕ) (x : Session) (who : KnownSession s (sessionOf m s .studio)) (sixteen : length (m .sessions) ≡ sessionCount) where
     floors-kept : floor s ≤ x .number → (j : ℕ) → 1 ≤ j → floor j ≤ sessionOf (withSession m s x) j .number

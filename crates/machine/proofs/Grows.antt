@@ -10,7 +10,7 @@ use Rattle.carts.specs.Transaction.{Transaction, L, recordsUsed}
 use Rattle.replication.specs.Call as Call
 use Rattle.replication.proofs.RowLaws.{unless-case}
 use Rattle.replication.proofs.Accepted.{CommitAccepted, commit-passed}
-use Rattle.machine.specs.Machine.{Machine, Step, commits, sessionOf, commit, preview, send, refresh, answerFrom, wait, read, collect, forward, write, move, call, afterCalls}
+use Rattle.machine.specs.Machine.{Machine, Step, commits, sessionOf, commit, preview, send, refresh, answerFrom, wait, read, collect, forward, write, move, load, call, afterCalls}
 use Rattle.machine.proofs.Sort.{length-snoc}
 use Rattle.machine.proofs.Cases.{refused-case, block-case}
 use Rattle.machine.proofs.Libraries.{L-before}
@@ -23,7 +23,7 @@ module _ (P : List Transaction → Type 0) (m : Machine) (same : P (m .log))
   Left r = P (r .next .log)
 
   pub log-case : (x : Call.Call) → Left (call m x)
-  unfolding call commit preview send refresh read collect forward write move answerFrom wait
+  unfolding call commit preview send refresh read collect forward write move load answerFrom wait
   log-case (Call.commit s bytes) = unless-case Left _ _ _ (λ k e. refused-case Left m s _ (λ u. same) (λ u. same)) (λ e. more s bytes (commit-passed _ _ _ _ _ _ e))
   log-case (Call.preview s bytes) = same
   log-case (Call.send i) = unless-case Left _ _ _ (λ k e. same) (λ e. same)
@@ -33,6 +33,7 @@ module _ (P : List Transaction → Type 0) (m : Machine) (same : P (m .log))
   log-case (Call.forward s request out) = unless-case Left _ _ _ (λ k e. same) (λ e. block-case m s _ _ out Left (λ u. same) (λ u. same))
   log-case (Call.write n out) = unless-case Left _ _ _ (λ k e. same) (λ e. same)
   log-case (Call.move s i) = unless-case Left _ _ _ (λ k e. same) (λ e. same)
+  log-case Call.load = unless-case Left _ _ _ (λ k e. same) (λ e. same)
 
 -- a log that grows keeps the library of each count it had
 pub record Grown (log next : List Transaction) : Type 0 where

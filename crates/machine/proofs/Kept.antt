@@ -14,7 +14,7 @@ use Rattle.replication.specs.Calls.{numberAfter}
 use Rattle.replication.proofs.RowLaws.{unless-case}
 use Rattle.replication.proofs.ShownLaws.{Askable, request-askable}
 use Rattle.replication.proofs.Accepted.{commit-passed, send-passed, refresh-passed, read-passed}
-use Rattle.machine.specs.Machine.{Machine, Step, commits, sessionOf, commit, preview, send, refresh, answerFrom, block, wait, reading, read, collect, forward, write, move, call, afterCalls}
+use Rattle.machine.specs.Machine.{Machine, Step, commits, sessionOf, commit, preview, send, refresh, answerFrom, block, wait, reading, read, collect, forward, write, move, load, call, afterCalls}
 use Rattle.machine.proofs.Sort.{length-snoc}
 use Rattle.machine.proofs.Cases.{refused-case, stateFor, block-case}
 use Rattle.machine.proofs.Sound.{Sound, applied-commits, with-session, with-transaction, with-sent, with-applied}
@@ -90,6 +90,10 @@ module _ (m : Machine) (f : Sound m) where
   unfolding move
   keeps-move s i = unless-case Keeps _ _ _ (λ k e. f) (λ e. with-session m f s _ (f .number-le (s - 1)) (f .askable (s - 1)))
 
+  keeps-load : Keeps (load m)
+  unfolding load
+  keeps-load = unless-case Keeps _ _ _ (λ k e. f) (λ e. f)
+
   pub keeps : (x : Call.Call) → Sound (call m x .next)
   unfolding call
   keeps (Call.commit s bytes) = keeps-commit s bytes
@@ -101,6 +105,7 @@ module _ (m : Machine) (f : Sound m) where
   keeps (Call.forward s request out) = keeps-forward s request out
   keeps (Call.write n out) = keeps-write n out
   keeps (Call.move s i) = keeps-move s i
+  keeps Call.load = keeps-load
 
 -- what every call keeps, every list keeps
 pub after-keeps : (P : Machine → Type 0) → ((m : Machine) → P m → (x : Call.Call) → P (call m x .next)) → (H : List Call.Call) (r : Step) → P (r .next) → P (afterCalls r H .next)

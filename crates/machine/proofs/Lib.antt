@@ -9,8 +9,9 @@ pub mod Kept
 pub mod Libraries
 pub mod Follows
 pub mod Entries
-pub mod OneCopyOrder
 pub mod Grows
+pub mod MetLaws
+pub mod OneCopyOrder
 pub mod Shown
 pub mod NeverBack
 pub mod Told

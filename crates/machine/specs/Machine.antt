@@ -1,5 +1,5 @@
 -- Document 01, "The plain machine": no memory and no copies, a list of committed transactions.
-use mathlib.Core.Bool.{cond}
+use mathlib.Core.Bool.{true, cond}
 use mathlib.Core.List.{List, [], _∷_, _++_, map}
 use Prim.Native.Nat.{ℕ, _+_, _-_}
 use lib.ListN.{length, getD, set}
@@ -11,7 +11,7 @@ use Rattle.replication.specs.Answer.{Answer, refused, done, waits, answered}
 use Rattle.replication.specs.Memory.{studioCount, sessionCount, nth}
 use Rattle.replication.specs.Request.{Request, nothing, requestOf, needed, foundIn, shownFrom}
 use Rattle.replication.specs.Message.{messageOf}
-use Rattle.replication.specs.Rows.{stopped, unless, setupRows, commitRows, sendRows, refreshRows, readRows, collectRows, writeRows, moveRows}
+use Rattle.replication.specs.Rows.{stopped, unless, setupRows, commitRows, sendRows, refreshRows, readRows, collectRows, writeRows, moveRows, loadRows}
 use Rattle.replication.specs.Call as Call
 use Rattle.replication.specs.Calls.{numberAfter}
 
@@ -166,6 +166,11 @@ move m s i =
     let x = sessionOf m s in
     unless (stopped (moveRows s (x .studio) (x .waiting) (m .studios) i)) (refusal m []) (step (done i) (withSession m s (session i (x .number) (x .waiting))) [])
 
+-- 02, S-8, "a load call that tests it and returns commits": the machine has no copies, so none differs from its L; "or a logged operation met its cart in the
+-- wrong state"
+unfoldable pub load : Machine → Step
+load m = unless (stopped (loadRows true (m .log))) (refusal m []) (step (done (commits m)) m [])
+
 unfoldable pub call : Machine → Call.Call → Step
 call m (Call.commit s bytes) = commit m s bytes
 call m (Call.preview s bytes) = preview m s bytes
@@ -176,6 +181,7 @@ call m (Call.collect s out) = collect m s out
 call m (Call.forward s request out) = forward m s request out
 call m (Call.write n out) = write m n out
 call m (Call.move s i) = move m s i
+call m Call.load = load m
 
 -- a list of calls, and what it leaves, as on bytes
 abbrev pub run : Step → List Call.Call → List (Call.Turn Step)

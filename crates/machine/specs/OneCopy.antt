@@ -1,16 +1,19 @@
--- STATEMENT. Document 01, "The one-copy order", sentence by sentence, with document 02's S-3 and S-4: what demand 3 claims of the calls on bytes.
+-- STATEMENT. Document 01, "The one-copy order", sentence by sentence, with document 02's S-3, S-4 and S-8: what demand 3 claims of the calls on bytes.
 use mathlib.Core.Path.{_≡_}
 use mathlib.Core.Bool.{cond}
 use mathlib.Core.List.{List, [], _∷_, _++_, map, List·Permᴰ}
 use Prim.Native.Nat.{ℕ, _+_}
-use lib.ListN.{take}
+use lib.ListN.{length, take}
 use lib.Dec.{eqb}
 use Rattle.carts.specs.Operation.{operationsOf}
+use Rattle.carts.specs.Transaction.{Transaction}
 use Rattle.replication.specs.Answer.{Answer, refused, done, waits, answered}
-use Rattle.replication.specs.Memory.{Memory}
-use Rattle.replication.specs.Request.{Request, requestOf, needed}
-use Rattle.replication.specs.Call.{Call, Turn, commit, preview, send, refresh, read, collect, forward, write, move}
+use Rattle.replication.specs.Memory.{Memory, Arrays, sessionAt}
+use Rattle.replication.specs.Log.{logged}
+use Rattle.replication.specs.Request.{Request, requestOf, isWaiting, needed}
+use Rattle.replication.specs.Call.{Call, Turn, commit, preview, send, refresh, read, collect, forward, write, move, load}
 use Rattle.replication.specs.Calls as Bytes
+use Rattle.replication.specs.declared.control.Control.{Control}
 use Rattle.machine.specs.Library.{Input, operations, request, Reply, number, at, refused8, shown, Library, emptyLibrary, play}
 
 -- a call of H, the answer that it gave, and its output "as they stood when its call ended"
@@ -79,7 +82,7 @@ pub data Kind : Type 0 where
 
 -- 02, S-1, of preview: "It has no entry in the one-copy order." S-4: "The single-library order has to cover lists that mix both reading calls": an answered
 -- forward is an entry as an answered read is. S-6: the van's writer answers neither a commit nor a read, so it has none; nor
--- has S-7's move, and "an entry's session is the one its call names", at whatever studio it was
+-- has S-7's move, and "an entry's session is the one its call names", at whatever studio it was; nor S-8's load
 unfoldable pub kindOf : Call → Kind
 kindOf (commit s bytes) = writes s bytes
 kindOf (preview s bytes) = neither
@@ -90,6 +93,7 @@ kindOf (collect s lent) = collects s
 kindOf (forward s bytes lent) = reads s bytes
 kindOf (write n lent) = neither
 kindOf (move s i) = neither
+kindOf load = neither
 
 -- "An entry's session is the one its call names. A read answered by collect belongs to the collect: it stands where the collect stood in H,
 -- and its request is that of the session's latest read call before it that waited": `waited`
@@ -137,3 +141,27 @@ Demand3 =
     (before : Memory) (studios : ℕ) (bytes : List ℕ) → Bytes.setup before studios bytes .answer ≡ done 0 →
     (H : List Call) (none : Request) →
     (order : List Entry) × OneCopy emptyLibrary (entries 0 (λ s. none) (countedHistory (Bytes.setup before studios bytes) H)) order
+
+-- 02, S-8: "the loaded log's transactions, which belong to no session, are the first commits of the one-copy order": from place i and count n on. Their session
+-- is 0, which no call can name (row 3).
+unfoldable pub loaded : ℕ → ℕ → List Transaction → List Entry
+loaded i n [] = []
+loaded i n (t ∷ ts) = entry i 0 (operations t) (number (n + 1)) ∷ loaded (i + 1) (n + 1) ts
+
+-- "a collect with no waiting read of its session before it in the list takes the request loaded for that session": the read that waits in session memory, or `none`
+unfoldable pub loadedRequest : Memory → Request → ℕ → Request
+loadedRequest m none s = let q = requestOf (sessionAt (m .sessions) s) in cond (isWaiting q) q none
+
+-- the entries of a list H that begins with what r left: the log's transactions, then those of H, at the places after them
+unfoldable pub entriesFrom : Bytes.After → Request → List Call → List Entry
+entriesFrom r none H =
+    let log = logged (r .control) (r .memory .log) in
+    loaded 0 0 log ++ entries (length log) (loadedRequest (r .memory) none) (countedHistory r H)
+
+-- DEMAND 3 over loaded memory, S-8: "Accepted memory may then begin a list, and session order is owed over it as from a fresh system". Any control, with arrays as the
+-- code has them, and memory that load accepts; any list H. The library begins empty, with count 0, and is fed the log's transactions too.
+abbrev pub Demand3Loaded : Type 0
+Demand3Loaded =
+    (c : Control) (m : Memory) → Arrays c → Bytes.load c m .answer ≡ done (c .commits) →
+    (H : List Call) (none : Request) →
+    (order : List Entry) × OneCopy emptyLibrary (entriesFrom (Bytes.load c m) none H) order

@@ -2,9 +2,10 @@
 use mathlib.Core.Path.{_≡_, refl}
 use mathlib.Core.Bool.{Bool, true, false}
 use mathlib.Core.List.{List, [], _∷_}
-use Prim.Native.Nat.{ℕ, zero, suc, _+_, _*_, _-_, _≤_}
+use Prim.Native.Nat.{ℕ, zero, suc, _+_, _*_, _-_, _≤_, _<_}
 use native.Mathlib.Omega.{arith}
-use borrow.Author.Tests.{leb-true, le-leb, eqb-true, eq-eqb}
+use native.Mathlib.Decide.{decLe}
+use borrow.Author.Tests.{leb-true, le-leb, lt-leb, eqb-true, eq-eqb}
 use lib.Dec.{leb, eqb}
 use lib.ListN.{length, drop, getD}
 use Rattle.carts.specs.Bytes.{within, all, every, allZero}
@@ -147,17 +148,26 @@ module _ (c : Control) (i : ℕ) where
           rw e (all-set 1 countTests (leb (nth (c .sent) i) (c .commits + 1)) h (le-leb (nth (c .sent) i) (c .commits + 1) (omega arith)))
       go false e = rw e (rw e at f)
 
+  -- what they say where it is not
+  noneTests : List Bool
+  noneTests = eqb (nth (c .sent) i) 0 ∷ eqb (nth (c .applied) i) 0 ∷ []
+
+  pub counts-none : c .studios < i → countsForm c i ≡ true → (nth (c .sent) i ≡ 0) × (nth (c .applied) i ≡ 0)
+  unfolding countsForm noneTests
+  counts-none l f =
+      let g : all noneTests ≡ true = rw (lt-leb i (c .studios) l) at f in
+      (eqb-true _ _ (all-at 0 noneTests g), eqb-true _ _ (all-at 1 noneTests g))
+
   -- in use or not
-  pub applied-known : countsForm c i ≡ true → nth (c .applied) i ≤ c .commits
-  unfolding countsForm
-  applied-known f = go (leb i (c .studios)) refl
+  pub counts-known : countsForm c i ≡ true → (nth (c .applied) i ≤ nth (c .sent) i) × (nth (c .sent) i ≤ c .commits)
+  counts-known f = go (decLe i (c .studios))
     where
-      go : (b : Bool) → leb i (c .studios) ≡ b → nth (c .applied) i ≤ c .commits
-      go true e = let n = counts-of (leb-true _ _ e) f in omega arith
-      go false e =
-          let g : all (eqb (nth (c .sent) i) 0 ∷ eqb (nth (c .applied) i) 0 ∷ []) ≡ true = rw e at f in
-          let z : nth (c .applied) i ≡ 0 = eqb-true _ _ (all-at 1 (eqb (nth (c .sent) i) 0 ∷ eqb (nth (c .applied) i) 0 ∷ []) g) in
-          omega arith
+      go : Dec (i ≤ c .studios) → (nth (c .applied) i ≤ nth (c .sent) i) × (nth (c .sent) i ≤ c .commits)
+      go (yes l) = let n = counts-of l f in (n .order, n .known)
+      go (no l) = let (s, a) = counts-none (omega arith) f in (omega arith, omega arith)
+
+  pub applied-known : countsForm c i ≡ true → nth (c .applied) i ≤ c .commits
+  applied-known f = let (o, k) = counts-known f in omega arith
 
 -- at most four studios; a session's studio is one of them, or 0
 module _ (c : Control) (m : Memory) (f : Formed c m) where

@@ -9,7 +9,7 @@ use lib.Dec.{eqb}
 use native.Mathlib.Nat.{add-sub-cancel-left}
 use lib.ListN.{length, take, drop}
 use lib.Seq.{take-all}
-use borrow.Author.Tests.{eq-eqb, ne-eqb}
+use borrow.Author.Tests.{eq-eqb, ne-eqb, not-false}
 use Rattle.carts.specs.Bytes.{zeros, within, all, every, pairwise}
 use Rattle.carts.specs.Cart.{copySize}
 use Rattle.carts.specs.Operation.{meetsAll, actAll}
@@ -20,10 +20,11 @@ use Rattle.replication.specs.Memory.{Memory, copyAt, recordAt, nth}
 use Rattle.replication.specs.Log.{nextTransaction, recordsOf, transactionAt, handedIn, transactionsFrom, logRecords, firstRecord, logged, upFrom}
 use Rattle.replication.specs.Answer.{refused, done}
 use Rattle.replication.specs.Rows.{stopped, memoryRows, loadRows, copiesForm, loadStop}
-use Rattle.replication.specs.Calls.{after, load}
+use Rattle.replication.specs.Calls.{After, after, load}
 use Rattle.replication.specs.Values.{usable, isLevel, areLevel, wholeFrom}
 use Rattle.replication.specs.declared.control.Control.{Control}
-use Rattle.replication.proofs.RowLaws.{row-stops, row-passes, decides, unless-stopped, unless-accepted, memory-numbered}
+use Rattle.replication.proofs.RowLaws.{row-stops, row-passes, passed, decides, unless-stopped, unless-accepted, unless-case, memory-numbered}
+use Rattle.replication.proofs.DecideLaws.{accepted}
 use Rattle.replication.proofs.Formed.{Formed, few, applied-known}
 use Rattle.replication.proofs.Occurrences.{every-first, every-last}
 use Rattle.replication.proofs.Placement.{log-inside, upFrom-every, every-upFrom}
@@ -209,6 +210,27 @@ module _ (c : Control) (m : Memory) (v : ℕ) (e : v ≡ loadStop c m) where
   unfolding load
   load-accepted z = unless-accepted _ _ _ (sym e ∙ z)
 
+-- what the test of the copies says of each
+pub record Copies (c : Control) (library : List ℕ) (log : List Transaction) : Type 0 where
+  pub primary : copyAt library 0 ≡ L log (c .commits)
+  pub replicas : (i : ℕ) → 1 ≤ i → i ≤ c .studios → copyAt library i ≡ L log (nth (c .applied) i)
+
+module _ (c : Control) (library : List ℕ) (log : List Transaction) where
+  copyTests : List Bool
+  copyTests = pairwise eqb (copyAt library 0) (L log (c .commits)) ∷ every (λ i. pairwise eqb (copyAt library i) (L log (nth (c .applied) i))) (upFrom 1 (c .studios)) ∷ []
+
+  pub copies-of : copiesForm c library log ≡ true → Copies c library log
+  unfolding copiesForm copyTests
+  copies-of h = record {
+    primary = pairwise-eq _ _ (all-at 0 copyTests h);
+    replicas = λ i l g. pairwise-eq _ _ (studios-at (λ i. pairwise eqb (copyAt library i) (L log (nth (c .applied) i))) (c .studios) (all-at 1 copyTests h) i l g);
+  }
+
+  pub of-copies : Copies c library log → copiesForm c library log ≡ true
+  unfolding copiesForm
+  of-copies x = all-cons _ _ (rw (x .primary) (pairwise-refl _))
+      (all-cons _ _ (upFrom-every _ 1 (c .studios) (λ i l g. rw (x .replicas i l (omega arith)) (pairwise-refl _))) all-nil)
+
 -- the whole walk, from 128 empty carts
 module _ (c : Control) (m : Memory) (f : Formed c m) where
   abbrev log : List Transaction
@@ -223,44 +245,47 @@ module _ (c : Control) (m : Memory) (f : Formed c m) where
   abbrev walked : Bool
   walked = level && whole
 
+  abbrev Walked : Type 0
+  Walked = Made c (m .library) (m .log) (f .log .size) (c .commits) 0 (firstRecord c) (zeros 10240)
+
   known : (i : ℕ) → 1 ≤ i → i ≤ c .studios → nth (c .applied) i ≤ 0 + c .commits
   known i l g = let k = applied-known c i (f .counts i l (let n = few c m f in omega arith)) in omega arith
 
-  pub walk-whole : walked ≡ (copiesForm c (m .library) log && metAll log)
-  unfolding copiesForm metAll L replay
-  walk-whole = same-truth walked (copiesForm c (m .library) log && metAll log) to from
+  everything : L log (c .commits) ≡ replay (zeros 10240) log
+  unfolding L
+  everything = ap (replay (zeros 10240)) (take-all (c .commits) log (let n = length-transactions (c .commits) (m .log) (firstRecord c) in omega arith))
+
+  some : (k : ℕ) → replay (zeros 10240) (take (k - 0) log) ≡ L log k
+  unfolding L
+  some k = let z : k - 0 ≡ k = omega arith in rw z
+
+  walked-copies : level ≡ true → Walked → Copies c (m .library) log
+  walked-copies h x = record { primary = x .primary ∙ sym everything; replicas = λ i l g. replica i l g (ℕ-discrete (nth (c .applied) i) 0) }
     where
-      everything : take (c .commits) log ≡ log
-      everything = take-all (c .commits) log (let n = length-transactions (c .commits) (m .log) (firstRecord c) in omega arith)
+      replica : (i : ℕ) → 1 ≤ i → i ≤ c .studios → Dec (nth (c .applied) i ≡ 0) → copyAt (m .library) i ≡ L log (nth (c .applied) i)
+      replica i l g (yes e) = level-at c (m .library) (m .log) (f .log .size) (zeros 10240) 0 h i l g e ∙ replay-none (zeros 10240) log ∙ some 0 ∙ ap (L log) (sym e)
+      replica i l g (no e) = x .replicas i l g (omega arith) ∙ some (nth (c .applied) i)
 
-      to : walked ≡ true → (copiesForm c (m .library) log && metAll log) ≡ true
-      to h = and-both _ _ (all-cons _ _ (rw (everything, x .primary) (pairwise-refl _))
-          (all-cons _ _ (upFrom-every _ 1 (c .studios) (λ i l g. replica i l (omega arith) (ℕ-discrete (nth (c .applied) i) 0))) all-nil)) (x .met)
-        where
-          x : Made c (m .library) (m .log) (f .log .size) (c .commits) 0 (firstRecord c) (zeros 10240)
-          x = walk-made c (m .library) (m .log) (f .log .size) (c .commits) 0 (firstRecord c) (zeros 10240) (log-inside c m f) known (and-right level whole h)
+  copies-level : Copies c (m .library) log → level ≡ true
+  copies-level x = at-level c (m .library) (m .log) (f .log .size) (zeros 10240) 0 (λ i l g e. x .replicas i l g ∙ ap (L log) e ∙ sym (some 0) ∙ sym (replay-none (zeros 10240) log))
 
-          replica : (i : ℕ) → 1 ≤ i → i ≤ c .studios → Dec (nth (c .applied) i ≡ 0) → pairwise eqb (copyAt (m .library) i) (L log (nth (c .applied) i)) ≡ true
-          replica i l g (yes e) = rw (e, level-at c (m .library) (m .log) (f .log .size) (zeros 10240) 0 (and-left level whole h) i l g e) (pairwise-refl _)
-          replica i l g (no e) =
-              let z : nth (c .applied) i - 0 ≡ nth (c .applied) i = omega arith in
-              let same = rw z at (x .replicas i l g (omega arith)) in
-              rw same (pairwise-refl _)
+  copies-walked : Copies c (m .library) log → metAll log ≡ true → Walked
+  unfolding metAll
+  copies-walked x met = record { met = met; primary = x .primary ∙ everything; replicas = λ i l g u. x .replicas i l g ∙ sym (some (nth (c .applied) i)) }
 
-      from : (copiesForm c (m .library) log && metAll log) ≡ true → walked ≡ true
-      from h = and-both _ _ (at-level c (m .library) (m .log) (f .log .size) (zeros 10240) 0 (λ i l g e. rw e at (replica i l g)))
-          (made-walk c (m .library) (m .log) (f .log .size) (c .commits) 0 (firstRecord c) (zeros 10240) (log-inside c m f)
-          (record {
-            met = and-right (copiesForm c (m .library) log) _ h;
-            primary = rw everything at (pairwise-eq _ _ (all-at 0 tests (and-left (all tests) (metAll log) h)));
-            replicas = λ i l g u. let z : nth (c .applied) i - 0 ≡ nth (c .applied) i = omega arith in rw z (replica i l g);
-          }))
-        where
-          tests : List Bool
-          tests = pairwise eqb (copyAt (m .library) 0) (L log (c .commits)) ∷ every (λ i. pairwise eqb (copyAt (m .library) i) (L log (nth (c .applied) i))) (upFrom 1 (c .studios)) ∷ []
+  walked-met : Walked → metAll log ≡ true
+  unfolding metAll
+  walked-met x = x .met
 
-          replica : (i : ℕ) → 1 ≤ i → i ≤ c .studios → copyAt (m .library) i ≡ replay (zeros 10240) (take (nth (c .applied) i) log)
-          replica i l g = pairwise-eq _ _ (studios-at _ (c .studios) (all-at 1 tests (and-left (all tests) (metAll log) h)) i l g)
+  pub walk-whole : walked ≡ (copiesForm c (m .library) log && metAll log)
+  walk-whole = same-truth walked (copiesForm c (m .library) log && metAll log)
+      (λ h.
+      let x = walk-made c (m .library) (m .log) (f .log .size) (c .commits) 0 (firstRecord c) (zeros 10240) (log-inside c m f) known (and-right level whole h) in
+      and-both _ _ (of-copies c (m .library) log (walked-copies (and-left level whole h) x)) (walked-met x))
+      (λ h.
+      let x = copies-of c (m .library) log (and-left (copiesForm c (m .library) log) (metAll log) h) in
+      and-both _ _ (copies-level x)
+      (made-walk c (m .library) (m .log) (f .log .size) (c .commits) 0 (firstRecord c) (zeros 10240) (log-inside c m f) (copies-walked x (and-right (copiesForm c (m .library) log) (metAll log) h))))
 
   -- the row that stops a load after 1 and 2, by what the walk found
   pub not-whole : (v : ℕ) → v ≡ stopped (memoryRows c m) → v ≡ 0 → walked ≡ false → 19 ≡ loadStop c m
@@ -270,3 +295,24 @@ module _ (c : Control) (m : Memory) (f : Formed c m) where
   pub all-whole : (v : ℕ) → v ≡ stopped (memoryRows c m) → v ≡ 0 → walked ≡ true → 0 ≡ loadStop c m
   unfolding loadStop loadRows stopped
   all-whole v e z h = decides (memoryRows c m) _ v 0 (memory-numbered c m) e z (sym (row-passes 19 (not (copiesForm c (m .library) log && metAll log)) [] (rw (sym walk-whole ∙ h))))
+
+-- an accepted load: the layout, the copies, and the states that the logged operations met
+pub record Loads (c : Control) (m : Memory) : Type 0 where
+  pub formed : Formed c m
+  pub copies : Copies c (m .library) (logged c (m .log))
+  pub met : metAll (logged c (m .log)) ≡ true
+
+pub load-passed : (c : Control) (m : Memory) (n : ℕ) → load c m .answer ≡ done n → Loads c m
+unfolding load loadStop loadRows
+load-passed c m n = unless-case (λ (r : After). r .answer ≡ done n → Loads c m) (loadStop c m) _ _
+    (λ k e a. let z : _≡_ {A = ℕ} 0 1 = cc in absurd (omega arith)) (λ e a. passes e)
+  where
+    passes : loadStop c m ≡ 0 → Loads c m
+    passes e =
+        let (f, rows) = accepted c m (loadRows (copiesForm c (m .library) (logged c (m .log))) (logged c (m .log))) e in
+        let both = not-false _ (passed 18 (not (copiesForm c (m .library) (logged c (m .log)) && metAll (logged c (m .log)))) [] rows .0) in
+        record {
+          formed = f;
+          copies = copies-of c (m .library) (logged c (m .log)) (and-left (copiesForm c (m .library) (logged c (m .log))) (metAll (logged c (m .log))) both);
+          met = and-right (copiesForm c (m .library) (logged c (m .log))) (metAll (logged c (m .log))) both;
+        }

@@ -1,4 +1,5 @@
 -- Document 01, "The memory a caller lends": the three memories and their parts.
+use mathlib.Core.Path.{_≡_}
 use mathlib.Core.Bool.{Bool}
 use mathlib.Core.List.{List, [], _∷_}
 use Prim.Native.Nat.{ℕ, _*_, _-_}
@@ -102,3 +103,9 @@ nth l i = getD l (i - 1) 0
 -- "each session's studio (0 = session unused, else 1 to S)"
 unfoldable pub studioOf : Control → ℕ → ℕ
 studioOf c s = nth (c .«session_studios») s
+
+-- Control's arrays have the lengths that their types in the code give them.
+pub record Arrays (c : Control) : Type 0 where
+  pub sessionStudios : length (c .«session_studios») ≡ sessionCount
+  pub sent : length (c .sent) ≡ studioCount
+  pub applied : length (c .applied) ≡ studioCount
