@@ -10,7 +10,7 @@ use Rattle.replication.specs.Memory.{Memory, sessionAt, sequenceOf, nth, studio
 use Rattle.replication.specs.Log.{firstRecord}
 use Rattle.replication.specs.Request.{Request}
 use Rattle.replication.specs.Rows.{commitStop}
-use Rattle.replication.specs.Call.{Call, commit, preview, send, refresh, read, collect, forward, write, move, run, final}
+use Rattle.replication.specs.Call.{Call, commit, preview, send, refresh, read, collect, forward, write, move, load, run, final}
 use Rattle.replication.specs.Calls as Bytes
 use Rattle.replication.specs.Calls.{After, withSent, withApplied, withStudio}
 use Rattle.replication.specs.declared.control.Control.{Control}
@@ -53,7 +53,7 @@ module _ (c : Control) (m : Memory) where
   block-extends s q x behind out h = by-cond Left (leb (sequenceOf (sessionAt (m .sessions) s)) (nth (c .applied) (studioOf c s))) _ _ (λ _. as-it-was) (λ _. h)
 
   call-extends : (x : Call) → Left (Bytes.call c m x)
-  unfolding Bytes.callBy Bytes.preview Bytes.send Bytes.refresh Bytes.readBy Bytes.collectBy Bytes.forwardBy Bytes.write Bytes.move Bytes.answerFrom withSent withApplied withStudio firstRecord
+  unfolding Bytes.callBy Bytes.preview Bytes.send Bytes.refresh Bytes.readBy Bytes.collectBy Bytes.forwardBy Bytes.write Bytes.move Bytes.load Bytes.answerFrom withSent withApplied withStudio firstRecord
   call-extends (commit s bytes) = commit-extends s bytes
   call-extends (preview s bytes) = as-it-was
   call-extends (send i) = unless-case Left _ _ _ (λ _ _. as-it-was) (λ _. as-it-was)
@@ -63,6 +63,7 @@ module _ (c : Control) (m : Memory) where
   call-extends (forward s request out) = unless-case Left _ _ _ (λ _ _. as-it-was) (λ _. block-extends s _ _ _ out as-it-was)
   call-extends (write n out) = unless-case Left _ _ _ (λ _ _. as-it-was) (λ _. as-it-was)
   call-extends (move s i) = unless-case Left _ _ _ (λ _ _. as-it-was) (λ _. as-it-was)
+  call-extends load = unless-case Left _ _ _ (λ _ _. as-it-was) (λ _. as-it-was)
 
 pub list-extends : (H : List Call) (r : After) → let left = Bytes.afterCalls r H in Extends (logOf (r .control) (r .memory)) (logOf (left .control) (left .memory))
 unfolding run final

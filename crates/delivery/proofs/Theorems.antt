@@ -13,14 +13,15 @@ use Rattle.replication.specs.Log.{upFrom}
 use Rattle.replication.specs.Message.{messageIn}
 use Rattle.replication.specs.Call.{Call, run, final}
 use Rattle.replication.specs.Calls as Bytes
-use Rattle.replication.specs.Calls.{After, after, setup, afterCalls}
+use Rattle.replication.specs.Calls.{After, after, afterCalls}
 use Rattle.replication.specs.declared.control.Control.{Control}
 use Rattle.replication.proofs.RowLaws.{unless-case}
-use Rattle.refinement.specs.Represents.{OfLayout}
+use Rattle.refinement.specs.Represents.{OfLayout, Simulates}
 use Rattle.refinement.proofs.Arrays.{formed}
 use Rattle.refinement.proofs.Simulation.{after-joined}
 use Rattle.refinement.proofs.Theorems as Refined
 use Rattle.machine.specs.Machine as Plain
+use Rattle.machine.specs.Machine.{Step}
 use Rattle.van.specs.Message.{messageNumber}
 use Rattle.van.specs.Answer.{Answer, refused, applied, held}
 use Rattle.van.specs.Receive as Receiver
@@ -122,14 +123,12 @@ unfolding receiveAll
 as-lost v [] x B h = ap (λ (w : Van). receiveAll w B) (not-applied v x h)
 as-lost v (a ∷ A) x B h = as-lost (receive v a .van) A x B h
 
--- FRESH SYSTEMS. After H from a fresh system the van's copy is L(applied) of the plain machine's transactions; so it is, byte for byte, the copy of a studio that has applied as many.
-module _ (before : Memory) (studios : ℕ) (bytes : List ℕ) (accepted : setup before studios bytes .answer ≡ done 0) (H : List Call) (D : List Message)
-    (from : FromOneLog (setup before studios bytes) H D) where
-  pub van-copy : vanAfter D .copy ≡ L (Plain.afterCalls (Plain.setup studios bytes) H .next .log) (vanAfter D .applied)
-  van-copy =
-      van-follows _ (Refined.setup-simulates before studios bytes accepted .next .form) H D from .copy
-      ∙ ap (λ (l : List Transaction). L l (vanAfter D .applied)) (sym (Refined.simulates-after before studios bytes accepted H .next .log))
+-- BEGUN SYSTEMS, fresh or loaded. After H from bytes that stand for a state of the plain machine the van's copy is L(applied) of the machine's transactions; so it is, byte for byte, the copy of a studio
+-- that has applied as many.
+module _ (r : After) (p : Step) (begun : Simulates r p) (H : List Call) (D : List Message) (from : FromOneLog r H D) where
+  pub van-copy : vanAfter D .copy ≡ L (Plain.afterCalls p H .next .log) (vanAfter D .applied)
+  van-copy = van-follows r (begun .next .form) H D from .copy ∙ ap (λ (l : List Transaction). L l (vanAfter D .applied)) (sym (Refined.simulates-after r p begun H .next .log))
 
-  pub as-studio : (i : ℕ) → 1 ≤ i → i ≤ 4 → let left = afterCalls (setup before studios bytes) H in nth (left .control .applied) i ≡ vanAfter D .applied
+  pub as-studio : (i : ℕ) → 1 ≤ i → i ≤ 4 → let left = afterCalls r H in nth (left .control .applied) i ≡ vanAfter D .applied
       → vanAfter D .copy ≡ copyAt (left .memory .library) i
-  as-studio i low high e = van-copy ∙ ap (L _) (sym e) ∙ sym (Refined.replica before studios bytes accepted H i low high)
+  as-studio i low high e = van-copy ∙ ap (L _) (sym e) ∙ sym (Refined.replica r p begun H i low high)

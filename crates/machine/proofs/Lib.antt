@@ -24,4 +24,5 @@ pub mod NotEmpty
 pub mod Taken
 pub mod Forwarded
 pub mod Moved
+pub mod Restarted
 pub mod Spaces

@@ -158,10 +158,15 @@ entriesFrom r none H =
     let log = logged (r .control) (r .memory .log) in
     loaded 0 0 log ++ entries (length log) (loadedRequest (r .memory) none) (countedHistory r H)
 
--- DEMAND 3 over loaded memory, S-8: "Accepted memory may then begin a list, and session order is owed over it as from a fresh system". Any control, with arrays as the
--- code has them, and memory that load accepts; any list H. The library begins empty, with count 0, and is fed the log's transactions too.
+-- "Accepted memory": any control, with arrays as the code has them, and memory that load accepts
+pub record Loadable (c : Control) (m : Memory) : Type 0 where
+  pub arrays : Arrays c
+  pub accepted : Bytes.load c m .answer ≡ done (c .commits)
+
+-- DEMAND 3 over loaded memory, S-8: "Accepted memory may then begin a list, and session order is owed over it as from a fresh system": any list H. The library begins
+-- empty, with count 0, and is fed the log's transactions too.
 abbrev pub Demand3Loaded : Type 0
 Demand3Loaded =
-    (c : Control) (m : Memory) → Arrays c → Bytes.load c m .answer ≡ done (c .commits) →
+    (c : Control) (m : Memory) → Loadable c m →
     (H : List Call) (none : Request) →
     (order : List Entry) × OneCopy emptyLibrary (entriesFrom (Bytes.load c m) none H) order

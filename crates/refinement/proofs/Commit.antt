@@ -11,7 +11,7 @@ use Rattle.carts.specs.Operation.{operationsOf, actAll}
 use Rattle.carts.specs.Transaction.{Transaction, L, recordsUsed}
 use Rattle.carts.proofs.OperationLaws.{Operations, operations-of}
 use Rattle.carts.proofs.KeepLaws.{Copy, actAll-copy}
-use Rattle.replication.specs.Memory.{Memory, copyAt, withCopy, sessionAt, withNumber, nth, studioOf}
+use Rattle.replication.specs.Memory.{Memory, Arrays, copyAt, withCopy, sessionAt, withNumber, nth, studioOf}
 use Rattle.replication.specs.Log.{firstRecord, appended}
 use Rattle.replication.specs.Request.{requestOf}
 use Rattle.replication.specs.Layout.{replicaForm}
@@ -35,7 +35,7 @@ use Rattle.refinement.specs.Represents.{OfLayout, Represents, Simulates}
 use Rattle.refinement.proofs.Transactions.{records-used}
 use Rattle.refinement.proofs.Represented.{machineOf, log-length}
 use Rattle.refinement.proofs.Sessions.{SessionBytes, session-more, own-bytes, length-sessions, sessions-form, sessions-shown, session-of, session-formed, session-represents}
-use Rattle.refinement.proofs.Arrays.{Arrays, arrays, formed, of-layout}
+use Rattle.refinement.proofs.Arrays.{arrays, formed, of-layout}
 
 -- memory after a commit
 abbrev left : Control → Memory → ℕ → List (List ℕ) → Memory

@@ -12,10 +12,13 @@ pub mod Commit
 pub mod Preview
 pub mod Write
 pub mod Move
+pub mod Load
 pub mod Setup
 pub mod Refused
 -- all calls, and lists of them
 pub mod Simulation
+pub mod Standing
+pub mod OneCopyOrder
 pub mod Unchanging
 pub mod Unmoved
 pub mod Told

@@ -13,7 +13,7 @@ use borrow.Author.Tests.{ne-eqb, le-leb}
 use Rattle.carts.specs.Bytes.{every}
 use Rattle.carts.specs.Transaction.{Transaction}
 use Rattle.carts.proofs.TestLaws.{and-left, and-right}
-use Rattle.replication.specs.Memory.{Memory, sessionAt, sequenceOf, studioOf}
+use Rattle.replication.specs.Memory.{Memory, Arrays, sessionAt, sequenceOf, studioOf}
 use Rattle.replication.specs.Request.{nothing, requestOf}
 use Rattle.replication.specs.Log.{firstRecord}
 use Rattle.replication.specs.Layout.{sessionFormOf, sessionForm, countsForm}
@@ -29,7 +29,7 @@ use Rattle.machine.specs.Machine.{Session, session}
 use Rattle.refinement.specs.Represents.{OfLayout, Represents, Simulates}
 use Rattle.refinement.proofs.Represented.{machineOf}
 use Rattle.refinement.proofs.Sessions.{shown, session-of}
-use Rattle.refinement.proofs.Arrays.{Arrays, arrays, formed, of-layout}
+use Rattle.refinement.proofs.Arrays.{arrays, formed, of-layout}
 
 -- one element of a list that passes becomes another that passes
 every-set : (p : ℕ → Bool) (l : List ℕ) (k v : ℕ) → every p l ≡ true → p v ≡ true → every p (set l k v) ≡ true

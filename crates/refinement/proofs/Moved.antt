@@ -10,7 +10,7 @@ use borrow.Author.Tests.{le-leb}
 use Rattle.carts.specs.Bytes.{zeros}
 use Rattle.carts.proofs.TestLaws.{by-cond}
 use Rattle.replication.specs.Answer.{done, waits, answered}
-use Rattle.replication.specs.Memory.{Memory, copyAt, sessionAt, sequenceOf, nth, studioOf}
+use Rattle.replication.specs.Memory.{Memory, Arrays, copyAt, sessionAt, sequenceOf, nth, studioOf}
 use Rattle.replication.specs.Request.{Request, requestOf, foundIn}
 use Rattle.replication.specs.Rows.{unless, moveStop, readStop, collectStop}
 use Rattle.replication.specs.Call as Call
@@ -27,7 +27,7 @@ use Rattle.machine.specs.Asked.{askerBy, asker}
 use Rattle.machine.proofs.Shown.{refuses, counts, holds-back}
 use Rattle.refinement.specs.Represents.{OfLayout}
 use Rattle.refinement.proofs.Sessions.{SessionBytes, empty-bytes, own-bytes, own-sequence, same, sequence-set}
-use Rattle.refinement.proofs.Arrays.{Arrays, arrays}
+use Rattle.refinement.proofs.Arrays.{arrays}
 use Rattle.refinement.proofs.Read.{waits-for}
 use Rattle.refinement.proofs.Simulation.{keeps-layout}
 
@@ -60,7 +60,7 @@ module _ (c : Control) (m : Memory) (k found : ℕ) where
         (λ _. answer-raises _ _ _ refl) (λ _. later)
 
   pub call-raises : (x : Call) → Raised (asker x) (Bytes.call c m x)
-  unfolding Bytes.callBy Bytes.commit Bytes.refusedCommit Bytes.preview Bytes.send Bytes.refresh Bytes.readBy Bytes.collectBy Bytes.forwardBy Bytes.write Bytes.move readStop collectStop askerBy kindOf
+  unfolding Bytes.callBy Bytes.commit Bytes.refusedCommit Bytes.preview Bytes.send Bytes.refresh Bytes.readBy Bytes.collectBy Bytes.forwardBy Bytes.write Bytes.move Bytes.load readStop collectStop askerBy kindOf
   call-raises (Call.commit s bytes) = unless-case (Raised 0) _ _ _ (λ n e. refuses) (λ e. counts)
   call-raises (Call.preview s bytes) = unless-case (λ (r : After). Raised 0 (after (r .answer) c m [])) _ _ _ (λ n e. refuses) (λ e. counts)
   call-raises (Call.send i) = unless-case (Raised 0) _ _ _ (λ n e. refuses) (λ e. counts)
@@ -80,6 +80,7 @@ module _ (c : Control) (m : Memory) (k found : ℕ) where
       (answer-raises s f w (requestOf request) _ own out (c .commits) (copyAt (m .library) 0) (c .commits) (omega (arith, own-sequence c (m .sessions) (f .sessions) s w))))
   call-raises (Call.write n out) = unless-case (Raised 0) _ _ _ (λ n e. refuses) (λ e. counts)
   call-raises (Call.move s i) = unless-case (Raised 0) _ _ _ (λ n e. refuses) (λ e. counts)
+  call-raises Call.load = unless-case (Raised 0) _ _ _ (λ n e. refuses) (λ e. counts)
 
 -- where the session is then
 there : (c : Control) (m : Memory) (s i : ℕ) → Arrays c → moveStop c m s i ≡ 0 → nth (withStudio c s i .applied) (studioOf (withStudio c s i) s) ≡ nth (c .applied) i

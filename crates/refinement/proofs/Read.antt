@@ -11,7 +11,7 @@ use Rattle.carts.specs.Bytes.{zeros, over}
 use Rattle.carts.specs.Transaction.{Transaction, L}
 use Rattle.carts.proofs.TestLaws.{by-cond, cond-both}
 use Rattle.replication.specs.Answer.{waits, answered}
-use Rattle.replication.specs.Memory.{Memory, copyAt, sessionAt, sequenceOf, nth, studioOf}
+use Rattle.replication.specs.Memory.{Memory, Arrays, copyAt, sessionAt, sequenceOf, nth, studioOf}
 use Rattle.replication.specs.Request.{Request, nothing, requestOf, needed, foundIn, shownFrom}
 use Rattle.replication.specs.Rows.{Row, stopped, unless, readRows, readStop, collectRows, collectStop}
 use Rattle.replication.specs.Calls as Bytes
@@ -26,7 +26,7 @@ use Rattle.machine.specs.Machine.{Session, Step}
 use Rattle.refinement.specs.Represents.{OfLayout, Represents, Simulates}
 use Rattle.refinement.proofs.Represented.{machineOf, log-length}
 use Rattle.refinement.proofs.Sessions.{SessionBytes, request-bytes, empty-bytes, empty-request, own-bytes, own-sequence, shown, session-of, session-formed, session-represents}
-use Rattle.refinement.proofs.Arrays.{Arrays, arrays, formed, of-layout}
+use Rattle.refinement.proofs.Arrays.{arrays, formed, of-layout}
 
 -- a rule that leaves no number above both the old one and the state that was shown
 abbrev pub Bounded : Rule → Type 0

@@ -12,7 +12,7 @@ use Rattle.carts.specs.Operation.{actAll}
 use Rattle.carts.specs.Transaction.{Transaction, L}
 use Rattle.carts.proofs.OperationLaws.{Operations}
 use Rattle.carts.proofs.KeepLaws.{Copy, actAll-copy}
-use Rattle.replication.specs.Memory.{Memory, copyAt, withCopy, nth, studioOf}
+use Rattle.replication.specs.Memory.{Memory, Arrays, copyAt, withCopy, nth, studioOf}
 use Rattle.replication.specs.Log.{firstRecord, transactionAt, transactionAfter, handedIn, transactionsFrom, walk}
 use Rattle.replication.specs.Layout.{replicaForm, sessionForm, countsForm}
 use Rattle.replication.specs.Rows.{Row, stopped, refreshRows, refreshStop}
@@ -30,7 +30,7 @@ use Rattle.machine.specs.Machine.{Session}
 use Rattle.machine.proofs.Libraries.{L-next}
 use Rattle.refinement.specs.Represents.{OfLayout, Represents, Simulates}
 use Rattle.refinement.proofs.Represented.{machineOf}
-use Rattle.refinement.proofs.Arrays.{Arrays, arrays, formed, of-layout}
+use Rattle.refinement.proofs.Arrays.{arrays, formed, of-layout}
 
 -- the copy of studio i, and the library with it, after transaction applied + 1
 abbrev refreshedCopy : Control → Memory → ℕ → List ℕ

@@ -8,7 +8,7 @@ use native.Mathlib.Decide.{ℕ-discrete}
 use lib.ListN.{getD, set, length-set}
 use lib.Seq.{getD-set-same, getD-set-other}
 use Rattle.carts.specs.Transaction.{Transaction}
-use Rattle.replication.specs.Memory.{Memory, nth, studioOf}
+use Rattle.replication.specs.Memory.{Memory, Arrays, nth, studioOf}
 use Rattle.replication.specs.Log.{firstRecord}
 use Rattle.replication.specs.Layout.{sessionForm, countsForm}
 use Rattle.replication.specs.Rows.{Row, stopped, sendRows, sendStop}
@@ -22,7 +22,7 @@ use Rattle.machine.specs.Machine as Plain
 use Rattle.machine.specs.Machine.{Session}
 use Rattle.refinement.specs.Represents.{OfLayout, Represents, Simulates}
 use Rattle.refinement.proofs.Represented.{machineOf, log-length}
-use Rattle.refinement.proofs.Arrays.{Arrays, arrays, formed, of-layout}
+use Rattle.refinement.proofs.Arrays.{arrays, formed, of-layout}
 
 module _ (c : Control) (m : Memory) (i : ℕ) where
   rows : List Row

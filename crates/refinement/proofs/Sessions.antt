@@ -1,12 +1,12 @@
 -- Sessions: their bytes with another sequence number, and one of them replaced in memory and in the plain machine.
-use mathlib.Core.Path.{_≡_, refl, _∙_}
+use mathlib.Core.Path.{_≡_, refl, ap, _∙_}
 use mathlib.Core.Logic.{_≢_}
 use mathlib.Core.Bool.{Bool, true, false, cond, false≢true}
 use mathlib.Core.List.{List, [], _∷_}
 use Prim.Native.Nat.{ℕ, zero, suc, _+_, _*_, _-_, _≤_, _/_, _%_}
 use native.Mathlib.Omega.{arith}
 use native.Mathlib.Decide.{ℕ-discrete, decLe}
-use borrow.Author.Tests.{leb-true, le-leb, eqb-true, ne-eqb}
+use borrow.Author.Tests.{leb-true, le-leb, eqb-true, eq-eqb, ne-eqb}
 use lib.Dec.{leb, eqb}
 use lib.ListN.{length, getD, set, length-set, List·getD-eq-default, drop-of-length-le}
 use lib.Seq.{getD-set-same, getD-set-other}
@@ -14,10 +14,10 @@ use Rattle.carts.specs.Bytes.{zeros, part, byte, u16, u16Bytes, all, every, all
 use Rattle.carts.specs.Transaction.{Transaction}
 use Rattle.carts.proofs.TestLaws.{all-at, all-set, all-cons, all-nil}
 use Rattle.carts.proofs.PartLaws.{length-over}
-use Rattle.carts.proofs.ZeroLaws.{zero-part}
+use Rattle.carts.proofs.ZeroLaws.{zeros-of, zero-part}
 use Rattle.carts.proofs.FieldLaws.{bytes, by-fields}
 use Rattle.carts.proofs.CellLaws.{length-cell, length-cells, cell-same, cell-other}
-use Rattle.replication.specs.Memory.{Memory, sessionAt, withSession, sequenceOf, withSequence, withNumber, studioOf}
+use Rattle.replication.specs.Memory.{Memory, Arrays, sessionAt, withSession, sequenceOf, withSequence, withNumber, studioOf}
 use Rattle.replication.specs.Request.{nothing, numbersIn, requestOf, numbersForm, requestFields, requestForm}
 use Rattle.replication.specs.Layout.{waitingForm, sessionForm, sessionFormOf}
 use Rattle.replication.specs.Calls.{committed, withSessions}
@@ -27,7 +27,7 @@ use Rattle.replication.proofs.Formed.{SessionsFormed, Formed}
 use Rattle.machine.specs.Machine.{Session, session, Machine, sessionOf}
 use Rattle.refinement.specs.Represents.{Represents}
 use Rattle.refinement.proofs.Represented.{machineOf}
-use Rattle.refinement.proofs.Arrays.{Arrays, formed, of-layout}
+use Rattle.refinement.proofs.Arrays.{formed, of-layout}
 
 -- 80 bytes of a session in use, but for their sequence number
 pub record SessionBytes (x : List ℕ) : Type 0 where
@@ -124,6 +124,10 @@ pub empty-request : requestOf (zeros 80) ≡ nothing
 unfolding zeros requestOf
 empty-request = refl
 
+pub empty-sequence : sequenceOf (zeros 80) ≡ 0
+unfolding zeros sequenceOf u16
+empty-sequence = refl
+
 -- session s as the bytes show it
 abbrev pub shown : Control → List ℕ → ℕ → Session
 shown c memory s = session (studioOf c s) (sequenceOf (sessionAt memory s)) (requestOf (sessionAt memory s))
@@ -136,6 +140,13 @@ module _ (c : Control) (memory : List ℕ) (f : SessionsFormed c memory) (s : �
 
   pub own-sequence : sequenceOf (sessionAt memory s) ≤ c .commits
   own-sequence = sequence-known c s (w .used) _ (f .forms s (w .low) (w .high))
+
+-- the bytes of session s, not in use
+pub unused-bytes : (c : Control) (memory : List ℕ) → SessionsFormed c memory → (s : ℕ) → 1 ≤ s → s ≤ 16 → studioOf c s ≡ 0 → sessionAt memory s ≡ zeros 80
+unfolding sessionAt sessionForm sessionFormOf
+unused-bytes c memory f s low high e =
+    let size = length-cell 16 memory (f .size) s low high in
+    zeros-of _ (rw (eq-eqb (studioOf c s) 0 e) at (f .forms s low high)) ∙ ap zeros size
 
 -- session s replaced
 module _ (c : Control) (memory : List ℕ) (k : length memory ≡ 1280) (s : ℕ) (w : KnownSession s (studioOf c s)) (n : ℕ) (x : List ℕ) (b : SessionBytes x) where
@@ -189,7 +200,7 @@ session-of c m M h (suc s) = go (decLe (suc s) 16)
     go (no g) =
         let f = formed c m (h .form) in
         let a : length (M .sessions) ≤ suc s - 1 = let n = h .count in omega arith in
-        let b : length (c .«session_studios») ≤ suc s - 1 = let n = h .form .sessionStudios in omega arith in
+        let b : length (c .«session_studios») ≤ suc s - 1 = let n = h .form .arrays .sessionStudios in omega arith in
         let d : length (m .sessions) ≤ 80 * (suc s - 1) = let n = f .sessions .size in omega arith in
         rw (List·getD-eq-default (M .sessions) (session 0 0 nothing) a, List·getD-eq-default (c .«session_studios») 0 b, drop-of-length-le (m .sessions) d)
 

@@ -7,12 +7,12 @@ use native.Mathlib.Omega.{arith}
 use borrow.Author.Tests.{le-leb}
 use lib.Dec.{leb, eqb}
 use lib.ListN.{length-map, List·getD-map}
-use Rattle.carts.specs.Bytes.{zeros, u16}
+use Rattle.carts.specs.Bytes.{zeros}
 use Rattle.carts.proofs.TestLaws.{by-cond, all-cons, all-nil}
 use Rattle.carts.proofs.ZeroLaws.{length-zeros, zero-zeros, part-zeros, zeros-at, zero-drop}
 use Rattle.carts.proofs.KeepLaws.{copy-empty}
 use Rattle.replication.specs.Answer.{done}
-use Rattle.replication.specs.Memory.{Memory, lengthsForm, copyAt, sessionAt, sequenceOf, studioOf}
+use Rattle.replication.specs.Memory.{Memory, Arrays, lengthsForm, copyAt, sessionAt, sequenceOf, studioOf}
 use Rattle.replication.specs.Log.{transactionsFrom, logRecords, transactionsForm, firstRecord, upFrom, freshLog}
 use Rattle.replication.specs.Request.{nothing, requestOf}
 use Rattle.replication.specs.Layout.{replicaForm, sessionForm, sessionFormOf, countsForm}
@@ -27,8 +27,8 @@ use Rattle.machine.specs.Machine as Plain
 use Rattle.machine.specs.Machine.{Step, session, fresh}
 use Rattle.refinement.specs.Represents.{Represents, Simulates}
 use Rattle.refinement.proofs.Transactions.{L-nil}
-use Rattle.refinement.proofs.Sessions.{empty-bytes, empty-request}
-use Rattle.refinement.proofs.Arrays.{Arrays, of-layout}
+use Rattle.refinement.proofs.Sessions.{empty-bytes, empty-request, empty-sequence}
+use Rattle.refinement.proofs.Arrays.{of-layout}
 
 -- copies, carts and sessions of zeros
 zeros-copyAt : (i : ℕ) → i ≤ 4 → copyAt (zeros 51200) i ≡ zeros 10240
@@ -46,12 +46,8 @@ zeros-replica : (studios i : ℕ) → replicaForm studios i (zeros 10240) ≡ tr
 unfolding replicaForm
 zeros-replica studios i = both (leb i studios) _ _ (copy-empty (zeros 10240) (zero-zeros 10240)) (zero-zeros 10240)
 
-zeros-sequence : sequenceOf (zeros 80) ≡ 0
-unfolding zeros sequenceOf u16
-zeros-sequence = refl
-
 zeros-shown : (i : ℕ) → session i (sequenceOf (zeros 80)) (requestOf (zeros 80)) ≡ session i 0 nothing
-zeros-shown i = rw (zeros-sequence, empty-request)
+zeros-shown i = rw (empty-sequence, empty-request)
 
 zeros-counts : (studios : ℕ) (bytes : List ℕ) (i : ℕ) → countsForm (controlOf studios bytes) i ≡ true
 unfolding countsForm controlOf
@@ -65,7 +61,7 @@ zeros-session c s =
     both (eqb (studioOf c s) 0) _ _ (zero-zeros 80) (all-cons _ _ sequence (all-cons _ _ (empty-bytes .zero) (all-cons _ _ (empty-bytes .form) all-nil)))
   where
     sequence : leb (sequenceOf (zeros 80)) (c .commits) ≡ true
-    sequence = rw zeros-sequence (le-leb 0 (c .commits) (omega arith))
+    sequence = rw empty-sequence (le-leb 0 (c .commits) (omega arith))
 
 module _ (before : Memory) (studios : ℕ) (bytes : List ℕ) (p : SetupAccepted before studios bytes) where
   fresh-arrays : Arrays (controlOf studios bytes)

@@ -10,8 +10,8 @@ use Rattle.carts.specs.Cart.{cartAt, hasTitle}
 use Rattle.carts.specs.Operation.{operationForm, writesTitle, spaced, operationsOf}
 use Rattle.carts.specs.Transaction.{L}
 use Rattle.replication.specs.Answer.{refused, done, waits, answered}
-use Rattle.replication.specs.Memory.{Memory, lengthsForm, copyAt, sessionAt, sequenceOf, withNumber, nth, studioOf}
-use Rattle.replication.specs.Log.{firstRecord}
+use Rattle.replication.specs.Memory.{Memory, Arrays, lengthsForm, copyAt, sessionAt, sequenceOf, withNumber, nth, studioOf}
+use Rattle.replication.specs.Log.{logged}
 use Rattle.replication.specs.Request.{byNumbers, byTitle, requestOf, isWaiting, needed, foundIn, shownFrom}
 use Rattle.replication.specs.Rows.{row, stopped, memoryRows, sessionRow, sizeForm, readStop, moveStop}
 use Rattle.replication.specs.Call as Call
@@ -21,14 +21,13 @@ use Rattle.replication.specs.Calls.{After, after, withSessions, numberKept, wit
 use Rattle.replication.specs.declared.control.Control.{Control}
 use Rattle.machine.specs.Machine as Plain
 use Rattle.machine.specs.Machine.{Machine, Step}
-use Rattle.machine.specs.OneCopy.{event, history, Demand3}
+use Rattle.machine.specs.OneCopy.{event, history, Demand3, Loadable, Demand3Loaded}
 use Rattle.machine.specs.Asked.{asked, asker}
 use Rattle.machine.specs.Titles.{titleIn, spares, Writes, ShowsTheOne}
-use Rattle.machine.proofs.Sound.{setup-sound}
+use Rattle.machine.proofs.Sound.{Sound, setup-case}
 use Rattle.machine.proofs.Spaces.{setup-unspaced, after-unspaced}
-use Rattle.machine.proofs.Kept.{after-sound}
+use Rattle.machine.proofs.MetLaws.{Met, load-accepts, fresh-met}
 use Rattle.machine.proofs.Entries.{plainHistory}
-use Rattle.machine.proofs.OneCopyOrder.{one-copy}
 use Rattle.machine.specs.Table.{studioBytes, cases2to10, callsOf, Table}
 use Rattle.machine.proofs.Table.{start, started, table}
 use Rattle.machine.proofs.Messages as Messages
@@ -39,8 +38,9 @@ use Rattle.machine.specs.Forwarded.{hour}
 use Rattle.machine.proofs.Forwarded as Forwarded
 use Rattle.machine.specs.Moved.{walk}
 use Rattle.machine.proofs.Moved as Walk
-use Rattle.replication.specs.Log.{transactionsFrom}
-use Rattle.refinement.specs.Represents.{OfLayout, Represents, Simulates}
+use Rattle.machine.specs.Restarted.{morning, afternoon}
+use Rattle.machine.proofs.Restarted as Restarted
+use Rattle.refinement.specs.Represents.{OfLayout, Represents, Stands, Simulates}
 use Rattle.refinement.specs.Lent.{lent}
 use Rattle.refinement.specs.Unmoved.{SameWithoutMoves}
 use Rattle.refinement.proofs.Represented.{log-length}
@@ -50,6 +50,10 @@ use Rattle.refinement.proofs.Preview as Preview
 use Rattle.refinement.proofs.Write as Write
 use Rattle.refinement.proofs.Unchanging.{call-between, call-leaves}
 use Rattle.refinement.proofs.Simulation as Simulation
+use Rattle.refinement.proofs.Load as Load
+use Rattle.refinement.proofs.Standing as Standing
+use Rattle.refinement.proofs.Standing.{represents-sound}
+use Rattle.refinement.proofs.OneCopyOrder as OneCopyOrder
 use Rattle.refinement.proofs.Told as Told
 use Rattle.refinement.proofs.Forward as Forward
 use Rattle.refinement.proofs.Moved as Moved
@@ -213,6 +217,32 @@ pub kept-walks-back : (c : Control) (m : Memory) → OfLayout c m → (s : ℕ) 
 unfolding Bytes.callBy
 kept-walks-back = Moved.kept-walks-back
 
+-- LOAD (02, S-8). From any control and memory it changes neither, refused or not. Between H and K, any parts of any list, all other calls give the same answers and outputs with it and
+-- without it, and the list leaves the same control and memory.
+pub load-unchanging : (c : Control) (m : Memory) → (Bytes.call c m Call.load .control ≡ c) × (Bytes.call c m Call.load .memory ≡ m)
+load-unchanging = Load.load-unchanging
+
+module _ (r : After) (H K : List Call) where
+  pub with-load : let left = afterCalls r H in
+      let there = Bytes.call (left .control) (left .memory) Call.load in
+      history r (H ++ (Call.load ∷ K)) ≡ history r H ++ (event Call.load (there .answer) (there .output) ∷ history left K)
+  with-load = call-between Call.load load-unchanging K H r
+
+  pub load-leaves : (afterCalls r (H ++ (Call.load ∷ K)) .control ≡ afterCalls r (H ++ K) .control)
+      × (afterCalls r (H ++ (Call.load ∷ K)) .memory ≡ afterCalls r (H ++ K) .memory)
+  load-leaves = call-leaves Call.load load-unchanging K H r
+
+-- WHAT LOAD ACCEPTS. Exactly the control and memory that stand for a state of the plain machine in which each logged operation met its cart (the record Stands), where control's arrays are as the
+-- code has them. What is of the layout and does not is refused by 19.
+pub load-accepts-only : (c : Control) (m : Memory) (n : ℕ) → Arrays c → Bytes.load c m .answer ≡ done n → Stands c m
+load-accepts-only = Standing.load-stands
+
+pub load-accepts-all : (c : Control) (m : Memory) → Stands c m → Bytes.load c m .answer ≡ done (c .commits)
+load-accepts-all = Standing.stands-load
+
+pub load-refuses : (c : Control) (m : Memory) → OfLayout c m → (Stands c m → ⊥) → Bytes.load c m .answer ≡ refused 19
+load-refuses = Standing.refused-19
+
 -- "In a list without moves every answer is the same as it was", by the rule of before (`numberKept`), from any control and memory of the layout: every answer and
 -- every output; and the list leaves the same but for the sessions' numbers.
 pub same-without-moves : SameWithoutMoves
@@ -238,6 +268,75 @@ pub spaced-refused : (c : Control) (m : Memory) (s : ℕ) (bytes : List ℕ)
     → (i : ℕ) → i < length (operationsOf bytes) → spaced (getD (operationsOf bytes) i []) ≡ true → Bytes.commit c m s bytes .answer ≡ refused 16
 spaced-refused = Titles.spaced-refused
 
+-- BEGUN SYSTEMS. r is what stands for a state of the plain machine, p that state: what an accepted setup leaves (setup-simulates) or an accepted load (load-simulates). H is any list.
+module _ (r : After) (p : Step) (begun : Simulates r p) (H : List Call) where
+  -- what H leaves, on bytes and of the plain machine
+  abbrev left : After
+  left = afterCalls r H
+
+  abbrev plain : Step
+  plain = Plain.afterCalls p H
+
+  -- ANSWERS. Every answer and every output of H is the plain machine's.
+  pub answers : history r H ≡ map (λ t. event (t .call) (t .left .answer) (t .left .output)) (Plain.run p H)
+  unfolding plainHistory
+  answers = Simulation.same-history H r p begun
+
+  -- COPIES. After H the bytes stand for the plain machine's state: the head end's copy is L(commits) and studio i's copy is L(applied of i), of the plain machine's committed
+  -- transactions, of which there are `commits`.
+  pub simulates-after : Simulates left plain
+  simulates-after = Simulation.simulates-after H r p begun
+
+  pub primary : copyAt (left .memory .library) 0 ≡ L (plain .next .log) (left .control .commits)
+  primary = simulates-after .next .primary
+
+  pub replica : (i : ℕ) → 1 ≤ i → i ≤ 4 → copyAt (left .memory .library) i ≡ L (plain .next .log) (nth (left .control .applied) i)
+  replica = simulates-after .next .replicas
+
+  pub commits : Plain.commits (plain .next) ≡ left .control .commits
+  commits = log-length _ _ _ (simulates-after .next)
+
+  sound : Sound (plain .next)
+  sound = represents-sound _ _ _ (simulates-after .next)
+
+  -- 02, S-3. After H a commit is refused with 8, the list goes on with `later`, and then a read, forward or collect of that session is answered: its state has all that was committed
+  -- when the session was told.
+  pub shown-after : (s : ℕ) (ops : List ℕ) → let told = Bytes.call (left .control) (left .memory) (Call.commit s ops) in told .answer ≡ refused 8
+      → (later : List Call) (x : Call) (k found : ℕ) → asker x ≡ s
+      → let r = afterCalls told later in Bytes.call (r .control) (r .memory) x .answer ≡ answered k found → left .control .commits ≤ k
+  shown-after = Told.shown-after _ _ simulates-after sound
+
+  -- NEVER BACK (02, S-7: "nobody walks back in time"). After H a read, forward or collect is answered with state k: after any further list, with moves of that session too, no read,
+  -- forward or collect of the session is answered with an earlier state.
+  pub never-back : (x : Call) (k found : ℕ) → let shown = Bytes.call (left .control) (left .memory) x in shown .answer ≡ answered k found
+      → (later : List Call) (y : Call) (j more : ℕ) → asker y ≡ asker x
+      → let r = afterCalls shown later in Bytes.call (r .control) (r .memory) y .answer ≡ answered j more → k ≤ j
+  never-back = Forward.never-back _ _ simulates-after sound
+
+  -- TITLES. After H a read, forward or collect by title is answered with state k and found 1: in L(k) one cart alone has the title, and that cart is shown.
+  pub title-read : (x : Call) (k : ℕ) (title : List ℕ) → let shown = Bytes.call (left .control) (left .memory) x in
+      shown .answer ≡ answered k 1 → asked (plain .next) x ≡ byTitle title → ShowsTheOne title (L (plain .next .log) k) (shown .output)
+  title-read = Titles.title-read _ _ simulates-after sound
+
+  -- After H a commit with number n writes a title, the list goes on with `later`, and then a read, forward or collect is answered at state k. Each place that asks for the cart shows
+  -- that title, unless one of the transactions n + 1 to k has an operation on the cart.
+  module _ (s : ℕ) (ops op : List ℕ) (n : ℕ) (writes : Writes ops op) (later : List Call) (x : Call) (k found : ℕ) (cs : List ℕ) (i : ℕ) where
+    abbrev committed : After
+    committed = Bytes.call (left .control) (left .memory) (Call.commit s ops)
+
+    abbrev shown : After
+    shown = let r = afterCalls committed later in Bytes.call (r .control) (r .memory) x
+
+    -- the plain machine that answers
+    abbrev machine : Machine
+    machine = Plain.afterCalls (Plain.call (plain .next) (Call.commit s ops)) later .next
+
+    pub title-shown : committed .answer ≡ done n → shown .answer ≡ answered k found → n ≤ k
+        → ((j : ℕ) → n ≤ j → j < k → spares (u16 op 2) (getD (machine .log) j []) ≡ true)
+        → asked machine x ≡ byNumbers cs → i < length cs → getD cs i 0 ≡ u16 op 2
+        → titleIn (part (shown .output) (80 * i) 80) ≡ titleIn op
+    title-shown accepted answer u v q g e = Titles.title-shown _ _ simulates-after sound s ops op n writes accepted later x k found answer u v cs i q g e
+
 module _ (before : Memory) (studios : ℕ) (bytes : List ℕ) where
   -- SETUP. Lent memories of the right lengths, setup gives the plain machine's answer.
   pub setup-answer : lengthsForm before ≡ true → setup before studios bytes .answer ≡ Plain.setup studios bytes .answer
@@ -251,114 +350,86 @@ module _ (before : Memory) (studios : ℕ) (bytes : List ℕ) where
     plain-accepted : Plain.setup studios bytes .answer ≡ done 0
     plain-accepted = sym (setup-simulates .answer) ∙ accepted
 
-    module _ (H : List Call) where
-      -- what H leaves, on bytes and of the plain machine
-      abbrev left : After
-      left = afterCalls (setup before studios bytes) H
+    setup-met : Met (Plain.setup studios bytes .next)
+    setup-met = setup-case (λ (q : Step). Met (q .next)) studios bytes plain-accepted (λ e. fresh-met studios bytes)
 
-      abbrev plain : Step
-      plain = Plain.afterCalls (Plain.setup studios bytes) H
+    -- 02, S-2. After H from a fresh system no cart of the head end's copy or of a studio's has a title that begins or ends with a space: `spaced` asks that of a held cart, whose byte 0
+    -- is 1, as of a new.
+    pub no-spaced-title : (H : List Call) → let left = afterCalls (setup before studios bytes) H in
+        (i : ℕ) → i ≤ 4 → (c : ℕ) → 1 ≤ c → c ≤ 128 → spaced (cartAt (copyAt (left .memory .library) i) c) ≡ false
+    no-spaced-title H =
+        let last = simulates-after _ _ setup-simulates H in
+        Titles.no-spaced-title _ _ last (represents-sound _ _ _ (last .next)) (after-unspaced H _ (setup-unspaced studios bytes plain-accepted))
 
-      -- ANSWERS. Every answer and every output of H from a fresh system is the plain machine's.
-      pub answers : history (setup before studios bytes) H
-          ≡ map (λ t. event (t .call) (t .left .answer) (t .left .output)) (Plain.run (Plain.setup studios bytes) H)
-      unfolding plainHistory
-      answers = Simulation.same-history H _ _ setup-simulates
+    -- RESTART (02, S-8). What any list of calls leaves, from a fresh system, load accepts: so a restart is safe at any moment.
+    pub reloads : (H : List Call) → let left = afterCalls (setup before studios bytes) H in Loadable (left .control) (left .memory)
+    reloads = OneCopyOrder.reloads-from _ _ setup-simulates setup-met
 
-      -- COPIES. After H from a fresh system the bytes stand for the plain machine's state: the head end's copy is L(commits) and studio i's copy is
-      -- L(applied of i), of the plain machine's committed transactions, of which there are `commits`.
-      pub simulates-after : Simulates left plain
-      simulates-after = Simulation.simulates-after H _ _ setup-simulates
+module _ (c : Control) (m : Memory) (loadable : Loadable c m) where
+  -- A loaded system stands for a state of the plain machine, and for what load leaves of that.
+  pub stands : Stands c m
+  stands = load-accepts-only c m (c .commits) (loadable .arrays) (loadable .accepted)
 
-      pub primary : copyAt (left .memory .library) 0 ≡ L (plain .next .log) (left .control .commits)
-      primary = simulates-after .next .primary
+  pub load-simulates : Simulates (Bytes.load c m) (Plain.load (stands .state))
+  load-simulates = Standing.load-same c m (stands .state) (stands .represents)
 
-      pub replica : (i : ℕ) → 1 ≤ i → i ≤ 4 → copyAt (left .memory .library) i ≡ L (plain .next .log) (nth (left .control .applied) i)
-      replica = simulates-after .next .replicas
+  load-met : Met (Plain.load (stands .state) .next)
+  load-met = rw (load-accepts (stands .state) (stands .met)) (stands .met)
 
-      pub commits : Plain.commits (plain .next) ≡ left .control .commits
-      commits = log-length _ _ _ (simulates-after .next)
+  -- What any list leaves, from a loaded system, load accepts again.
+  pub reloads-again : (H : List Call) → let left = afterCalls (Bytes.load c m) H in Loadable (left .control) (left .memory)
+  reloads-again = OneCopyOrder.reloads-from _ _ load-simulates load-met
 
-      -- 02, S-3. After H from a fresh system a commit is refused with 8, the list goes on with `later`, and then a read, forward or collect of that session is
-      -- answered: its state has all that was committed when the session was told.
-      pub shown-after : (s : ℕ) (ops : List ℕ) → let told = Bytes.call (left .control) (left .memory) (Call.commit s ops) in told .answer ≡ refused 8
-          → (later : List Call) (x : Call) (k found : ℕ) → asker x ≡ s
-          → let r = afterCalls told later in Bytes.call (r .control) (r .memory) x .answer ≡ answered k found → left .control .commits ≤ k
-      shown-after = Told.shown-after _ _ simulates-after (after-sound H _ (setup-sound studios bytes plain-accepted))
+-- DEMAND 3 over loaded memory (02, S-8). From every control and memory that load accepts every list of calls has a one-copy order, in which the log's transactions are the first commits.
+pub demand3-loaded : Demand3Loaded
+demand3-loaded c m loadable = OneCopyOrder.ordered-from _ _ (load-simulates c m loadable) (load-met c m loadable)
 
-      -- NEVER BACK (02, S-7: "nobody walks back in time"). After H from a fresh system a read, forward or collect is answered with state k: after any further list,
-      -- with moves of that session too, no read, forward or collect of the session is answered with an earlier state.
-      pub never-back : (x : Call) (k found : ℕ) → let shown = Bytes.call (left .control) (left .memory) x in shown .answer ≡ answered k found
-          → (later : List Call) (y : Call) (j more : ℕ) → asker y ≡ asker x
-          → let r = afterCalls shown later in Bytes.call (r .control) (r .memory) y .answer ≡ answered j more → k ≤ j
-      never-back = Forward.never-back _ _ simulates-after (after-sound H _ (setup-sound studios bytes plain-accepted))
-
-      -- TITLES. After H from a fresh system a read, forward or collect by title is answered with state k and found 1: in L(k) one cart alone has the title, and
-      -- that cart is shown.
-      pub title-read : (x : Call) (k : ℕ) (title : List ℕ) → let shown = Bytes.call (left .control) (left .memory) x in
-          shown .answer ≡ answered k 1 → asked (plain .next) x ≡ byTitle title → ShowsTheOne title (L (plain .next .log) k) (shown .output)
-      title-read = Titles.title-read _ _ simulates-after (after-sound H _ (setup-sound studios bytes plain-accepted))
-
-      -- 02, S-2. After H from a fresh system no cart of the head end's copy or of a studio's has a title that begins or ends with a space: `spaced` asks
-      -- that of a held cart, whose byte 0 is 1, as of a new.
-      pub no-spaced-title : (i : ℕ) → i ≤ 4 → (c : ℕ) → 1 ≤ c → c ≤ 128 → spaced (cartAt (copyAt (left .memory .library) i) c) ≡ false
-      no-spaced-title = Titles.no-spaced-title _ _ simulates-after (after-sound H _ (setup-sound studios bytes plain-accepted)) (after-unspaced H _ (setup-unspaced studios bytes plain-accepted))
-
-      -- After H from a fresh system a commit with number n writes a title, the list goes on with `later`, and then a read, forward or collect is answered at
-      -- state k. Each place that asks for the cart shows that title, unless one of the transactions n + 1 to k has an operation on the cart.
-      module _ (s : ℕ) (ops op : List ℕ) (n : ℕ) (writes : Writes ops op) (later : List Call) (x : Call) (k found : ℕ) (cs : List ℕ) (i : ℕ) where
-        abbrev committed : After
-        committed = Bytes.call (left .control) (left .memory) (Call.commit s ops)
-
-        abbrev shown : After
-        shown = let r = afterCalls committed later in Bytes.call (r .control) (r .memory) x
-
-        -- the plain machine that answers
-        abbrev machine : Machine
-        machine = Plain.afterCalls (Plain.call (plain .next) (Call.commit s ops)) later .next
-
-        pub title-shown : committed .answer ≡ done n → shown .answer ≡ answered k found → n ≤ k
-            → ((j : ℕ) → n ≤ j → j < k → spares (u16 op 2) (getD (machine .log) j []) ≡ true)
-            → asked machine x ≡ byNumbers cs → i < length cs → getD cs i 0 ≡ u16 op 2
-            → titleIn (part (shown .output) (80 * i) 80) ≡ titleIn op
-        title-shown accepted answer u v q g e =
-            Titles.title-shown _ _ simulates-after (after-sound H _ (setup-sound studios bytes plain-accepted)) s ops op n writes accepted later x k found answer u v cs i q g e
-
--- DEMAND 3. Every list of calls from a fresh system has a one-copy order.
+-- DEMAND 3. Every list of calls from a fresh system has a one-copy order: the case of an empty log.
 pub demand3 : Demand3
 demand3 before studios bytes accepted H none =
-    rw (Simulation.same-counted H _ _ (setup-simulates before studios bytes accepted))
-    (one-copy studios bytes (plain-accepted before studios bytes accepted) H none)
+    rw (← OneCopyOrder.setup-entries before studios bytes accepted none H)
+    (OneCopyOrder.ordered-from _ _ (setup-simulates before studios bytes accepted) (setup-met before studios bytes accepted) H none)
 
 -- TABLE. The twelve cases hold of the calls on bytes, with their outputs, whatever three memories of the right lengths setup is lent: from the plain
 -- machine's table, with no byte computed.
 pub twelve : (before : Memory) → lengthsForm before ≡ true →
     let r = setup before 2 studioBytes in
     let end = afterCalls r (callsOf cases2to10) in
-    Table (history r) (transactionsFrom (end .control .commits) (end .memory .log) (firstRecord (end .control)))
+    Table (history r) (logged (end .control) (end .memory .log))
 unfolding start plainHistory
 twelve before lengths =
     let accepted = setup-answer before 2 studioBytes lengths ∙ started in
-    subst₂ Table (fun-ext (λ H. sym (answers before 2 studioBytes accepted H))) (simulates-after before 2 studioBytes accepted (callsOf cases2to10) .next .log) table
+    subst₂ Table (fun-ext (λ H. sym (answers _ _ (setup-simulates before 2 studioBytes accepted) H))) (simulates-after _ _ (setup-simulates before 2 studioBytes accepted) (callsOf cases2to10) .next .log) table
 
 -- 02, S-3. The story of the request on bytes, likewise: another studio fills cart 40, the commit is refused with 8, the session's read waits, and after send and
 -- refresh its collect shows cart 40 held.
 pub told-then-shown : (before : Memory) → lengthsForm before ≡ true → history (setup before 2 studioBytes) (callsOf taking) ≡ taking
 unfolding start plainHistory
-told-then-shown before lengths = answers before 2 studioBytes (setup-answer before 2 studioBytes lengths ∙ started) (callsOf taking) ∙ Taken.told-then-shown
+told-then-shown before lengths = answers _ _ (setup-simulates before 2 studioBytes (setup-answer before 2 studioBytes lengths ∙ started)) (callsOf taking) ∙ Taken.told-then-shown
 
 -- 02, S-4. The story of the request on bytes, likewise: forwards that the head end answers and forwards that the studio answers, reads and collects.
 pub forwarded : (before : Memory) → lengthsForm before ≡ true → history (setup before 2 studioBytes) (callsOf hour) ≡ hour
 unfolding start plainHistory
-forwarded before lengths = answers before 2 studioBytes (setup-answer before 2 studioBytes lengths ∙ started) (callsOf hour) ∙ Forwarded.forwarded
+forwarded before lengths = answers _ _ (setup-simulates before 2 studioBytes (setup-answer before 2 studioBytes lengths ∙ started)) (callsOf hour) ∙ Forwarded.forwarded
 
 -- 02, S-7. The story of the request on bytes, likewise: sessions that were shown edit 1 at studio 1 move to studio 2, which is behind; the read waits there, and
 -- the forward is answered by the head end.
 pub moved : (before : Memory) → lengthsForm before ≡ true → history (setup before 2 studioBytes) (callsOf walk) ≡ walk
 unfolding start plainHistory
-moved before lengths = answers before 2 studioBytes (setup-answer before 2 studioBytes lengths ∙ started) (callsOf walk) ∙ Walk.moved
+moved before lengths = answers _ _ (setup-simulates before 2 studioBytes (setup-answer before 2 studioBytes lengths ∙ started)) (callsOf walk) ∙ Walk.moved
 
 -- 02, S-6. Messages written on bytes, likewise: of one operation and of two, refused for a number that is not committed and an output that is too short.
 pub messages-written : (before : Memory) → lengthsForm before ≡ true → history (setup before 2 studioBytes) (callsOf writing) ≡ writing
 unfolding start plainHistory
-messages-written before lengths = answers before 2 studioBytes (setup-answer before 2 studioBytes lengths ∙ started) (callsOf writing) ∙ Messages.messages-written
+messages-written before lengths = answers _ _ (setup-simulates before 2 studioBytes (setup-answer before 2 studioBytes lengths ∙ started)) (callsOf writing) ∙ Messages.messages-written
+
+-- 02, S-8. The story of the request on bytes, likewise: a list from a fresh system; what it left is loaded; then a read below the loaded commits, a collect of the loaded request, a commit after them.
+pub restarted : (before : Memory) → lengthsForm before ≡ true → let r = setup before 2 studioBytes in
+    let left = afterCalls r (callsOf morning) in
+    let again = Bytes.load (left .control) (left .memory) in
+    (history r (callsOf morning) ≡ morning) × ((again .answer ≡ done 2) × (history again (callsOf afternoon) ≡ afternoon))
+unfolding start plainHistory Restarted.again
+restarted before lengths =
+    let fresh = setup-simulates before 2 studioBytes (setup-answer before 2 studioBytes lengths ∙ started) in
+    let again = Standing.load-same _ _ _ (simulates-after _ _ fresh (callsOf morning) .next) in
+    (answers _ _ fresh (callsOf morning) ∙ Restarted.before, (again .answer ∙ Restarted.whole, answers _ _ again (callsOf afternoon) ∙ Restarted.restarted))

@@ -14,8 +14,9 @@ use Rattle.replication.specs.Answer.{waits}
 use Rattle.replication.specs.Memory.{Memory, copyAt, sessionAt, withSession, sequenceOf, withSequence, withNumber, nth, studioOf}
 use Rattle.replication.specs.Request.{Request, requestOf}
 use Rattle.replication.specs.Message.{messageIn}
-use Rattle.replication.specs.Rows.{Row, stopped, unless, memoryRows, commitRows, commitStop, sendRows, sendStop, refreshRows, refreshStop, readRows, readStop, collectRows, collectStop, writeRows, writeStop}
-use Rattle.replication.specs.Call.{Call, commit, preview, send, refresh, read, collect, forward, write, move, run, final}
+use Rattle.replication.specs.Log.{logged}
+use Rattle.replication.specs.Rows.{Row, stopped, unless, memoryRows, commitRows, commitStop, sendRows, sendStop, refreshRows, refreshStop, readRows, readStop, collectRows, collectStop, writeRows, writeStop, loadRows, copiesForm, loadStop}
+use Rattle.replication.specs.Call.{Call, commit, preview, send, refresh, read, collect, forward, write, move, load, run, final}
 use Rattle.replication.specs.Calls as Bytes
 use Rattle.replication.specs.Calls.{After, refusal, withSessions, numberAfter, numberKept, toldSessions, withSent, withApplied, committed}
 use Rattle.replication.specs.declared.control.Control.{Control}
@@ -192,6 +193,11 @@ module _ (c : Control) (m : Memory) (ys : List ℕ) (h : OfLayout c m) (l : OfLa
   write-same k out = by-rows _ _ (same-stop (λ q. writeRows (c .commits) k (length (messageIn c (m .log) k)) (length out)) 1) _ _ _ _ (λ j e. refused-same out (suc j))
       (λ e. record { answer = refl; output = refl; control = refl; memory = refl; pairs = p })
 
+  load-same : Same (Bytes.load c m) (Bytes.load c n)
+  unfolding Bytes.load loadStop
+  load-same = by-rows _ _ (same-stop (λ q. loadRows (copiesForm c (m .library) (logged c (m .log))) (logged c (m .log))) 1) _ _ _ _ (λ j e. refused-same [] (suc j))
+      (λ e. record { answer = refl; output = refl; control = refl; memory = refl; pairs = p })
+
   -- read and forward, by what each does where the studio is behind
   reading-same : (s : ℕ) (request : List ℕ) (behind later : After) (out : List ℕ)
       → (ReadAccepted s (studioOf c s) (requestOf (sessionAt (m .sessions) s)) request (length out) → stateFor c s < sequenceOf (sessionAt (m .sessions) s) → Same behind later)
@@ -240,6 +246,7 @@ module _ (c : Control) (m : Memory) (ys : List ℕ) (h : OfLayout c m) (l : OfLa
   call-same (forward s request out) e = forward-same s request out
   call-same (write k out) e = write-same k out
   call-same (move s i) e = absurd (false≢true e)
+  call-same load e = load-same
 
 -- what two runs leave, both of the layout
 abbrev Both : After → After → Type 0

@@ -1,7 +1,7 @@
 -- The output that a call is lent.
 use mathlib.Core.List.{List, []}
 use Prim.Native.Nat.{ℕ}
-use Rattle.replication.specs.Call.{Call, commit, preview, send, refresh, read, collect, forward, write, move}
+use Rattle.replication.specs.Call.{Call, commit, preview, send, refresh, read, collect, forward, write, move, load}
 
 -- "Output, lent to read and collect only", by S-4, "with read's .. outputs", to forward, by S-6 to the van's writer: [] where none is lent
 unfoldable pub lent : Call → List ℕ
@@ -14,3 +14,4 @@ lent (collect s out) = out
 lent (forward s request out) = out
 lent (write n out) = out
 lent (move s i) = []
+lent load = []

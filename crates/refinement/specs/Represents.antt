@@ -3,21 +3,18 @@ use mathlib.Core.Path.{_≡_}
 use mathlib.Core.Bool.{true}
 use Prim.Native.Nat.{ℕ, _≤_}
 use lib.ListN.{length}
-use Rattle.carts.specs.Transaction.{L}
-use Rattle.replication.specs.Memory.{Memory, sessionCount, studioCount, lengthsForm, copyAt, sessionAt, sequenceOf, nth, studioOf}
-use Rattle.replication.specs.Log.{firstRecord, transactionsFrom}
+use Rattle.carts.specs.Transaction.{L, metAll}
+use Rattle.replication.specs.Memory.{Memory, Arrays, sessionCount, studioCount, lengthsForm, copyAt, sessionAt, sequenceOf, nth, studioOf}
+use Rattle.replication.specs.Log.{logged}
 use Rattle.replication.specs.Request.{requestOf}
 use Rattle.replication.specs.Layout.{ofLayout}
 use Rattle.replication.specs.Calls.{After}
 use Rattle.replication.specs.declared.control.Control.{Control}
 use Rattle.machine.specs.Machine.{session, Machine, sessionOf, Step}
 
--- rows 1 and 2 do not stop a call: the memories have their lengths and are, with control, of the layout. Control's arrays have the lengths
--- that their types in the code give them.
+-- rows 1 and 2 do not stop a call: the memories have their lengths and are, with control, of the layout
 pub record OfLayout (c : Control) (m : Memory) : Type 0 where
-  pub sessionStudios : length (c .«session_studios») ≡ sessionCount
-  pub sent : length (c .sent) ≡ studioCount
-  pub applied : length (c .applied) ≡ studioCount
+  pub arrays : Arrays c
   pub lengths : lengthsForm m ≡ true
   pub layout : ofLayout c m ≡ true
 
@@ -26,7 +23,7 @@ pub record Represents (c : Control) (m : Memory) (M : Machine) : Type 0 where
   pub form : OfLayout c m
   pub studios : M .studios ≡ c .studios
   -- the committed transactions are those in the log (request S-9 puts retired ones in front: old ++ ..)
-  pub log : M .log ≡ transactionsFrom (c .commits) (m .log) (firstRecord c)
+  pub log : M .log ≡ logged c (m .log)
   pub sent : M .sent ≡ c .sent
   pub applied : M .applied ≡ c .applied
   -- each session has its studio from control, its sequence number and waiting read from its 80 bytes
@@ -36,6 +33,12 @@ pub record Represents (c : Control) (m : Memory) (M : Machine) : Type 0 where
   -- "The head end's copy stands for L(commits), studio i's for L(applied of i)."
   pub primary : copyAt (m .library) 0 ≡ L (M .log) (c .commits)
   pub replicas : (i : ℕ) → 1 ≤ i → i ≤ studioCount → copyAt (m .library) i ≡ L (M .log) (nth (c .applied) i)
+
+-- 02, S-8: control and memory stand for a state of the plain machine in which each logged operation met its cart in the right state
+pub record Stands (c : Control) (m : Memory) : Type 0 where
+  pub state : Machine
+  pub represents : Represents c m state
+  pub met : metAll (state .log) ≡ true
 
 -- what a call on bytes leaves, and what the same call leaves of the plain machine: one answer, one output, and the bytes stand for the machine
 pub record Simulates (r : After) (p : Step) : Type 0 where

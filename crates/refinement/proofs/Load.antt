@@ -1,0 +1,42 @@
+-- Load (02, S-8): it keeps the layout, and does what the plain machine's load does.
+use mathlib.Core.Path.{_≡_, refl, sym, ap, _∙_}
+use mathlib.Core.Bool.{true}
+use mathlib.Core.List.{List}
+use Prim.Native.Nat.{ℕ, _≤_}
+use native.Mathlib.Omega.{arith}
+use Rattle.carts.specs.Transaction.{Transaction, L}
+use Rattle.replication.specs.Memory.{Memory, copyAt, nth}
+use Rattle.replication.specs.Log.{logged}
+use Rattle.replication.specs.Rows.{stopped, loadRows, copiesForm, loadStop}
+use Rattle.replication.specs.Call as Call
+use Rattle.replication.specs.Calls as Bytes
+use Rattle.replication.specs.Calls.{After}
+use Rattle.replication.specs.declared.control.Control.{Control}
+use Rattle.replication.proofs.RowLaws.{memory-passes, unless-case, unless-both}
+use Rattle.replication.proofs.Formed.{few}
+use Rattle.replication.proofs.LoadLaws.{of-copies}
+use Rattle.machine.specs.Machine as Plain
+use Rattle.machine.specs.Machine.{Session, Machine}
+use Rattle.refinement.specs.Represents.{OfLayout, Represents, Simulates}
+use Rattle.refinement.proofs.Represented.{machineOf, log-length}
+use Rattle.refinement.proofs.Arrays.{formed}
+
+pub load-unchanging : (c : Control) (m : Memory) → (Bytes.call c m Call.load .control ≡ c) × (Bytes.call c m Call.load .memory ≡ m)
+unfolding Bytes.callBy Bytes.load
+load-unchanging c m = unless-case (λ (r : After). (r .control ≡ c) × (r .memory ≡ m)) _ _ _ (λ _ _. (refl, refl)) (λ _. (refl, refl))
+
+module _ (c : Control) (m : Memory) where
+  pub load-keeps : OfLayout c m → OfLayout (Bytes.load c m .control) (Bytes.load c m .memory)
+  unfolding Bytes.load
+  load-keeps h = unless-case (λ (r : After). OfLayout (r .control) (r .memory)) _ _ _ (λ _ _. h) (λ _. h)
+
+  -- what stands for a machine has the copies that its log makes
+  same-copies : (M : Machine) → Represents c m M → copiesForm c (m .library) (M .log) ≡ true
+  same-copies M h = of-copies c (m .library) (M .log) (record { primary = h .primary; replicas = λ i l g. let n = few c m (formed c m (h .form)) in h .replicas i l (omega arith) })
+
+  pub load-simulates : (log : List Transaction) (sessions : List Session) → Represents c m (machineOf c log sessions)
+      → Simulates (Bytes.load c m) (Plain.load (machineOf c log sessions))
+  unfolding Bytes.load loadStop Plain.load
+  load-simulates log sessions h =
+      rw (memory-passes c m (loadRows (copiesForm c (m .library) (logged c (m .log))) (logged c (m .log))) (h .form .lengths) (h .form .layout), ← h .log, same-copies _ h, log-length c m _ h)
+      (unless-both Simulates (stopped (loadRows true log)) _ _ _ _ (λ _ _. record { answer = refl; output = refl; next = h }) (λ _. record { answer = refl; output = refl; next = h }))
