@@ -37,9 +37,9 @@
  *
  * SAVING. Save the three memories and control together, as one call left them, with the version that wrote them, so that a stop in the
  * middle leaves the last whole save (write another file, then rename it). After reading them back call sulyobak_load once, before any
- * other call: it refuses what is torn so that it shows, and what it accepts goes on exactly as if the system had never stopped. From
- * a save that is whole no number is lost: sessions keep their numbers and their waiting reads. sulyobak_load says what a torn
- * save gives; examples/c/restart.c saves, reads back, loads and goes on.
+ * other call. A save that is whole is accepted and goes on exactly as if the system had never stopped: sessions keep their numbers and
+ * their waiting reads. A save that is torn is refused where copies, log and control do not fit each other: sulyobak_load says what a torn
+ * save gives. examples/c/restart.c saves, reads back, loads and goes on.
  *
  * Numbers inside the memories, operations, requests, messages and carts are little-endian.
  */
@@ -58,9 +58,9 @@ extern "C" {
  * together with the version that wrote it. docs/FORMAT.md says which versions have the same control and layout. */
 #define SULYOBAK_VERSION 8
 
-/* Stack that every call but sulyobak_load keeps within, in bytes; and sulyobak_load, which makes the copies that it compares in one copy of
- * its own, SULYOBAK_COPY_SIZE (10,240) bytes on the stack. Measured on a full system, not proved: examples/run runs examples/c/stack.c,
- * which fails where a call takes more. */
+/* Stack that a call keeps within, in bytes: SULYOBAK_LOAD_STACK_MOST for sulyobak_load, which works out each copy in one of its own on the
+ * stack (SULYOBAK_COPY_SIZE, 10,240 bytes), SULYOBAK_STACK_MOST for every other call. Measured on a full system, not proved: examples/run
+ * runs examples/c/stack.c, which fails where a call takes more. */
 #define SULYOBAK_STACK_MOST 4096
 #define SULYOBAK_LOAD_STACK_MOST 14336
 
@@ -149,7 +149,8 @@ typedef struct {
 /* Kinds of answer. */
 #define SULYOBAK_REFUSED 0  /* value says why; nothing was done, no byte was changed (but a session's number, by a commit refused by 8) */
 #define SULYOBAK_DONE 1     /* done; value: the commit's number (of a preview the one it would have), sent, applied, the studio moved to, a
-                             * message's length, the number of a message that a van applied, or the commits of a load; 0 for setup and layout */
+                             * message's length, the number of a message that a van applied, or the commits of a load; 0 for setup and
+                             * layout */
 #define SULYOBAK_ANSWERED 2 /* the read or forward is answered; value: transactions that the copy had taken; found; carts are in output */
 #define SULYOBAK_WAITS 3    /* the read is kept in the session; value: the number that the studio's copy has to reach first */
 #define SULYOBAK_HELD 4     /* the van holds this message's transaction already; nothing was changed */
@@ -174,7 +175,8 @@ typedef struct {
 #define SULYOBAK_BAD_MESSAGE 17     /* van_receive: the message is out of form, or the copy is not 10,240 bytes of the layout.
                                      * van_write: no such transaction (1 to control.commits), or output is shorter than its message. */
 #define SULYOBAK_MESSAGE_AHEAD 18   /* The message's number is above applied + 1: one before it has not been applied yet. */
-#define SULYOBAK_NOT_WHOLE 19       /* A copy is not what the log's transactions make, or an operation in the log met its cart in the wrong state. */
+#define SULYOBAK_NOT_WHOLE 19       /* A copy is not what the log makes, or a logged operation met its cart in the wrong state: damaged, or
+                                     * not saved together. */
 
 /* The version of the linked library: SULYOBAK_VERSION of the header that it was made with. */
 uint32_t sulyobak_version(void);
@@ -291,15 +293,15 @@ sulyobak_answer sulyobak_layout(const uint8_t *library, size_t library_len, cons
 
 /* Loads a system that was saved: tests memory and control as they were read back. Changes no memory and hands control back as it was
  * passed. Beyond the layout it works out from the log what its transactions make, from 128 empty carts, one after the other: the head end's
- * copy must be that of all of them (control.commits), each studio's, 1 to control.studios, that of the first so many as control.applied counts for it, and each
- * operation in the log must have met its cart in the right state when it acted. What a list of calls leaves, from a fresh or a loaded
- * system, is always accepted, so a restart is safe at any moment. From what is accepted every list of calls is answered as from a
- * fresh system: as by one single library, which took the log's transactions first.
+ * copy must be what all of them make (control.commits), the copy of each studio, 1 to control.studios, what the first ones make, as many as
+ * control.applied has for it, and each operation in the log must have met its cart in the right state when it acted. What a list of calls
+ * leaves, from a fresh or a loaded system, is always accepted, so a restart is safe at any moment. From what is accepted every list of
+ * calls is answered as from a fresh system: as by one single library, which took the log's transactions first.
  *   control   as it was saved
- * WHAT A TORN SAVE GIVES. A library, a log and a control of different moments are refused by 2 or 19 wherever a copy then differs
- * from what log and control make of it. What cannot be told, and is accepted: sessions of another moment (a number too low shows its session
- * an earlier copy; save them with the rest); counts of sent from another moment; and a whole system of an earlier moment. Studios above
- * control.studios, and sessions, are tested by the layout alone.
+ * WHAT A TORN SAVE GIVES. A library, a log and a control of different moments are refused by 2 or 19 wherever a copy then differs from what
+ * log and control make of it. What cannot be told, and is accepted: sessions of another moment (a number too low shows its session an
+ * earlier copy: save them with the rest); in control, counts of sent and studios of sessions from another moment; and a whole system of an
+ * earlier moment. Copies of studios above control.studios, and sessions, are tested by the layout alone.
  * Answers done (value: control.commits), or refused 1, 2, 19. Nobody is obliged to load: the other calls go by the layout alone. */
 sulyobak_answer sulyobak_load(const uint8_t *library, size_t library_len, const uint8_t *log, size_t log_len,
                               const uint8_t *sessions, size_t sessions_len, sulyobak_control control);

@@ -31,6 +31,7 @@ sulyobak_answer (*const of_a_collect[])(READ, READ, WRITTEN, sulyobak_control, u
 sulyobak_answer (*const of_a_forward[])(READ, READ, WRITTEN, sulyobak_control, uint32_t, READ, WRITTEN) = {sulyobak_forward};
 sulyobak_answer (*const of_a_move[])(READ, READ, READ, sulyobak_control, uint32_t, uint32_t) = {sulyobak_move};
 sulyobak_answer (*const of_the_layout[])(READ, READ, READ, sulyobak_control) = {sulyobak_layout};
+sulyobak_answer (*const of_a_load[])(READ, READ, READ, sulyobak_control) = {sulyobak_load};
 sulyobak_answer (*const of_a_van_write[])(READ, READ, READ, sulyobak_control, uint32_t, WRITTEN) = {sulyobak_van_write};
 sulyobak_van_answer (*const of_a_van_receive[])(WRITTEN, uint32_t, READ) = {sulyobak_van_receive};
 bool (*const of_a_scan[])(READ) = {carts_all_zero, carts_is_copy, carts_all_operations};

@@ -6,6 +6,7 @@ use replication::collect;
 use replication::commit;
 use replication::control::Control;
 use replication::forward;
+use replication::load;
 use replication::move_session;
 use replication::preview;
 use replication::read;
@@ -18,7 +19,7 @@ use van::write;
 ghost use mathlib.Core.Path.{_≡_};
 ghost use mathlib.Core.List.{[]};
 ghost use Rattle.replication.specs.Memory.{memory};
-ghost use Rattle.replication.specs.Calls.{setup, commit, preview, send, refresh, read, collect, forward, write, move};
+ghost use Rattle.replication.specs.Calls.{setup, commit, preview, send, refresh, read, collect, forward, write, move, load};
 ghost use Rattle.van.specs.Receive.{van, receive};
 ghost use Rattle.sulyobak.specs.Words.{left, leftBy, layoutWords, version};
 ghost use Rattle.sulyobak.specs.VanWords.{vanLeft, vanLeftBy};
@@ -192,6 +193,20 @@ pub extern "C" fn sulyobak_layout(
         return Words::new(Words::REFUSED, stopped, control);
     }
     Words::new(Words::DONE, 0, control)
+}
+
+// Load: whether the copies are what the log makes. Memory is only read.
+#[no_mangle]
+pub extern "C" fn sulyobak_load(
+    library: &[u8],
+    log: &[u8],
+    sessions: &[u8],
+    control: Control,
+) -> Words
+    ensures { λ r. ⌜ left r (memory (now (library .entry)) (now (log .entry)) (now (sessions .entry))) []
+        ≡ leftBy (load control (memory (now (library .entry)) (now (log .entry)) (now (sessions .entry)))) ⌝ }
+{
+    Words::of_count(load::load(control, library, log, sessions))
 }
 
 // The message of a committed transaction, for a van. Memory is only read.

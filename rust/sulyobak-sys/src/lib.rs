@@ -5,7 +5,7 @@
 pub mod sizes;
 
 /// The version of the interface that these declarations are for: `SULYOBAK_VERSION`.
-pub const VERSION: u32 = 7;
+pub const VERSION: u32 = 8;
 
 /// The counts of a system. The engine is passed them and hands them back; any value may stand in any field, and each has its answer.
 ///
@@ -198,6 +198,17 @@ extern "C" {
 
     /// Tests memory and control alone.
     pub fn sulyobak_layout(
+        library: *const u8,
+        library_len: usize,
+        log: *const u8,
+        log_len: usize,
+        sessions: *const u8,
+        sessions_len: usize,
+        control: Control,
+    ) -> Answer;
+
+    /// Loads a system that was saved: tests memory and control, and that the copies are what the log makes.
+    pub fn sulyobak_load(
         library: *const u8,
         library_len: usize,
         log: *const u8,
