@@ -269,6 +269,8 @@ static inline const char *sulyobak_refusal_sentence(uint32_t refusal)
     case SULYOBAK_BAD_MESSAGE:
         return "no such transaction, or output shorter than its message; in the van: a message out of form, or a copy not of the layout";
     case SULYOBAK_MESSAGE_AHEAD: return "the message comes too soon: a transaction before it has not been applied yet";
+    case SULYOBAK_NOT_WHOLE:
+        return "a copy is not what the log makes, or a logged operation met its cart in the wrong state: damaged, or not saved together";
     default: return "a number that this version does not have";
     }
 }

@@ -201,13 +201,30 @@ static void test_messages(void)
     HOLD(applied == 4 && memcmp(copy, library_memory, sizeof copy) == 0);
 }
 
+/* What the calls have left is loaded, and changed by nothing; with another letter in a title it is of the layout and not whole. */
+static void test_load(void)
+{
+    static uint8_t before[SULYOBAK_LIBRARY_SIZE];
+    sulyobak_answer answer = sulyobak_load(MEMORY, control);
+    HOLD(answer.kind == SULYOBAK_DONE && answer.value == 4 && answer.found == 0);
+    HOLD(memcmp(&answer.control, &control, sizeof control) == 0);
+    library_memory[16]++;
+    memcpy(before, library_memory, sizeof before);
+    HOLD(keep(sulyobak_layout(MEMORY, control)).kind == SULYOBAK_DONE);
+    answer = sulyobak_load(MEMORY, control);
+    HOLD(answer.kind == SULYOBAK_REFUSED && answer.value == SULYOBAK_NOT_WHOLE);
+    HOLD(memcmp(&answer.control, &control, sizeof control) == 0 && memcmp(before, library_memory, sizeof before) == 0);
+    library_memory[16]--;
+    HOLD(keep(sulyobak_load(MEMORY, control)).kind == SULYOBAK_DONE);
+}
+
 /* Every number has a sentence of its own. */
 static void test_sentences(void)
 {
     uint32_t i, j;
-    for (i = 0; i <= 18; i++)
-        for (j = i + 1; j <= 19; j++)
-            HOLD(strcmp(sulyobak_refusal_sentence(i), sulyobak_refusal_sentence(j)) != 0 || (i == 0 && j == 19));
+    for (i = 0; i <= 19; i++)
+        for (j = i + 1; j <= 20; j++)
+            HOLD(strcmp(sulyobak_refusal_sentence(i), sulyobak_refusal_sentence(j)) != 0 || (i == 0 && j == 20));
     for (i = 0; i <= 7; i++)
         for (j = i + 1; j <= 8; j++)
             HOLD(strcmp(sulyobak_made_sentence((int)i), sulyobak_made_sentence((int)j)) != 0);
@@ -226,6 +243,7 @@ int main(void)
     test_forward();
     test_move();
     test_messages();
+    test_load();
     test_sentences();
     printf("util_test: everything held\n");
     return 0;

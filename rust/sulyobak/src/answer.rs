@@ -55,6 +55,8 @@ pub enum Refusal {
     Message,
     /// 18: the message's number is above applied + 1.
     MessageAhead,
+    /// 19: a copy is not what the log makes, or a logged operation met its cart in the wrong state. Only a load is refused so.
+    NotWhole,
     /// A number that this version of the crate does not know.
     Unknown(u32),
     /// The linked engine is of this version of the interface, and this crate is for [`VERSION`](crate::VERSION): nothing was called.
@@ -63,7 +65,7 @@ pub enum Refusal {
 
 impl Refusal {
     // Every refusal, by its number from 1.
-    const ALL: [Refusal; 18] = [
+    const ALL: [Refusal; 19] = [
         Refusal::Lengths,
         Refusal::Layout,
         Refusal::Nobody,
@@ -82,6 +84,7 @@ impl Refusal {
         Refusal::SpacedTitle,
         Refusal::Message,
         Refusal::MessageAhead,
+        Refusal::NotWhole,
     ];
 
     /// The refusal with this number of documents 01 and 02.
@@ -111,6 +114,7 @@ impl Refusal {
             Refusal::SpacedTitle => 16,
             Refusal::Message => 17,
             Refusal::MessageAhead => 18,
+            Refusal::NotWhole => 19,
             Refusal::Unknown(number) => number,
             Refusal::Version(_) => 0,
         }
@@ -141,6 +145,9 @@ impl Refusal {
                 "no such transaction, or output shorter than its message; in the van: a message out of form, or a copy not of the layout"
             }
             Refusal::MessageAhead => "the message comes too soon: a transaction before it has not been applied yet",
+            Refusal::NotWhole => {
+                "a copy is not what the log makes, or a logged operation met its cart in the wrong state: damaged, or not saved together"
+            }
             Refusal::Unknown(_) => "a number that this version of the crate does not have",
             Refusal::Version(_) => "the linked libsulyobak.a is of another version than this crate",
         }
@@ -254,12 +261,12 @@ mod tests {
 
     #[test]
     fn every_refusal_has_its_number() {
-        for number in 1..=18 {
+        for number in 1..=19 {
             let refusal = Refusal::from_number(number);
             assert_eq!(refusal.number(), number);
             assert!(!matches!(refusal, Refusal::Unknown(_)));
         }
-        for number in [0, 19, u32::MAX] {
+        for number in [0, 20, u32::MAX] {
             assert_eq!(Refusal::from_number(number), Refusal::Unknown(number));
         }
     }

@@ -44,7 +44,7 @@ fn version_and_sizes() {
 
 #[test]
 fn sentences() {
-    for number in 1..=18 {
+    for number in 1..=19 {
         let sentence = Refusal::from_number(number).sentence();
         assert!(HELPERS.contains(&format!("return \"{sentence}\";")), "{number}: {sentence}");
     }
