@@ -55,7 +55,8 @@ pub enum Refusal {
     Message,
     /// 18: the message's number is above applied + 1.
     MessageAhead,
-    /// 19: a copy is not what the log makes, or a logged operation met its cart in the wrong state. Only a load is refused so.
+    /// 19: a copy is not what the log makes, or a logged operation met its cart in the wrong state. Only a load is refused so
+    /// ([`Library::load`](crate::Library::load)).
     NotWhole,
     /// A number that this version of the crate does not know.
     Unknown(u32),

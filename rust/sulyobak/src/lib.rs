@@ -27,6 +27,25 @@
 //! The first call asks the linked engine for its version; where it is another than [`VERSION`], every call is refused by
 //! [`Refusal::Version`].
 //!
+//! # Saving
+//!
+//! Save the three memories and control together ([`Library::into_parts`]), as one call left them, with the [`VERSION`] that wrote them.
+//! Write them to another file and rename it, so that a stop in the middle leaves the last whole save. Answered reads change a session's
+//! number: save after them, too.
+//!
+//! After reading them back, look at the version (docs/FORMAT.md says which versions have the same layout), and call [`Library::load`] (or
+//! [`Memory::load`]) once, before any other call. A save that is whole is accepted and goes on exactly as if the system had never stopped:
+//! sessions keep their numbers and their waiting reads.
+//!
+//! What a torn save gives: a library, a log and a control of different moments are refused ([`Refusal::Layout`] or [`Refusal::NotWhole`])
+//! wherever a copy then differs from what log and control make of it. What cannot be told, and is accepted:
+//!
+//! - sessions of another moment: a number too low shows its session an earlier copy;
+//! - in control, counts of sent and studios of sessions from another moment;
+//! - a whole system of an earlier moment.
+//!
+//! `examples/rust/restart.rs` saves to a file, reads it back, loads, goes on, and shows what torn files give.
+//!
 //! # Example
 //!
 //! A producer re-cuts a jingle and reads it back in the same chair.

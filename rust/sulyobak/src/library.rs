@@ -18,7 +18,7 @@ pub struct Library {
     control: Control,
 }
 
-/// A library taken apart, to be stored.
+/// A library taken apart, to be saved together with [`VERSION`](crate::VERSION).
 #[derive(Clone, PartialEq, Eq)]
 pub struct Parts {
     /// The five copies, [`sizes::LIBRARY`] bytes.
@@ -58,10 +58,51 @@ impl Library {
         Ok(library)
     }
 
-    /// The library with these parts, or [`Refusal::Lengths`] or [`Refusal::Layout`] where they are damaged or do not belong together.
+    /// Loads a system that was saved: the library with these parts, as they were read back. It goes on as if it had never stopped: sessions
+    /// have their numbers, and waiting reads are collected. The [crate's page](crate#saving) says how to save.
     ///
-    /// The layout is tested, as each call does: every field within its rule, the log's chain and the counts agreeing. An older control that
-    /// is of the layout, or a title with another letter, is not seen, nor whether a copy is what the log makes.
+    /// Beyond the layout ([`Refusal::Lengths`], [`Refusal::Layout`]) it works out from the log what its transactions make. The head end's
+    /// copy must be what all of them make, each studio's what as many make as it has applied, and each operation must have met its cart in
+    /// the right state: else [`Refusal::NotWhole`]. Whatever calls leave is accepted, so a restart is safe at any moment.
+    ///
+    /// A save that is torn, with a library, a log and a control of different moments, is refused wherever a copy then differs from what log
+    /// and control make of it. What cannot be told, and is accepted: sessions of another moment, counts of sent and studios of sessions from
+    /// another moment, and a whole system of an earlier moment.
+    ///
+    /// ```
+    /// use sulyobak::{Library, Operation, Read, Refusal, Request, Title};
+    ///
+    /// # fn main() -> Result<(), Box<dyn std::error::Error>> {
+    /// let mut library = Library::new(1, &[1])?;
+    /// library.commit(1, &[Operation::New { cart: 7, title: Title::new("Top hour A")?, audio: 501, milliseconds: 8_000 }])?;
+    /// assert_eq!(library.read(1, &Request::cart(7))?, Read::Waits { number: 1 });
+    /// let saved = library.into_parts();
+    ///
+    /// // After the restart the read still waits, and is collected.
+    /// let mut library = Library::load(saved.clone())?;
+    /// library.send(1)?;
+    /// library.refresh(1)?;
+    /// let Read::Answered { carts, .. } = library.collect(1)? else { panic!("still waiting") };
+    /// assert_eq!(carts[0].map(|cart| cart.audio), Some(501));
+    ///
+    /// // A library of before the refresh with the control of after it: the studio's copy lacks the cart.
+    /// let mut torn = library.into_parts();
+    /// torn.library = saved.library;
+    /// assert_eq!(Library::load(torn), Err(Refusal::NotWhole));
+    /// # Ok(())
+    /// # }
+    /// ```
+    pub fn load(parts: Parts) -> Result<Library, Refusal> {
+        let library = Library::put_together(parts);
+        library.view().load()?;
+        Ok(library)
+    }
+
+    /// The library with these parts, or [`Refusal::Lengths`] or [`Refusal::Layout`] where they are not of the layout. For parts that were
+    /// saved call [`load`](Library::load), which tests more.
+    ///
+    /// The layout is tested, as each call does: every field within its rule, the log's chain and the counts agreeing. Whether a copy is
+    /// what the log makes is not seen.
     ///
     /// ```
     /// use sulyobak::{Library, Refusal};
@@ -73,13 +114,18 @@ impl Library {
     /// # Ok::<(), Refusal>(())
     /// ```
     pub fn from_parts(parts: Parts) -> Result<Library, Refusal> {
-        let Parts { library, log, sessions, control } = parts;
-        let library = Library { library, log, sessions, control };
+        let library = Library::put_together(parts);
         library.view().check()?;
         Ok(library)
     }
 
-    /// The library's parts, to be stored.
+    // Nothing is tested.
+    fn put_together(parts: Parts) -> Library {
+        let Parts { library, log, sessions, control } = parts;
+        Library { library, log, sessions, control }
+    }
+
+    /// The library's parts, to be saved; [`load`](Library::load) takes them up again.
     pub fn into_parts(self) -> Parts {
         let Library { library, log, sessions, control } = self;
         Parts { library, log, sessions, control }

@@ -60,7 +60,30 @@ impl Memory<'_> {
         Ok(())
     }
 
-    /// Tests lengths and layout alone, as every call but setup does first. Whether a copy is what the log makes is not tested.
+    /// Loads a system that was saved: tests memory and control as they were read back, and changes nothing. Returns the count of commits.
+    /// Call it once, before any other call on such memory: [`Library::load`](crate::Library::load) tells what is tested.
+    ///
+    /// ```
+    /// use sulyobak::{Library, Operation, Refusal, Title};
+    ///
+    /// # fn main() -> Result<(), Box<dyn std::error::Error>> {
+    /// let mut library = Library::new(1, &[1])?;
+    /// library.commit(1, &[Operation::New { cart: 7, title: Title::new("Top hour A")?, audio: 501, milliseconds: 8_000 }])?;
+    /// let memory = library.memory();
+    /// assert_eq!(memory.load(), Ok(1));
+    ///
+    /// memory.library[80 * 6 + 4] += 1; // another audio number in the head end's cart 7
+    /// assert_eq!(memory.check(), Ok(()), "it is of the layout");
+    /// assert_eq!(memory.load(), Err(Refusal::NotWhole));
+    /// # Ok(())
+    /// # }
+    /// ```
+    pub fn load(&self) -> Result<u32, Refusal> {
+        self.view().load()
+    }
+
+    /// Tests lengths and layout alone, as every call but setup does first. Whether a copy is what the log makes is not tested: for memory
+    /// that was saved call [`load`](Memory::load).
     pub fn check(&self) -> Result<(), Refusal> {
         self.view().check()
     }

@@ -17,6 +17,11 @@ impl View<'_> {
         self.unchanged(answer).map(|_| ())
     }
 
+    pub(crate) fn load(&self) -> Result<u32, Refusal> {
+        let answer = call!(as_ptr, sulyobak_load, self, *self.control);
+        self.unchanged(answer)
+    }
+
     pub(crate) fn preview(&self, session: u32, operations: &[u8]) -> Result<u32, Refusal> {
         let answer = call!(as_ptr, sulyobak_preview, self, *self.control, session, operations.as_ptr(), operations.len());
         self.unchanged(answer)
