@@ -1,9 +1,11 @@
 /*
- * Stores a system in a file and takes it up again, as a program does that is stopped and started.
+ * Saves a system to a file and takes it up again, as a program does that is stopped and started.
  *
- * The file is written anew beside the old one, synced, renamed over it, and the folder is synced: whenever the machine stops, the file holds
- * the old system whole or the new one whole. It has the version, the 27 words of control and the three memories, numbers little-endian
- * (examples/rust/restart.rs writes the same). Loading tests version, length and layout before anything is taken over.
+ * The file is written anew beside the old one, synced, renamed over it, and the folder is synced: whenever the machine stops, the file
+ * holds the old system whole or the new one whole. It has the version, the 27 words of control and the three memories, numbers
+ * little-endian (examples/rust/restart.rs writes the same). Version and length are tested, and all the rest by sulyobak_load, before
+ * anything is taken over. A read that waited before the stop is collected after the start. Then come files that are damaged, and files that
+ * are torn, as by a program that writes each part in its place and is stopped in between: what load tells of each, and what it cannot.
  *
  * Usage: restart FILE
  */
@@ -130,7 +132,7 @@ static size_t read_whole(const char *file)
 static int load(station *to, const char *file)
 {
     static station loaded;
-    sulyobak_answer tested;
+    sulyobak_answer answer;
     unsigned i;
     size_t size = read_whole(file);
     uint32_t version = size < 4 ? 0 : sulyobak_get(bytes, 4);
@@ -147,9 +149,9 @@ static int load(station *to, const char *file)
     memcpy(loaded.library, bytes + LIBRARY_AT, sizeof loaded.library);
     memcpy(loaded.log, bytes + LOG_AT, sizeof loaded.log);
     memcpy(loaded.sessions, bytes + SESSIONS_AT, sizeof loaded.sessions);
-    tested = sulyobak_layout(MEMORY(&loaded), loaded.control);
-    if (tested.kind == SULYOBAK_REFUSED) {
-        printf("not loaded: %s\n", sulyobak_refusal_sentence(tested.value));
+    answer = sulyobak_load(MEMORY(&loaded), loaded.control);
+    if (answer.kind == SULYOBAK_REFUSED) {
+        printf("not loaded: %s\n", sulyobak_refusal_sentence(answer.value));
         return 0;
     }
     *to = loaded;
@@ -169,10 +171,10 @@ static void work(station *s)
     s->control = sulyobak_read(MEMORY(s), s->control, EDITOR, request, sizeof request, output, sizeof output).control;
 }
 
-/* The work after the start: the transaction is sent and applied, and the waiting read is collected. */
+/* The work after the start: the transaction is sent and applied, the waiting read is collected, and the editor re-cuts the jingle. */
 static void work_on(station *s)
 {
-    uint8_t cart[SULYOBAK_CART_SIZE];
+    uint8_t cart[SULYOBAK_CART_SIZE], operation[SULYOBAK_OPERATION_SIZE];
     char title[SULYOBAK_TITLE_MOST + 1];
     sulyobak_answer answer;
     s->control = sulyobak_send(MEMORY(s), s->control, STUDIO).control;
@@ -182,9 +184,14 @@ static void work_on(station *s)
     must(answer.kind == SULYOBAK_ANSWERED && answer.found == 1, "the read is not answered");
     sulyobak_title(cart, title);
     printf("collected at state %u: cart %u, %s\n", (unsigned)answer.value, (unsigned)sulyobak_cart_number(cart), title);
+    must(sulyobak_operation_recut(operation, JINGLE, 502, 9000) == SULYOBAK_MADE, "the operation");
+    answer = sulyobak_commit(MEMORY(s), s->control, EDITOR, operation, sizeof operation);
+    s->control = answer.control;
+    must(answer.kind == SULYOBAK_DONE, "the commit is refused");
+    printf("committed after the restart: %u\n", (unsigned)answer.value);
 }
 
-/* Stores the station with one byte changed, or cut to a size. */
+/* Saves the station with one byte changed, or cut to a size. */
 static void save_changed(const station *from, const char *file, size_t at, uint8_t value, size_t size)
 {
     put_station(from);
@@ -192,7 +199,7 @@ static void save_changed(const station *from, const char *file, size_t at, uint8
     write_whole(file, size);
 }
 
-/* Stores the station so, and sees that it is not loaded. */
+/* Saves the station so, and sees that it is not loaded. */
 static void try_damaged(station *s, const char *file, const char *what, size_t at, uint8_t value, size_t size)
 {
     printf("%s: ", what);
@@ -200,29 +207,67 @@ static void try_damaged(station *s, const char *file, const char *what, size_t a
     must(!load(s, file), "a damaged file was loaded");
 }
 
+/* Saves parts of before the restart and of after it as one file, and sees that it is not loaded. */
+static void try_torn(const char *file, const char *what, const station *library, const station *log, const station *rest)
+{
+    static station torn;
+    printf("%s: ", what);
+    torn = *rest;
+    memcpy(torn.library, library->library, sizeof torn.library);
+    memcpy(torn.log, log->log, sizeof torn.log);
+    save(&torn, file);
+    must(!load(&torn, file), "a torn file was loaded");
+}
+
+/* What load cannot tell: sessions of before the restart could be those of after it. Their reads then go by the numbers of before. */
+static void load_older_sessions(const station *before, const station *after, const char *file)
+{
+    static station torn;
+    unsigned older, number = sulyobak_session_number(sulyobak_session_at(after->sessions, EDITOR));
+    torn = *after;
+    memcpy(torn.sessions, before->sessions, sizeof torn.sessions);
+    save(&torn, file);
+    must(load(&torn, file), "the file was not loaded");
+    older = sulyobak_session_number(sulyobak_session_at(torn.sessions, EDITOR));
+    printf("sessions of before, the rest of after: loaded (it cannot be told): session %d has number %u, not %u\n", EDITOR, older, number);
+}
+
+/* Files that are not what was saved. */
+static void try_files(station *before, station *after, const char *file)
+{
+    try_damaged(after, file, "a byte of a cart damaged", LIBRARY_AT, 9, FILE_SIZE);
+    try_damaged(after, file, "a letter of a title damaged", LIBRARY_AT + SULYOBAK_CART_SIZE * (JINGLE - 1) + 16, 'H', FILE_SIZE);
+    try_damaged(after, file, "another version", 0, SULYOBAK_VERSION + 1, FILE_SIZE);
+    try_damaged(after, file, "the last byte missing", 0, SULYOBAK_VERSION, FILE_SIZE - 1);
+    try_torn(file, "library of before, log and control of after", before, after, after);
+    try_torn(file, "library of after, log and control of before", after, before, before);
+    try_torn(file, "log of before, library and control of after", after, before, after);
+    load_older_sessions(before, after, file);
+}
+
 int main(int count, char **words)
 {
-    static station before, after;
+    static station before, after, again;
     const uint8_t *editor = sulyobak_session_at(after.sessions, EDITOR);
     must(count == 2, "usage: restart FILE");
     must(sulyobak_version() == SULYOBAK_VERSION, "the linked library is of another version than the header");
     work(&before);
     save(&before, words[1]);
-    printf("stored: commits %u, applied %u\n", (unsigned)before.control.commits, (unsigned)before.control.applied[STUDIO - 1]);
+    printf("saved: commits %u, applied %u\n", (unsigned)before.control.commits, (unsigned)before.control.applied[STUDIO - 1]);
 
     must(load(&after, words[1]), "the file was not loaded");
-    must(memcmp(&before, &after, sizeof after) == 0, "what was loaded is not what was stored");
-    printf("loaded: commits %u, session %d waits for %u\n", (unsigned)after.control.commits, EDITOR, (unsigned)sulyobak_session_number(editor));
+    must(memcmp(&before, &after, sizeof after) == 0, "what was loaded is not what was saved");
+    printf("loaded: commits %u, session %d waits for %u\n", (unsigned)after.control.commits, EDITOR,
+           (unsigned)sulyobak_session_number(editor));
     work_on(&after);
 
-    try_damaged(&after, words[1], "a byte of a cart damaged", LIBRARY_AT, 9, FILE_SIZE);
-    try_damaged(&after, words[1], "another version", 0, SULYOBAK_VERSION + 1, FILE_SIZE);
-    try_damaged(&after, words[1], "the last byte missing", 0, SULYOBAK_VERSION, FILE_SIZE - 1);
+    try_files(&before, &after, words[1]);
     save_changed(&after, words[1], 0, OLDEST, FILE_SIZE);
-    must(load(&before, words[1]), "a file of an older version with this layout was not loaded");
+    must(load(&again, words[1]), "a file of an older version with this layout was not loaded");
     printf("version %d: loaded\n", OLDEST);
     save(&after, words[1]);
-    must(load(&before, words[1]), "the file was not loaded");
-    printf("stored and loaded again: applied %u\n", (unsigned)before.control.applied[STUDIO - 1]);
+    must(load(&again, words[1]), "the file was not loaded");
+    printf("saved and loaded again: commits %u, applied %u\n", (unsigned)again.control.commits,
+           (unsigned)again.control.applied[STUDIO - 1]);
     return 0;
 }

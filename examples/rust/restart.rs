@@ -1,13 +1,17 @@
-//! Stores a system in a file and takes it up again, as a program does that is stopped and started.
+//! Saves a system to a file and takes it up again, as a program does that is stopped and started.
 //!
 //! The file is written anew beside the old one, synced, renamed over it, and the folder is synced: whenever the machine stops, the file
 //! holds the old system whole or the new one whole. It has the version, the 27 words of control and the three memories, numbers
-//! little-endian (`examples/c/restart.c` writes the same). Loading tests version, length and layout before anything is taken over.
+//! little-endian (`examples/c/restart.c` writes the same). Version and length are tested, and all the rest by `Library::load`, before
+//! anything is taken over. A read that waited before the stop is collected after the start. Then come files that are damaged, and files
+//! that are torn, as by a program that writes each part in its place and is stopped in between: what load tells of each, and what it
+//! cannot.
 //!
 //! Usage: `restart FILE`
 use std::error::Error;
 use std::fs::{self, File};
 use std::io::Write;
+use std::ops::Range;
 use std::path::Path;
 use sulyobak::{sizes, Control, Library, Operation, Parts, Read, Request, Title, VERSION};
 
@@ -72,7 +76,7 @@ fn load(path: &Path) -> Result<Library, Box<dyn Error>> {
         applied: std::array::from_fn(|_| word()),
     };
     let (library, log, sessions) = (bytes[LIBRARY..LOG].into(), bytes[LOG..SESSIONS].into(), bytes[SESSIONS..].into());
-    Ok(Library::from_parts(Parts { library, log, sessions, control })?)
+    Ok(Library::load(Parts { library, log, sessions, control })?)
 }
 
 // The work before the stop: a jingle is committed, and its editor's read waits.
@@ -84,7 +88,7 @@ fn work() -> Result<Library, Box<dyn Error>> {
     Ok(library)
 }
 
-// The work after the start: the transaction is sent and applied, and the waiting read is collected.
+// The work after the start: the transaction is sent and applied, the waiting read is collected, and the editor re-cuts the jingle.
 fn work_on(library: &mut Library) -> Result<(), Box<dyn Error>> {
     library.send(STUDIO)?;
     library.refresh(STUDIO)?;
@@ -93,16 +97,18 @@ fn work_on(library: &mut Library) -> Result<(), Box<dyn Error>> {
             println!("collected at state {state}: {cart}");
         }
     }
+    let number = library.commit(EDITOR, &[Operation::Recut { cart: JINGLE, audio: 502, milliseconds: 9_000 }])?;
+    println!("committed after the restart: {number}");
     Ok(())
 }
 
-// Stores the library with its bytes changed, and sees that it is not loaded.
+// Saves the library with its bytes changed, and sees that it is not loaded.
 fn try_damaged(library: &Library, path: &Path, what: &str, change: impl Fn(&mut Vec<u8>)) -> Result<(), Box<dyn Error>> {
     let mut bytes = to_bytes(library);
     change(&mut bytes);
     write_whole(path, &bytes)?;
     match load(path) {
-        Ok(_) => Err("a damaged file was loaded".into()),
+        Ok(_) => Err("a damaged or torn file was loaded".into()),
         Err(error) => {
             println!("{what}: not loaded: {error}");
             Ok(())
@@ -110,29 +116,52 @@ fn try_damaged(library: &Library, path: &Path, what: &str, change: impl Fn(&mut 
     }
 }
 
+// Files that are damaged, or have parts of before the restart and of after it.
+fn try_files(before: &Library, after: &Library, path: &Path) -> Result<(), Box<dyn Error>> {
+    let letter = LIBRARY + sizes::CART * (usize::from(JINGLE) - 1) + 16;
+    try_damaged(after, path, "a byte of a cart damaged", |bytes| bytes[LIBRARY] = 9)?;
+    try_damaged(after, path, "a letter of a title damaged", |bytes| bytes[letter] = b'H')?;
+    try_damaged(after, path, "another version", |bytes| bytes[0] += 1)?;
+    try_damaged(after, path, "the last byte missing", |bytes| bytes.truncate(END - 1))?;
+
+    let (then, now) = (to_bytes(before), to_bytes(after));
+    let put = |bytes: &mut Vec<u8>, part: Range<usize>, from: &[u8]| bytes[part.clone()].copy_from_slice(&from[part]);
+    try_damaged(after, path, "library of before, log and control of after", |bytes| put(bytes, LIBRARY..LOG, &then))?;
+    try_damaged(before, path, "library of after, log and control of before", |bytes| put(bytes, LIBRARY..LOG, &now))?;
+    try_damaged(after, path, "log of before, library and control of after", |bytes| put(bytes, LOG..SESSIONS, &then))?;
+
+    // What load cannot tell: sessions of before could be those of after. Their reads then go by the numbers of before.
+    let mut bytes = now.clone();
+    put(&mut bytes, SESSIONS..END, &then);
+    write_whole(path, &bytes)?;
+    load(path)?;
+    let [older, number] = [&bytes, &now].map(|bytes| u16::from_le_bytes([bytes[SESSIONS + 2], bytes[SESSIONS + 3]]));
+    println!("sessions of before, the rest of after: loaded (it cannot be told): session {EDITOR} has number {older}, not {number}");
+    Ok(())
+}
+
 fn main() -> Result<(), Box<dyn Error>> {
     let word = std::env::args_os().nth(1).ok_or("usage: restart FILE")?;
     let path = Path::new(&word);
     let before = work()?;
     save(&before, path)?;
-    println!("stored: commits {}, applied {}", before.control().commits, before.control().applied[0]);
+    println!("saved: commits {}, applied {}", before.control().commits, before.control().applied[0]);
 
     let mut after = load(path)?;
     if after != before {
-        return Err("what was loaded is not what was stored".into());
+        return Err("what was loaded is not what was saved".into());
     }
     println!("loaded: {after:?}");
     work_on(&mut after)?;
 
-    try_damaged(&after, path, "a byte of a cart damaged", |bytes| bytes[LIBRARY] = 9)?;
-    try_damaged(&after, path, "another version", |bytes| bytes[0] += 1)?;
-    try_damaged(&after, path, "the last byte missing", |bytes| bytes.truncate(END - 1))?;
+    try_files(&before, &after, path)?;
     let mut bytes = to_bytes(&after);
     bytes[..CONTROL].copy_from_slice(&OLDEST.to_le_bytes());
     write_whole(path, &bytes)?;
     load(path)?;
     println!("version {OLDEST}: loaded");
     save(&after, path)?;
-    println!("stored and loaded again: applied {}", load(path)?.control().applied[0]);
+    let again = load(path)?;
+    println!("saved and loaded again: commits {}, applied {}", again.control().commits, again.control().applied[0]);
     Ok(())
 }
