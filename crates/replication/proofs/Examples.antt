@@ -6,13 +6,14 @@ use Prim.Native.Nat.{ℕ}
 use lib.ListN.{set, replicate}
 use Rattle.carts.specs.Bytes.{zeros, u16, u32, u16Bytes, u16s, within, all, every, any, allZero, pairwise, parts}
 use Rattle.carts.specs.Cart.{cartAt, printable, titleForm, hasTitle, noTitle, hasAudio, noAudio, held}
-use Rattle.carts.specs.Operation.{operationFields, operationForm, spaced, operationsOf, made, meetsCart, effect, actedOn, meets, act, meetsAll}
+use Rattle.carts.specs.Operation.{operationFields, operationForm, spaced, operationsOf, made, meetsCart, effect, actedOn, meets, act, meetsAll, actAll}
+use Rattle.carts.specs.Transaction.{metFrom, metAll}
 use Rattle.carts.proofs.Samples.{u32Bytes, operation, newCart, withdrawCart, topHourA, news, longTitle}
 use Rattle.replication.specs.Memory.{recordAt, withRecord, sessionAt, withSession, sequenceOf, withSequence, studioOf}
 use Rattle.replication.specs.Log.{nextOperation, nextTransaction, chain, recordsOf, walk, logRecords, ownForm, transactionsForm, firstRecord, upFrom, filledUpward, freeRecords, noRoom, front, writeAll, linked, appended}
 use Rattle.replication.specs.Request.{nothing, byNumbers, byTitle, numbersIn, requestOf, numbersForm, requestFields, requestForm, isWaiting, needed}
 use Rattle.replication.specs.Layout.{waitingForm, sessionForm, sessionFormOf, countsForm}
-use Rattle.replication.specs.Rows.{stopped, setupRows, sessionRow, studioRow, sizeForm, commitRows, sendRows, refreshRows, readRows, collectRows, moveRows}
+use Rattle.replication.specs.Rows.{stopped, setupRows, sessionRow, studioRow, sizeForm, commitRows, sendRows, refreshRows, readRows, collectRows, moveRows, loadRows}
 use Rattle.replication.specs.Calls.{controlOf, toldSessions, committed, withSent, withApplied}
 use Rattle.replication.specs.declared.control.Control.{Control}
 use Rattle.replication.proofs.Samples.{filled, pairs, askNumbers, askTitle}
@@ -76,9 +77,13 @@ pub record RowOrder : Type 0 where
   move-4 : stopped (moveRows 1 1 (byTitle topHourA) 2 2) ≡ 4
   move-passes : stopped (moveRows 1 1 nothing 2 2) ≡ 0
   move-here : stopped (moveRows 16 2 nothing 2 2) ≡ 0
+  load-empty : stopped (loadRows true []) ≡ 0
+  load-copy : stopped (loadRows false []) ≡ 19
+  load-passes : stopped (loadRows true (operationsOf A ∷ [])) ≡ 0
+  load-twice : stopped (loadRows true (operationsOf A ∷ operationsOf A ∷ [])) ≡ 19
 
 pub row-order : RowOrder
-unfolding A B none one zeros u16 u32 u16Bytes u16s within all every any allZero parts cartAt printable titleForm hasTitle noTitle hasAudio noAudio held operationFields operationForm spaced operationsOf made meetsCart effect actedOn meets act meetsAll u32Bytes operation newCart topHourA news noRoom numbersIn requestOf numbersForm requestFields requestForm isWaiting needed stopped setupRows sessionRow studioRow sizeForm commitRows sendRows refreshRows readRows collectRows moveRows filled pairs askNumbers askTitle
+unfolding A B none one zeros u16 u32 u16Bytes u16s within all every any allZero parts cartAt printable titleForm hasTitle noTitle hasAudio noAudio held operationFields operationForm spaced operationsOf made meetsCart effect actedOn meets act meetsAll actAll metFrom metAll u32Bytes operation newCart topHourA news noRoom numbersIn requestOf numbersForm requestFields requestForm isWaiting needed stopped setupRows sessionRow studioRow sizeForm commitRows sendRows refreshRows readRows collectRows moveRows loadRows filled pairs askNumbers askTitle
 row-order = record {
   setup-studios = refl;
   setup-none = refl;
@@ -123,6 +128,10 @@ row-order = record {
   move-4 = refl;
   move-passes = refl;
   move-here = refl;
+  load-empty = refl;
+  load-copy = refl;
+  load-passes = refl;
+  load-twice = refl;
 }
 
 -- control of two studios with session 1 at studio 1, 3 commits
