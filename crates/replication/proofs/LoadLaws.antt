@@ -58,20 +58,23 @@ up-end p n i h = let q : n - i ≡ 0 = omega arith in rw q
 studios-at : (p : ℕ → Bool) (n : ℕ) → every p (upFrom 1 n) ≡ true → (i : ℕ) → 1 ≤ i → i ≤ n → p i ≡ true
 studios-at p n h i l g = every-upFrom p 1 n h i l (omega arith)
 
--- a studio: it has applied another number, or its copy is compared; all of them
-module _ (c : Control) (library copy : List ℕ) (n : ℕ) where
-  pub level-other : (i v : ℕ) → v ≡ nth (c .applied) i → (v ≡ n → ⊥) → true ≡ isLevel c library copy n i
+-- a studio: it has applied another number, or its copy is compared
+module _ (library copy : List ℕ) (n applied i : ℕ) where
+  pub level-other : (applied ≡ n → ⊥) → true ≡ isLevel library copy n applied i
   unfolding isLevel
-  level-other i v e ne = rw (ne-eqb (nth (c .applied) i) n (λ z. ne (e ∙ z)))
+  level-other ne = rw (ne-eqb applied n ne)
 
-  pub level-here : (i v : ℕ) → v ≡ nth (c .applied) i → v ≡ n → (same : Bool) → same ≡ pairwise eqb (take (10240 * i + 10240 - 10240 * i) (drop (10240 * i) library)) copy
-      → same ≡ isLevel c library copy n i
+  pub level-here : applied ≡ n → (same : Bool) → same ≡ pairwise eqb (take (10240 * i + 10240 - 10240 * i) (drop (10240 * i) library)) copy → same ≡ isLevel library copy n applied i
   unfolding isLevel copyAt
-  level-here i v e z same q = rw (eq-eqb (nth (c .applied) i) n (sym e ∙ z)) (q ∙ rw (add-sub-cancel-left (10240 * i) 10240))
+  level-here e same q = rw (eq-eqb applied n e) (q ∙ rw (add-sub-cancel-left (10240 * i) 10240))
 
-  pub level-studios : areLevel c library copy n ≡ every (isLevel c library copy n) (upFrom (0 + 1) (c .studios - 0))
-  unfolding areLevel
-  level-studios = let z : c .studios - 0 ≡ c .studios = omega arith in rw z
+-- all of them
+abbrev pub levelAt : Control → List ℕ → List ℕ → ℕ → ℕ → Bool
+levelAt c library copy n i = isLevel library copy n (nth (c .applied) i) i
+
+pub level-studios : (c : Control) (library copy : List ℕ) (n : ℕ) → areLevel c library copy n ≡ every (levelAt c library copy n) (upFrom (0 + 1) (c .studios - 0))
+unfolding areLevel
+level-studios c library copy n = let z : c .studios - 0 ≡ c .studios = omega arith in rw z
 
 -- a walk with transactions left: the records of the next one can act on a copy, and those of the others
 module _ (log : List ℕ) (left r : ℕ) (h : 0 < left) where
@@ -108,13 +111,13 @@ module _ (c : Control) (library log : List ℕ) (size : length log ≡ 40960) wh
   -- studio i has this copy, where it has applied n transactions
   level-at : (copy : List ℕ) (n : ℕ) → areLevel c library copy n ≡ true → (i : ℕ) → 1 ≤ i → i ≤ c .studios → nth (c .applied) i ≡ n → copyAt library i ≡ copy
   unfolding areLevel isLevel
-  level-at copy n h i l g e = pairwise-eq _ _ (rw (eq-eqb _ _ e) at (studios-at (isLevel c library copy n) (c .studios) h i l g))
+  level-at copy n h i l g e = pairwise-eq _ _ (rw (eq-eqb _ _ e) at (studios-at (levelAt c library copy n) (c .studios) h i l g))
 
   at-level : (copy : List ℕ) (n : ℕ) → ((i : ℕ) → 1 ≤ i → i ≤ c .studios → nth (c .applied) i ≡ n → copyAt library i ≡ copy) → areLevel c library copy n ≡ true
   unfolding areLevel isLevel
-  at-level copy n h = upFrom-every (isLevel c library copy n) 1 (c .studios) (λ i l g. go i l (omega arith) (ℕ-discrete (nth (c .applied) i) n))
+  at-level copy n h = upFrom-every (levelAt c library copy n) 1 (c .studios) (λ i l g. go i l (omega arith) (ℕ-discrete (nth (c .applied) i) n))
     where
-      go : (i : ℕ) → 1 ≤ i → i ≤ c .studios → Dec (nth (c .applied) i ≡ n) → isLevel c library copy n i ≡ true
+      go : (i : ℕ) → 1 ≤ i → i ≤ c .studios → Dec (nth (c .applied) i ≡ n) → levelAt c library copy n i ≡ true
       go i l g (yes e) = rw (eq-eqb _ _ e, h i l g e) (pairwise-refl copy)
       go i l g (no e) = rw (ne-eqb _ _ e)
 

@@ -76,12 +76,12 @@ forwardSource c d = cond (leb (d .number) (d .state)) (studioSource d) (primaryS
 abbrev pub answerBy : Source → Request → Control → Memory → ℕ → List ℕ → List ℕ → After
 answerBy v q c m s x out = answerFrom (v .state) (copyAt (m .library) (v .copy)) q c m s (v .next) x out
 
--- S-8: studio i, if it has applied n transactions, has this copy; each studio 1 to S
-unfoldable pub isLevel : Control → List ℕ → List ℕ → ℕ → ℕ → Bool
-isLevel c library copy n i = let same = pairwise eqb (copyAt library i) copy in cond (eqb (nth (c .applied) i) n) same true
+-- S-8: studio i has this copy, if what it has applied is n; each studio 1 to S
+unfoldable pub isLevel : List ℕ → List ℕ → ℕ → ℕ → ℕ → Bool
+isLevel library copy n applied i = let same = pairwise eqb (copyAt library i) copy in cond (eqb applied n) same true
 
 unfoldable pub areLevel : Control → List ℕ → List ℕ → ℕ → Bool
-areLevel c library copy n = every (isLevel c library copy n) (upFrom 1 (c .studios))
+areLevel c library copy n = every (λ i. isLevel library copy n (nth (c .applied) i) i) (upFrom 1 (c .studios))
 
 -- S-8: the rest of load's walk, `left` transactions from record r on, after n of them have made `copy`
 unfoldable pub wholeFrom : Control → List ℕ → List ℕ → ℕ → ℕ → ℕ → List ℕ → Bool

@@ -21,12 +21,12 @@ ghost use Rattle.replication.specs.Rows.{loadStop};
 ghost use Rattle.replication.specs.Calls.{after, load};
 ghost use Rattle.replication.specs.Values.{usable, walkable, isLevel, areLevel, wholeFrom};
 
-// Studio i, if it has applied n transactions, has this copy.
-fn is_level(control: Control, library: &[u8], copy: &[u8], n: u32, i: u32) -> bool
-    requires { ⌜ (length (now library) ≡ librarySize) × ((length (now copy) ≡ copySize) × ((1 ≤ i) × (i ≤ studioCount))) ⌝ }
-    ensures { λ r. ⌜ r ≡ isLevel control (now (library .entry)) (now (copy .entry)) n i ⌝ }
+// Studio i has this copy, if what it has applied is n.
+fn is_level(library: &[u8], copy: &[u8], n: u32, applied: u32, i: u32) -> bool
+    requires { ⌜ (length (now library) ≡ librarySize) × ((length (now copy) ≡ copySize) × (i ≤ studioCount)) ⌝ }
+    ensures { λ r. ⌜ r ≡ isLevel (now (library .entry)) (now (copy .entry)) n applied i ⌝ }
 {
-    if control.applied_by(i) != n {
+    if applied != n {
         return true;
     }
     let start = Cart::COPY_SIZE * (i as usize);
@@ -43,8 +43,9 @@ fn are_level(control: Control, library: &[u8], copy: &[u8], n: u32) -> bool
     let mut ok = true;
     let mut i: u32 = 0;
     while i < studios {
+        let applied = control.applied[i as usize];
         i += 1;
-        ok &= is_level(control, library, copy, n, i);
+        ok &= is_level(library, copy, n, applied, i);
     }
     ok
 }

@@ -1,16 +1,10 @@
-use mathlib.Core.Path.{_≡_, ap, sym, _∙_}
-use native.Mathlib.Omega.{arith}
 use borrow.Author.Needs.{needs}
-use Rattle.replication.proofs.LayoutLaws.{length-lent}
 use Rattle.replication.proofs.LoadLaws.{level-other, level-here}
 use Rattle.replication.proofs.load.is_level.Statement.{statement}
 use Rattle.replication.proofs.load.is_level.Tie as tie
 
-applied-by-requires : tie.Need-applied-by-requires
-applied-by-requires c κs = search needs
-
 returns : tie.Need-returns
-returns c = level-other _ _ _ _ _ _ (c .before .applied-by .ensures) (c .if1 .taken)
+returns c = level-other _ _ _ _ _ (c .if1 .taken)
 
 mul-start : tie.Need-mul-start
 mul-start c = search needs
@@ -31,13 +25,12 @@ are-equal-requires : tie.Need-are-equal-requires
 are-equal-requires c κs = search needs
 
 returns-2 : tie.Need-returns-2
-returns-2 c = level-here _ _ _ _ _ _ (c .before .before .before .applied-by .ensures) (c .before .before .if1 .left) _ (c .are-equal .ensures)
+returns-2 c = level-here _ _ _ _ _ (c .before .before .if1 .left) _ (c .are-equal .ensures)
 
 pub is-level-spec : {M : Type 1} → statement M
 is-level-spec =
     tie.close
     (tie.spec
-    applied-by-requires
     returns
     mul-start
     add-end
