@@ -8,7 +8,7 @@ ghost use Prim.Native.Nat.{_≤_, _/_};
 ghost use lib.ListN.{length};
 ghost use lib.Dec.{eqb};
 ghost use Rattle.carts.specs.Bytes.{zeros, byte, every, any, parts};
-ghost use Rattle.carts.specs.Cart.{cartSize, cartCount, copySize, cartNumber, cartAt, held};
+ghost use Rattle.carts.specs.Cart.{cartSize, cartCount, titleSize, copySize, cartNumber, cartAt, held};
 ghost use Rattle.carts.specs.Operation.{isNew, isWithdraw, operationFields, operationForm, spaced, operationsOf, made, retitled, recut, actedOn, meets, act, meetsAll, actAll};
 
 // The operation has the fields of its kind, as it is stored: bytes 12 to 15 are free.
@@ -90,6 +90,16 @@ pub fn meets(copy: &[u8], op: &[u8]) -> bool
     is_right_state(op[0], held)
 }
 
+// A title's 64 bytes become those of another: by way of an array, which overlaps neither, so that the compiler moves them in blocks.
+fn copy_title(title: &mut [u8], from: &[u8])
+    requires { ⌜ (length (now title) ≡ titleSize) × (length (now from) ≡ titleSize) ⌝ }
+    ensures { λ _. ⌜ now (title .exit) ≡ now (from .entry) ⌝ }
+{
+    let mut own = [0u8; Cart::TITLE_SIZE];
+    bytes::copy_all(&mut own, from);
+    bytes::copy_all(title, &own);
+}
+
 // New: the cart is held, with the operation's fields and title.
 fn make(cart: &mut [u8], op: &[u8])
     requires { ⌜ (length (now cart) ≡ cartSize) × (length (now op) ≡ cartSize) ⌝ }
@@ -97,7 +107,7 @@ fn make(cart: &mut [u8], op: &[u8])
 {
     cart[0] = 1;
     bytes::copy_all(&mut cart[1..Cart::LINKS_AT], &op[1..Cart::LINKS_AT]);
-    bytes::copy_all(
+    copy_title(
         &mut cart[Cart::TITLE_AT..Cart::SIZE],
         &op[Cart::TITLE_AT..Cart::SIZE],
     );
@@ -109,7 +119,7 @@ fn retitle(cart: &mut [u8], op: &[u8])
     ensures { λ _. ⌜ now (cart .exit) ≡ retitled (now (op .entry)) (now (cart .entry)) ⌝ }
 {
     cart[1] = op[1];
-    bytes::copy_all(
+    copy_title(
         &mut cart[Cart::TITLE_AT..Cart::SIZE],
         &op[Cart::TITLE_AT..Cart::SIZE],
     );

@@ -11,33 +11,33 @@ shared-slice-read-cart c = search needs
 slice-write-cart : tie.Need-slice-write-cart
 slice-write-cart c = search needs
 
-sub-copy-all : tie.Need-sub-copy-all
-sub-copy-all c = search needs
+sub-copy-title : tie.Need-sub-copy-title
+sub-copy-title c = search needs
 
-part-copy-all-start : tie.Need-part-copy-all-start
-part-copy-all-start c = search needs
+part-copy-title-start : tie.Need-part-copy-title-start
+part-copy-title-start c = search needs
 
-part-copy-all-end : tie.Need-part-copy-all-end
-part-copy-all-end c = simp length-set (omega arith)
+part-copy-title-end : tie.Need-part-copy-title-end
+part-copy-title-end c = simp length-set (omega arith)
 
-sub-copy-all-2 : tie.Need-sub-copy-all-2
-sub-copy-all-2 c = search needs
+sub-copy-title-2 : tie.Need-sub-copy-title-2
+sub-copy-title-2 c = search needs
 
-part-copy-all-start-2 : tie.Need-part-copy-all-start-2
-part-copy-all-start-2 c = search needs
+part-copy-title-start-2 : tie.Need-part-copy-title-start-2
+part-copy-title-start-2 c = search needs
 
-part-copy-all-end-2 : tie.Need-part-copy-all-end-2
-part-copy-all-end-2 c = search needs
+part-copy-title-end-2 : tie.Need-part-copy-title-end-2
+part-copy-title-end-2 c = search needs
 
-copy-all-requires : tie.Need-copy-all-requires
-copy-all-requires c κs = search needs
+copy-title-requires : tie.Need-copy-title-requires
+copy-title-requires c κs = search needs
 
 same-length : tie.Need-same-length
-same-length c = simp (length-append, c .before .before .copy-all .kept .0, length-take, length-drop, length-set) (omega arith)
+same-length c = simp (length-append, c .before .before .copy-title .kept .0, length-take, length-drop, length-set) (omega arith)
 
 returns : tie.Need-returns
 unfolding retitled
-returns c = rw (c .before .before .copy-all .ensures)
+returns c = rw (c .before .before .copy-title .ensures)
 
 pub retitle-spec : {M : Type 1} → statement M
 retitle-spec =
@@ -45,12 +45,12 @@ retitle-spec =
     (tie.spec
     shared-slice-read-cart
     slice-write-cart
-    sub-copy-all
-    part-copy-all-start
-    part-copy-all-end
-    sub-copy-all-2
-    part-copy-all-start-2
-    part-copy-all-end-2
-    copy-all-requires
+    sub-copy-title
+    part-copy-title-start
+    part-copy-title-end
+    sub-copy-title-2
+    part-copy-title-start-2
+    part-copy-title-end-2
+    copy-title-requires
     same-length
     returns)
