@@ -48,7 +48,7 @@ use Rattle.refinement.proofs.Setup as Setup
 use Rattle.refinement.proofs.Refused as Refused
 use Rattle.refinement.proofs.Preview as Preview
 use Rattle.refinement.proofs.Write as Write
-use Rattle.refinement.proofs.Unchanging.{call-between, call-leaves}
+use Rattle.refinement.proofs.Unchanging.{goes-on, call-between, call-leaves}
 use Rattle.refinement.proofs.Simulation as Simulation
 use Rattle.refinement.proofs.Load as Load
 use Rattle.refinement.proofs.Standing as Standing
@@ -231,6 +231,11 @@ module _ (r : After) (H K : List Call) where
   pub load-leaves : (afterCalls r (H ++ (Call.load ∷ K)) .control ≡ afterCalls r (H ++ K) .control)
       × (afterCalls r (H ++ (Call.load ∷ K)) .memory ≡ afterCalls r (H ++ K) .memory)
   load-leaves = call-leaves Call.load load-unchanging K H r
+
+-- A list K after a load, accepted or not, has the answers and outputs that it would have had without: what was saved whole and is loaded goes on as if it had never stopped.
+pub load-goes-on : (r : After) (K : List Call) → history (Bytes.load (r .control) (r .memory)) K ≡ history r K
+unfolding Bytes.callBy
+load-goes-on r K = let (c, m) = Load.load-unchanging (r .control) (r .memory) in goes-on K _ r c m
 
 -- WHAT LOAD ACCEPTS. Exactly the control and memory that stand for a state of the plain machine in which each logged operation met its cart (the record Stands), where control's arrays are as the
 -- code has them. What is of the layout and does not is refused by 19.

@@ -1,4 +1,4 @@
--- A call that changes neither control nor memory can be taken out of any list: preview, and the van's writer.
+-- A call that changes neither control nor memory can be taken out of any list: preview, the van's writer, and load.
 use mathlib.Core.Path.{_≡_, refl}
 use mathlib.Core.List.{List, [], _∷_, _++_}
 use Rattle.replication.specs.Memory.{Memory}
@@ -9,7 +9,7 @@ use Rattle.replication.specs.declared.control.Control.{Control}
 use Rattle.machine.specs.OneCopy.{event, history}
 
 -- a list goes on from control and memory alone, whatever was answered and shown before
-goes-on : (K : List Call) (r p : After) → r .control ≡ p .control → r .memory ≡ p .memory → history r K ≡ history p K
+pub goes-on : (K : List Call) (r p : After) → r .control ≡ p .control → r .memory ≡ p .memory → history r K ≡ history p K
 unfolding history run
 goes-on [] r p e f = refl
 goes-on (x ∷ K) r p e f = rw (e, f)
