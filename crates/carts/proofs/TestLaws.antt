@@ -15,6 +15,15 @@ and-left a b h = and-eq-true-iff a b .0 h .0
 pub and-right : (a b : Bool) → (a && b) ≡ true → b ≡ true
 and-right a b h = and-eq-true-iff a b .0 h .1
 
+pub and-both : (a b : Bool) → a ≡ true → b ≡ true → (a && b) ≡ true
+and-both a b f g = and-eq-true-iff a b .1 (f, g)
+
+-- two tests that hold of the same
+pub same-truth : (a b : Bool) → (a ≡ true → b ≡ true) → (b ≡ true → a ≡ true) → a ≡ b
+same-truth true b f g = sym (f refl)
+same-truth false true f g = g refl
+same-truth false false f g = refl
+
 -- none of two tests holds
 pub or-false-both : (a b : Bool) → (a || b) ≡ false → (a ≡ false) × (b ≡ false)
 or-false-both true b h = (h, absurd (false≢true (sym h)))

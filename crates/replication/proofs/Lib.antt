@@ -11,8 +11,10 @@ pub mod Examples
 pub mod Formed
 pub mod GrowLaws
 pub mod LayoutLaws
+pub mod LevelLaws
 pub mod LinkLaws
 pub mod LoadLaws
+pub mod LoadWalk
 pub mod MessageLaws
 pub mod MoveLaws
 pub mod Occurrences

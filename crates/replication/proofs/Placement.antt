@@ -1,8 +1,8 @@
 -- Today's placement of the log's records, "filled from 1 upward": they are distinct and of the log, and what the layout says of them
 -- as a list, before and after a commit.
-use Prim.Native.Nat.{ℕ, zero, suc, _+_, _*_, _≤_, _<_}
+use Prim.Native.Nat.{ℕ, zero, suc, _+_, _-_, _*_, _≤_, _<_}
 use mathlib.Core.Path.{_≡_, refl, sym, ap, _∙_}
-use mathlib.Core.Bool.{Bool, true, cond}
+use mathlib.Core.Bool.{Bool, true, cond, _&&_}
 use mathlib.Core.List.{List, [], _∷_, _++_, map}
 use native.Mathlib.Omega.{arith}
 use native.Mathlib.Decide.{ℕ-discrete}
@@ -59,6 +59,15 @@ every-upFrom p r (suc n) h q l g = go (every-upFrom p (r + 1) n (and-right (p r)
     go : (r + 1 ≤ q → q < r + 1 + n → p q ≡ true) → Dec (q ≡ r) → p q ≡ true
     go rec (yes e) = ap p e ∙ and-left (p r) (every p (upFrom (r + 1) n)) h
     go rec (no e) = rec (omega arith) (omega arith)
+
+-- the numbers from i + 1 to n by one test: the next of them, and the end
+pub up-next : (p : ℕ → Bool) (n i : ℕ) → i < n → every p (upFrom (i + 1) (n - i)) ≡ (p (i + 1) && every p (upFrom (i + 1 + 1) (n - (i + 1))))
+unfolding every upFrom
+up-next p n i h = let q : n - i ≡ suc (n - (i + 1)) = omega arith in rw q
+
+pub up-end : (p : ℕ → Bool) (n i : ℕ) → n ≤ i → every p (upFrom (i + 1) (n - i)) ≡ true
+unfolding every upFrom
+up-end p n i h = let q : n - i ≡ 0 = omega arith in rw q
 
 -- each of them occurs once
 count-before : (q r n : ℕ) → q < r → count q (upFrom r n) ≡ 0

@@ -7,7 +7,8 @@ use Rattle.carts.specs.Bytes.{every}
 use Rattle.carts.proofs.ScanLaws.{test-more, test-end}
 use Rattle.replication.specs.Log.{upFrom}
 use Rattle.replication.specs.Values.{isLevel, areLevel}
-use Rattle.replication.proofs.LoadLaws.{up-next, up-end, levelAt, level-studios}
+use Rattle.replication.proofs.Placement.{up-next, up-end}
+use Rattle.replication.proofs.LevelLaws.{levelAt, level-studios}
 use Rattle.replication.proofs.load.are_level.Statement.{statement}
 use Rattle.replication.proofs.load.are_level.Tie as tie
 

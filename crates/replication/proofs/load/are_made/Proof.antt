@@ -14,7 +14,7 @@ use Rattle.replication.specs.Values.{usable, walkable, areLevel, wholeFr
 use Rattle.replication.specs.declared.record.Record.{Record}
 use Rattle.carts.proofs.ScanLaws.{test-more, test-end}
 use Rattle.replication.proofs.WalkLaws.{walk-here, walk-later}
-use Rattle.replication.proofs.LoadLaws.{usable-own, usable-rest, whole-next, whole-end}
+use Rattle.replication.proofs.LoadWalk.{usable-own, usable-rest, whole-next, whole-end}
 use Rattle.replication.proofs.load.are_made.Statement.{statement}
 use Rattle.replication.proofs.load.are_made.Tie as tie
 

@@ -1,5 +1,5 @@
 use borrow.Author.Needs.{needs}
-use Rattle.replication.proofs.LoadLaws.{level-other, level-here}
+use Rattle.replication.proofs.LevelLaws.{level-other, level-here}
 use Rattle.replication.proofs.load.is_level.Statement.{statement}
 use Rattle.replication.proofs.load.is_level.Tie as tie
 
