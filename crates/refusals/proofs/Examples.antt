@@ -9,7 +9,8 @@ use Rattle.refusals.specs.Refusals.{leadOf, refusalText, noSessionText, 
 
 pub record Refusals : Type 0 where
   refused : refusalText false 9 ≡ bytesOf "  refused (9): every edit has been sent to this studio\n"
-  unnamed : refusalText false 19 ≡ bytesOf "  refused (19): unknown\n"
+  not-whole : refusalText false 19 ≡ bytesOf "  refused (19): a copy is not what the log's edits make, or an operation in the log met its cart in the wrong state\n"
+  unnamed : refusalText false 20 ≡ bytesOf "  refused (20): unknown\n"
   previewed : refusalText true 4 ≡ bytesOf "  would be refused (4): a read of this session is waiting; collect it first\n"
   spaced : refusalText true 16 ≡ bytesOf "  would be refused (16): the title begins or ends with a space\n"
   no-session : noSessionText true 17 ≡ bytesOf "  would be refused (3): there is no session 17, or it is unused\n"
@@ -23,6 +24,7 @@ pub refusals : Refusals
 unfolding digitsOf decimal countOf refusalSentence leadOf refusalText noSessionText noEditText aheadText atOperationText unreadableText
 refusals = record {
   refused = refl;
+  not-whole = refl;
   unnamed = refl;
   previewed = refl;
   spaced = refl;

@@ -28,7 +28,8 @@ refusalSentence n =
     (cond (eqb n 16) (bytesOf "the title begins or ends with a space")
     (cond (eqb n 17) (bytesOf "there is no such edit, or a message or the van's copy is out of form")
     (cond (eqb n 18) (bytesOf "the van has not applied the edit before this one")
-    (bytesOf "unknown"))))))))))))))))))
+    (cond (eqb n 19) (bytesOf "a copy is not what the log's edits make, or an operation in the log met its cart in the wrong state")
+    (bytesOf "unknown")))))))))))))))))))
 
 -- what is wrong with a line
 abbrev pub mistakeSentence : Mistake → List ℕ

@@ -71,7 +71,7 @@ fn put_to_15(out: &mut [u8], at: usize, n: u32) -> usize
     )
 }
 
-// What refusals 16 to 18 mean; 19 is given to no refusal yet.
+// What refusals 16 to 19 mean.
 fn put_to_19(out: &mut [u8], at: usize, n: u32) -> usize
     requires { ⌜ (at + 128 ≤ length (now out)) × (16 ≤ n) × (n < 20) ⌝ }
     ensures { λ r. ⌜ Put (refusalSentence n) (now (out .entry)) at (now (out .exit)) r × (r ≤ at + 128) ⌝ }
@@ -83,7 +83,7 @@ fn put_to_19(out: &mut [u8], at: usize, n: u32) -> usize
         b"the title begins or ends with a space",
         b"there is no such edit, or a message or the van's copy is out of form",
         b"the van has not applied the edit before this one",
-        b"unknown",
+        b"a copy is not what the log's edits make, or an operation in the log met its cart in the wrong state",
     )
 }
 

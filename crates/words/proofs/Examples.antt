@@ -5,7 +5,7 @@ use Rattle.carts.specs.Bytes.{within}
 use Rattle.carts.specs.Cart.{printable}
 use Rattle.lines.specs.Words.{bytesOf}
 use Rattle.words.specs.Page.{digitsOf, decimal, countOf, hexDigit, shownByte, shownTo, shown}
-use Rattle.words.specs.Answers.{freshText, previewedText, sentText, behindText, answeredText, headEndText, movedText, vanAppliedText, vanHoldsText}
+use Rattle.words.specs.Answers.{freshText, previewedText, sentText, behindText, answeredText, headEndText, movedText, wholeText, vanAppliedText, vanHoldsText}
 
 pub record Numbers : Type 0 where
   zero : decimal 0 ≡ bytesOf "0"
@@ -36,12 +36,14 @@ pub record Answers : Type 0 where
   answered-behind : answeredText 1 2 0 ≡ bytesOf "  answered at edit 1, 2 behind the head end, found 0:\n"
   by-head-end : headEndText 5 1 ≡ bytesOf "  answered by the head end at edit 5, found 1:\n"
   moved : movedText 1 2 ≡ bytesOf "  session 1 is at studio 2\n"
+  whole : wholeText 5 ≡ bytesOf "  the wall is whole at edit 5\n"
+  whole-fresh : wholeText 0 ≡ bytesOf "  the wall is whole at edit 0\n"
   van-applied : vanAppliedText 3 ≡ bytesOf "  the van has applied edit 3\n"
   van-holds : vanHoldsText 3 ≡ bytesOf "  the van holds edit 3 already\n"
   bytes-shown : shown (99 ∷ 9 ∷ 195 ∷ 10 ∷ []) ≡ bytesOf "c\t\\xC3\\x0A"
 
 pub answers : Answers
-unfolding within printable digitsOf decimal countOf hexDigit shownByte shownTo shown freshText previewedText sentText behindText answeredText headEndText movedText vanAppliedText vanHoldsText
+unfolding within printable digitsOf decimal countOf hexDigit shownByte shownTo shown freshText previewedText sentText behindText answeredText headEndText movedText wholeText vanAppliedText vanHoldsText
 answers = record {
   fresh = refl;
   previewed = refl;
@@ -50,6 +52,8 @@ answers = record {
   answered-behind = refl;
   by-head-end = refl;
   moved = refl;
+  whole = refl;
+  whole-fresh = refl;
   van-applied = refl;
   van-holds = refl;
   bytes-shown = refl;

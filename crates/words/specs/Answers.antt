@@ -58,6 +58,10 @@ severalText found = numbered "    " found ++ bytesOf " carts have this title, so
 unfoldable pub movedText : ℕ → ℕ → List ℕ
 movedText session studio = numbered "  session " session ++ numbered " is at studio " studio ++ bytesOf "\n"
 
+-- a load was accepted: the wall is tested, and it "returns commits" (02, S-8)
+unfoldable pub wholeText : ℕ → List ℕ
+wholeText n = numbered "  the wall is whole at edit " n ++ bytesOf "\n"
+
 -- the van "applies number applied + 1 and returns it", or "answers a number already applied as held" (02, S-6)
 unfoldable pub vanAppliedText : ℕ → List ℕ
 vanAppliedText n = numbered "  the van has applied edit " n ++ bytesOf "\n"

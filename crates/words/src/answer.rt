@@ -6,7 +6,7 @@ ghost use lib.ListN.{length};
 ghost use mathlib.Core.List.{_++_};
 ghost use Rattle.lines.specs.Words.{bytesOf};
 ghost use Rattle.words.specs.Page.{pageSize, Put, Told, decimal, numbered};
-ghost use Rattle.words.specs.Answers.{freshText, endedText, goesOnText, committedText, previewedText, sentText, appliedText, behindText, answeredText, headEndText, waitsText, untitledText, severalText, movedText, vanAppliedText, vanHoldsText};
+ghost use Rattle.words.specs.Answers.{freshText, endedText, goesOnText, committedText, previewedText, sentText, appliedText, behindText, answeredText, headEndText, waitsText, untitledText, severalText, movedText, wholeText, vanAppliedText, vanHoldsText};
 
 // A setup was accepted.
 pub fn fresh(out: &mut [u8], studios: u32) -> usize
@@ -151,6 +151,14 @@ pub fn moved(out: &mut [u8], session: u32, studio: u32) -> usize
 {
     let a = page::put_numbered(out, 0, b"  session ", session);
     page::put_between(out, a, b" is at studio ", studio, b"\n")
+}
+
+// A load was accepted: each copy is what the log's edits make.
+pub fn whole(out: &mut [u8], n: u32) -> usize
+    requires { ⌜ length (now out) ≡ pageSize ⌝ }
+    ensures { λ r. ⌜ Told (wholeText n) (now (out .entry)) (now (out .exit)) r ⌝ }
+{
+    page::put_between(out, 0, b"  the wall is whole at edit ", n, b"\n")
 }
 
 // The van has applied the edit of a message.
