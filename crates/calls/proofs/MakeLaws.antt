@@ -24,7 +24,7 @@ use Rattle.report.specs.declared.turn.Came.the-variants as Came
 use Rattle.lines.specs.Text.{partIn}
 use Rattle.journal.specs.Progress.{requestIn}
 use Rattle.lines.specs.declared.parse.Call.{Call}
-use Rattle.calls.specs.Make.{Told, setUp, committed, previewed, sentOrRefreshed, looked, shown, unread, nothing, unwritten, received, moved, told, Made, made, leaves, outputIn, leavesIn, askLeaves, readOrForward, readLeaves, collectLeaves, Left, beside, copyAfter, setupLeaves, Delivery, delivery, delivered, vanLeaves, lineLeaves}
+use Rattle.calls.specs.Make.{Told, setUp, committed, previewed, sentOrRefreshed, looked, shown, unread, nothing, unwritten, received, moved, loaded, told, Made, made, leaves, outputIn, leavesIn, askLeaves, readOrForward, readLeaves, collectLeaves, Left, beside, copyAfter, setupLeaves, Delivery, delivery, delivered, vanLeaves, lineLeaves}
 
 -- the code's case for an answer that it can give
 setupBy : Answer → SetupAnswer
@@ -68,6 +68,7 @@ cameBy nothing = Came.Nothing
 cameBy (unwritten a edit) = Came.Unwritten (rowIn a) edit
 cameBy (received a applied edit) = Came.Received (record { answer = receiveBy a; applied = applied }) edit
 cameBy (moved a session studio) = Came.Move (countBy a) session studio
+cameBy (loaded a) = Came.Load (countBy a)
 
 -- what came of a line is read back from what is told of it
 received-back : (a : ReceiveAnswer) → receiveBy (Received.receiveAnswer a) ≡ a
@@ -96,6 +97,8 @@ told-back (Came.Unwritten row edit) = refl
 told-back (Came.Received result edit) = ap (λ (a : ReceiveAnswer). Came.Received (record { answer = a; applied = result .applied }) edit) (received-back (result .answer))
 told-back (Came.Move (Count.Number n) session studio) = refl
 told-back (Came.Move (Count.Refused n) session studio) = refl
+told-back (Came.Load (Count.Number n)) = refl
+told-back (Came.Load (Count.Refused n)) = refl
 
 -- two things that came of lines and are told alike are the same
 pub told-once : (x y : Came) → told x ≡ told y → x ≡ y

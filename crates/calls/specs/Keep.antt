@@ -12,8 +12,8 @@ use Rattle.replication.specs.declared.control.Control.{Control}
 use Rattle.replication.specs.declared.answer.CountAnswer.the-variants as Count
 
 -- a call's answer, with the payload of a commit or the block of a read; a preview "has no entry in the one-copy order" (02,
--- S-1), also where it answers 8 (S-3), and a message and a move have none; a line that cannot be read is counted; any other line
--- changes nothing
+-- S-1), also where it answers 8 (S-3), and a message, a move and a load have none; a line that cannot be read is counted; any
+-- other line changes nothing
 unfoldable pub cameKept : Progress → Came → Control → List ℕ → List ℕ → List ℕ → List ℕ → Kept
 cameKept p (Came.Setup a studios) c payload block cells store = kept cells store (afterSetup p c a)
 cameKept p (Came.Commit a s n) c payload block cells store = afterCommit p c a s (partIn payload 0 (recordSize * n)) cells store
@@ -26,3 +26,4 @@ cameKept p Came.Nothing c payload block cells store = kept cells store p
 cameKept p (Came.Unwritten row edit) c payload block cells store = kept cells store (afterCount p c (Count.Refused row))
 cameKept p (Came.Received result edit) c payload block cells store = kept cells store (afterReceive p c (result .applied) (result .answer))
 cameKept p (Came.Move a s i) c payload block cells store = kept cells store (afterCount p c a)
+cameKept p (Came.Load a) c payload block cells store = kept cells store (afterCount p c a)

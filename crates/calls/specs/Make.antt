@@ -6,7 +6,7 @@ use Prim.Native.Nat.{ℕ, _+_, _*_, _-_}
 use Rattle.carts.specs.Bytes.{zeros, part, over}
 use Rattle.replication.specs.Answer.{Answer, refused, done, waits, answered, setupAnswer, countAnswer, readAnswer}
 use Rattle.replication.specs.Memory.{Memory, sessionCount, sessionSize, recordSize, mostOperations}
-use Rattle.replication.specs.Calls.{After, setup, commit, preview, send, refresh, read, collect, forward, write, move}
+use Rattle.replication.specs.Calls.{After, setup, commit, preview, send, refresh, read, collect, forward, write, move, load}
 use Rattle.replication.specs.declared.control.Control.{Control}
 use Rattle.van.specs.Message.{headSize}
 use Rattle.van.specs.Answer as Received
@@ -21,8 +21,8 @@ use Rattle.report.specs.declared.turn.Came.{Came}
 use Rattle.report.specs.declared.turn.Came.the-variants as Came
 
 -- what is told of a line: the answer and what its call named (studios; session and how many operations; studio and whether
--- it is a send; session; edit; session and studio), with the van's applied number after a message that was received, or that it made
--- no call
+-- it is a send; session; edit; session and studio; nothing), with the van's applied number after a message that was received, or that
+-- it made no call
 pub data Told : Type 0 where
   setUp : Answer → ℕ → Told
   committed : Answer → ℕ → ℕ → Told
@@ -35,6 +35,7 @@ pub data Told : Type 0 where
   unwritten : Answer → ℕ → Told
   received : Received.Answer → ℕ → ℕ → Told
   moved : Answer → ℕ → ℕ → Told
+  loaded : Answer → Told
 
 -- the code's cases, their answers as `Answer`; nothing is lost by it (proofs/MakeLaws.antt, `told-once`)
 abbrev pub told : Came → Told
@@ -49,6 +50,7 @@ told Came.Nothing = nothing
 told (Came.Unwritten row edit) = unwritten (refused row) edit
 told (Came.Received result edit) = received (Received.receiveAnswer (result .answer)) (result .applied) edit
 told (Came.Move a session studio) = moved (countAnswer a) session studio
+told (Came.Load a) = loaded (countAnswer a)
 
 -- what a line leaves of the system: what is told of it, control, the three memories, and the block of a read ([] where none is lent)
 pub record Made : Type 0 where
@@ -134,8 +136,8 @@ vanLeaves c m v edit block =
     let d = delivered v edit (w .output) (w .answer) in
     beside (d .copy) (made (d .told) (w .control) (w .memory) block)
 
--- a line's call, with its bytes at the start of the payload and the requests of reads that wait in the store; a van beside it. The last is "a call
--- that moves a session to another studio" (02, S-7)
+-- a line's call, with its bytes at the start of the payload and the requests of reads that wait in the store; a van beside it. The last are "a call
+-- that moves a session to another studio" (02, S-7) and "a load call that tests it and returns commits" (S-8)
 unfoldable pub lineLeaves : Control → Memory → Van → List ℕ → Call → List ℕ → List ℕ → Left
 lineLeaves c m v store (Call.Setup studios) payload block = setupLeaves m (v .copy) studios (partIn payload 0 sessionCount) block
 lineLeaves c m v store (Call.Commit s n) payload block = beside (v .copy) (leaves (λ a. committed a s n) (commit c m s (partIn payload 0 (recordSize * n))) block)
@@ -149,3 +151,4 @@ lineLeaves c m v store (Call.Unreadable mistake at) payload block = beside (v .c
 lineLeaves c m v store Call.Nothing payload block = beside (v .copy) (made nothing c m block)
 lineLeaves c m v store (Call.Van edit) payload block = vanLeaves c m v edit block
 lineLeaves c m v store (Call.Move s i) payload block = beside (v .copy) (leaves (λ a. moved a s i) (move c m s i) block)
+lineLeaves c m v store Call.Load payload block = beside (v .copy) (leaves loaded (load c m) block)

@@ -53,5 +53,6 @@ pub fn keep(
         }
         Came::Received(result, _) => p.after_receive(control, result),
         Came::Move(answer, _, _) => p.after_count(CountResult { answer, control }),
+        Came::Load(answer) => p.after_count(CountResult { answer, control }),
     }
 }

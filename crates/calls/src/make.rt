@@ -10,6 +10,7 @@ use replication::collect::collect;
 use replication::commit::commit;
 use replication::control::Control;
 use replication::forward::forward;
+use replication::load::load;
 use replication::move_session::move_session;
 use replication::preview::preview;
 use replication::read::read;
@@ -28,11 +29,11 @@ ghost use lib.ListN.{length};
 ghost use Rattle.carts.specs.Cart.{copySize};
 ghost use Rattle.replication.specs.Memory.{memory, sessionCount, sessionSize, recordSize};
 ghost use Rattle.replication.specs.Answer.{readAnswer};
-ghost use Rattle.replication.specs.Calls.{after, commit, preview, send, refresh, move};
+ghost use Rattle.replication.specs.Calls.{after, commit, preview, send, refresh, move, load};
 ghost use Rattle.van.specs.Receive.{van};
 ghost use Rattle.lines.specs.Text.{partIn};
 ghost use Rattle.journal.specs.History.{mostBytes};
-ghost use Rattle.calls.specs.Make.{committed, previewed, sentOrRefreshed, moved, told, made, leaves, readOrForward, readLeaves, collectLeaves, beside, setupLeaves, lineLeaves};
+ghost use Rattle.calls.specs.Make.{committed, previewed, sentOrRefreshed, moved, loaded, told, made, leaves, readOrForward, readLeaves, collectLeaves, beside, setupLeaves, lineLeaves};
 
 // A setup, with the studios of its sessions at the start of the payload, and the van beside it.
 fn make_setup(
@@ -241,6 +242,20 @@ fn make_move(
     }
 }
 
+// A load: the system as it stands is tested. Memory is only read.
+fn make_load(control: Control, library: &[u8], log: &[u8], sessions: &[u8]) -> Turn
+    ensures { λ r. ⌜ made (told (r .came)) (r .control) (memory (now (library .entry)) (now (log .entry)) (now (sessions .entry))) []
+        ≡ leaves loaded (load control (memory (now (library .entry)) (now (log .entry)) (now (sessions .entry)))) [] ⌝ }
+{
+    let result = load(control, library, log, sessions);
+    let answer = result.answer;
+    let control = result.control;
+    Turn {
+        came: Came::Load(answer),
+        control,
+    }
+}
+
 // A line that makes no call.
 fn no_call(control: Control, came: Came) -> Turn
     ensures { λ r. ⌜ (r .came ≡ came) × (r .control ≡ control) ⌝ }
@@ -315,5 +330,6 @@ pub fn make(
         Call::Move { session, studio } => {
             make_move(control, library, log, sessions, session, studio)
         }
+        Call::Load => make_load(control, library, log, sessions),
     }
 }

@@ -82,7 +82,7 @@ unfoldable pub afterSetup : Progress → Control → SetupAnswer → Progress
 afterSetup p control Setup.Ready = withVan (stepped p control emptyHistory Accepted) (freshVan .applied)
 afterSetup p control (Setup.Refused n) = stepped p (p .control) (p .history) Refused
 
--- a call without an entry: a send, a refresh, a preview, a move, or a message that could not be written
+-- a call without an entry: a send, a refresh, a preview, a move, a load, or a message that could not be written
 unfoldable pub afterCount : Progress → Control → CountAnswer → Progress
 afterCount p control (Count.Number n) = stepped p control (p .history) Accepted
 afterCount p control (Count.Refused n) = stepped p control (p .history) Refused

@@ -5,7 +5,7 @@ use mathlib.Core.List.{[], _∷_, _++_}
 use Rattle.carts.specs.Bytes.{zeros, u16Bytes, within, pairwise, every}
 use Rattle.carts.specs.Cart.{printable}
 use Rattle.lines.specs.declared.cursor.Mistake.the-variants.{UnknownWord, UnknownOperation, NumberMissing, NumberTooLarge, ColonMissing, AudioMissing, LengthMissing, ToMissing, TitleMissing, TitleOpen, TitleEmpty, TooManyOperations, TooManyNumbers, TooMuch}
-use Rattle.lines.specs.declared.parse.Call.the-variants.{Nothing, Show, Setup, Commit, Preview, Send, Refresh, Read, Collect, Move, Van, Unreadable}
+use Rattle.lines.specs.declared.parse.Call.the-variants.{Nothing, Show, Setup, Commit, Preview, Send, Refresh, Read, Collect, Move, Load, Van, Unreadable}
 use Rattle.lines.specs.Text.{runLength, numeral, numberOf}
 use Rattle.lines.specs.Cursor.{pastWord, pastMark, numberAt, titleFrom, titleAt, isOver, endedAt}
 use Rattle.lines.specs.Words.{bytesOf}
@@ -21,6 +21,7 @@ pub record Calls : Type 0 where
   collect : lineOf (bytesOf "  collect\t16") ≡ line (Collect 16) []
   move : lineOf (bytesOf "move 1 to 2 # with the running order") ≡ line (Move 1 2) []
   move-anywhere : lineOf (bytesOf "move\t4294967295 to 0") ≡ line (Move 4294967295 0) []
+  load : lineOf (bytesOf "\tload # after a restart") ≡ line Load []
   van : lineOf (bytesOf "van 4294967295 # no such edit") ≡ line (Van 4294967295) []
   by-numbers : lineOf (bytesOf "read 1: 7 300") ≡ line (Read 1 false) (1 ∷ 2 ∷ zeros 14 ++ (7 ∷ 0 ∷ 44 ∷ 1 ∷ zeros 60))
   by-title : lineOf (bytesOf "read 1: 'A \"B\"'") ≡ line (Read 1 false) (2 ∷ 5 ∷ zeros 14 ++ (65 ∷ 32 ∷ 34 ∷ 66 ∷ 34 ∷ zeros 59))
@@ -40,6 +41,7 @@ calls = record {
   collect = refl;
   move = refl;
   move-anywhere = refl;
+  load = refl;
   van = refl;
   by-numbers = refl;
   by-title = refl;
@@ -58,6 +60,7 @@ pub record Mistakes : Type 0 where
   move-without-to : callOf (bytesOf "move 1 2") ≡ Unreadable ToMissing 7
   move-nowhere : callOf (bytesOf "move 1 to") ≡ Unreadable NumberMissing 9
   move-two : callOf (bytesOf "move 1 to 2 3") ≡ Unreadable TooMuch 12
+  load-number : callOf (bytesOf "load 5") ≡ Unreadable TooMuch 5
   van-edits : callOf (bytesOf "van 1 2") ≡ Unreadable TooMuch 6
   colon-missing : callOf (bytesOf "read 1 7") ≡ Unreadable ColonMissing 7
   forward-unreadable : callOf (bytesOf "forward 1") ≡ Unreadable ColonMissing 9
@@ -82,6 +85,7 @@ mistakes = record {
   move-without-to = refl;
   move-nowhere = refl;
   move-two = refl;
+  load-number = refl;
   van-edits = refl;
   colon-missing = refl;
   forward-unreadable = refl;

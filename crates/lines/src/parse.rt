@@ -30,6 +30,7 @@ pub enum Call {
     Read { session: u32, forwards: bool },
     Collect(u32),
     Move { session: u32, studio: u32 },
+    Load,
     Van(u32),
     Unreadable { mistake: Mistake, at: usize },
 }
@@ -348,6 +349,9 @@ pub fn parse(s: &[u8], payload: &mut [u8]) -> Call
     }
     if text::same(word, b"move") {
         return move_session(s, next);
+    }
+    if text::same(word, b"load") {
+        return whole(s, next, Call::Load);
     }
     by_number(s, next, word)
 }

@@ -222,6 +222,20 @@ pub fn moved(answer: CountAnswer, control: Control, session: u32, studio: u32) {
     }
 }
 
+fn whole(edit: u32) {
+    let mut page = io::buffer();
+    let n = words::answer::whole(&mut page, edit);
+    line::told(&page, n);
+}
+
+// What a load answered.
+pub fn loaded(answer: CountAnswer) {
+    match answer {
+        CountAnswer::Number(edit) => whole(edit),
+        CountAnswer::Refused(row) => refusals::print::refusal(row),
+    }
+}
+
 fn van_applied(edit: u32) {
     let mut page = io::buffer();
     let n = words::answer::van_applied(&mut page, edit);

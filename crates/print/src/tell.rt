@@ -38,8 +38,8 @@ fn tell_edit(
     answer::edited(previews, answer, library, session, ops);
 }
 
-// A read, a collect, a forward or a move was answered, a line shows the state or cannot be read, or an edit's message was not written
-// or was received; with the van's copy.
+// A read, a collect, a forward, a move or a load was answered, a line shows the state or cannot be read, or an edit's message was not
+// written or was received; with the van's copy.
 fn tell_other(
     before: Progress,
     came: Came,
@@ -56,6 +56,7 @@ fn tell_other(
         Came::Unwritten(row, edit) => refusals::print::refusal_of_edit(row, edit),
         Came::Received(result, edit) => answer::received(result, edit),
         Came::Move(answer, session, studio) => answer::moved(answer, control, session, studio),
+        Came::Load(answer) => answer::loaded(answer),
         _ => {}
     }
 }

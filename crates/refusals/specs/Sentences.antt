@@ -34,7 +34,7 @@ refusalSentence n =
 -- what is wrong with a line
 abbrev pub mistakeSentence : Mistake → List ℕ
 mistakeSentence None = bytesOf "nothing is wrong"
-mistakeSentence UnknownWord = bytesOf "the line begins with none of setup, commit, preview, send, refresh, read, collect, forward, move, van, show"
+mistakeSentence UnknownWord = bytesOf "the line begins with none of setup, commit, preview, send, refresh, read, collect, forward, move, load, van, show"
 mistakeSentence UnknownOperation = bytesOf "an operation begins with new, retitle, re-cut or withdraw"
 mistakeSentence NumberMissing = bytesOf "a number is missing"
 mistakeSentence NumberTooLarge = bytesOf "a number is too large"

@@ -7,9 +7,9 @@ use replication::control::Control;
 use van::answer::ReceiveResult;
 
 // The answer of a call and what the call named, the studios, the session and how many operations, the studio and whether it
-// is a send, the session of a read, collect or forward, or the session and the studio of a move; a line that shows the state, that
-// cannot be read, or that is no call; for the van, the row by which no message was written, or what it made of the message, and the
-// edit.
+// is a send, the session of a read, collect or forward, or the session and the studio of a move (a load names nothing); a line that
+// shows the state, that cannot be read, or that is no call; for the van, the row by which no message was written, or what it made of
+// the message, and the edit.
 pub enum Came {
     Setup(SetupAnswer, u32),
     Commit(CountAnswer, u32, u32),
@@ -22,6 +22,7 @@ pub enum Came {
     Unwritten(u32, u32),
     Received(ReceiveResult, u32),
     Move(CountAnswer, u32, u32),
+    Load(CountAnswer),
 }
 
 // What came of a line, and control after it.

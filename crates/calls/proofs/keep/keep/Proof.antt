@@ -76,6 +76,12 @@ enum-known-came-8 c = search needs
 after-count-requires-4 : tie.Need-after-count-requires-4
 after-count-requires-4 c κs = search needs
 
+enum-known-came-9 : tie.Need-enum-known-came-9
+enum-known-came-9 c = search needs
+
+after-count-requires-5 : tie.Need-after-count-requires-5
+after-count-requires-5 c κs = search needs
+
 returns : tie.Need-returns
 unfolding cameKept
 returns c = let s = c .before .before .before .before .before .before .before .before .before in
@@ -151,6 +157,11 @@ unfolding cameKept
 returns-11 c = let s = c .before .before .before .before .before .before .before .before .before in
     (by-came _ _ _ _ _ _ (c .before .before .came8 .given .1) (same-entries (s .args .cells .now) (s .args .store .now) (c .after-count4 .ensures .0)), omega (arith, c .after-count4 .ensures .1, s .pre .1))
 
+returns-12 : tie.Need-returns-12
+unfolding cameKept
+returns-12 c = let s = c .before .before .before .before .before .before .before .before .before in
+    (by-came _ _ _ _ _ _ (c .before .before .came9 .given .1) (same-entries (s .args .cells .now) (s .args .store .now) (c .after-count5 .ensures .0)), omega (arith, c .after-count5 .ensures .1, s .pre .1))
+
 pub keep-spec : {M : Type 1} → statement M
 keep-spec =
     tie.close
@@ -178,6 +189,8 @@ keep-spec =
     after-receive-requires
     enum-known-came-8
     after-count-requires-4
+    enum-known-came-9
+    after-count-requires-5
     returns
     same-length
     same-length-2
@@ -192,4 +205,5 @@ keep-spec =
     returns-8
     returns-9
     returns-10
-    returns-11)
+    returns-11
+    returns-12)

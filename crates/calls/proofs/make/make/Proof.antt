@@ -76,6 +76,12 @@ enum-known-call-10 c = search needs
 make-move-requires : tie.Need-make-move-requires
 make-move-requires c κs = search needs
 
+enum-told-3 : tie.Need-enum-told-3
+enum-told-3 c = search needs
+
+make-load-requires : tie.Need-make-load-requires
+make-load-requires c κs = search needs
+
 same-length : tie.Need-same-length
 same-length c = search needs
 
@@ -241,6 +247,21 @@ returns-12 c = let arm = c .before .before .before .before .before in
     let start = arm .before .before .before .before .before .before .before .before .before in
     by-case _ _ _ _ _ _ (arm .call10 .given .1) (with-block (start .args .copy .now) (start .args .block .now) (c .make-move .ensures))
 
+same-length-32 : tie.Need-same-length-32
+same-length-32 c = search needs
+
+same-length-33 : tie.Need-same-length-33
+same-length-33 c = search needs
+
+same-length-34 : tie.Need-same-length-34
+same-length-34 c = search needs
+
+returns-13 : tie.Need-returns-13
+unfolding lineLeaves
+returns-13 c = let told = c .before .before .before .before in
+    let start = told .before .before .before .before .before .before .before .before .before in
+    by-case _ _ _ _ _ _ (told .enum-told3 .given .1) (with-block (start .args .copy .now) (start .args .block .now) (c .make-load .ensures))
+
 pub make-spec : {M : Type 1} → statement M
 make-spec =
     tie.close
@@ -269,6 +290,8 @@ make-spec =
     deliver-requires
     enum-known-call-10
     make-move-requires
+    enum-told-3
+    make-load-requires
     same-length
     same-length-2
     same-length-3
@@ -311,4 +334,8 @@ make-spec =
     same-length-29
     same-length-30
     same-length-31
-    returns-12)
+    returns-12
+    same-length-32
+    same-length-33
+    same-length-34
+    returns-13)

@@ -1,9 +1,10 @@
 use mathlib.Core.Path.{_≡_, refl, sym, _∙_}
-use mathlib.Core.Bool.{true, false}
+use mathlib.Core.Bool.{true, false, cond}
 use mathlib.Core.List.{[]}
-use Rattle.lines.specs.declared.parse.Call.the-variants.{Nothing, Show}
+use Rattle.lines.specs.declared.parse.Call.the-variants.{Nothing, Show, Load}
 use Rattle.lines.specs.Cursor.{newAt, movedTo, nextWord, wordEnd, isOver}
 use Rattle.lines.specs.Parse.{line, lineOf, wholeCall, moveAt, numberCallAt}
+use Rattle.lines.specs.Words.{says}
 use Rattle.lines.proofs.ParseLaws.{line-means}
 use borrow.Author.Needs.{needs}
 use Rattle.lines.proofs.parse.parse.Statement.{statement}
@@ -129,6 +130,25 @@ returns-7 : tie.Need-returns-7
 unfolding lineOf
 returns-7 c = let else6 = c .before .before .before .before .before .before .before in let else4 = c .before .before .before .before .before .before .before .before .before .before .before .before .before in let else2 = else4 .before .before .before .before .before .before in let at-past-word = else2 .before .before .before in line-means _ _ _ _ _ (c .before .before .read2 .ensures) (rw (next (at-past-word), over (at-past-word .before .before), ← word (at-past-word), ← else2 .before .same .ensures, else2 .if2 .left, ← else4 .before .before .before .before .same2 .ensures, else4 .before .before .before .if3 .left, ← else4 .before .same3 .ensures, else4 .if4 .left, ← else6 .before .before .before .before .same4 .ensures, else6 .before .before .before .if5 .left, ← else6 .before .same5 .ensures, else6 .if6 .left, ← c .before .before .before .before .before .same6 .ensures, c .before .before .before .before .if7 .taken))
 
+-- a line that begins with none of the words before move
+later : (c : tie.Else7) →
+    let else4 = c .before .before .before .before .before .before .before .before .before in
+    let at-past-word = else4 .before .before .before .before .before .before .before .before .before in
+    let start = at-past-word .before .before .before .before .before .before .before in
+    let s = start .args .s .now in
+    let first = at-past-word .before .peek-word .result .now in
+    let past = at-past-word .past-word .result in
+    lineOf s ≡ cond (says first "move") (line (moveAt s past) []) (cond (says first "load") (line (wholeCall s past Load) []) (line (numberCallAt s past first) []))
+unfolding lineOf
+later else7 =
+    let else6 = else7 .before .before .before in
+    let else5 = else6 .before .before .before in
+    let else4 = else5 .before .before .before in
+    let else3 = else4 .before .before .before in
+    let else2 = else3 .before .before .before in
+    let at-past-word = else2 .before .before .before in
+    rw (next at-past-word, over (at-past-word .before .before), ← word at-past-word, ← else2 .before .same .ensures, else2 .if2 .left, ← else3 .before .same2 .ensures, else3 .if3 .left, ← else4 .before .same3 .ensures, else4 .if4 .left, ← else5 .before .same4 .ensures, else5 .if5 .left, ← else6 .before .same5 .ensures, else6 .if6 .left, ← else7 .before .same6 .ensures, else7 .if7 .left)
+
 slice-aggregate-same-7 : tie.Need-slice-aggregate-same-7
 slice-aggregate-same-7 c = search needs
 
@@ -139,30 +159,35 @@ move-session-requires : tie.Need-move-session-requires
 move-session-requires c κs = search needs
 
 returns-8 : tie.Need-returns-8
-unfolding lineOf
-returns-8 c = let else7 = c .before .before .before .before in
-    let else6 = else7 .before .before .before in
-    let else5 = else6 .before .before .before in
-    let else4 = else5 .before .before .before in
-    let else3 = else4 .before .before .before in
-    let else2 = else3 .before .before .before in
-    let at-past-word = else2 .before .before .before in
-    line-means _ (line (moveAt _ (at-past-word .past-word .result)) []) _ _ _ (record { call = c .move-session .ensures .0; payload = refl; fits = c .move-session .ensures .1 }) (rw (next (at-past-word), over (at-past-word .before .before), ← word (at-past-word), ← else2 .before .same .ensures, else2 .if2 .left, ← else3 .before .same2 .ensures, else3 .if3 .left, ← else4 .before .same3 .ensures, else4 .if4 .left, ← else5 .before .same4 .ensures, else5 .if5 .left, ← else6 .before .same5 .ensures, else6 .if6 .left, ← else7 .before .same6 .ensures, else7 .if7 .left, ← c .before .before .same7 .ensures, c .before .if8 .taken))
+returns-8 c =
+    let else7 = c .before .before .before .before in
+    line-means _ (line (moveAt _ _) []) _ _ _ (record { call = c .move-session .ensures .0; payload = refl; fits = c .move-session .ensures .1 })
+    (rw (later else7, ← c .before .before .same7 .ensures, c .before .if8 .taken))
+
+slice-aggregate-same-8 : tie.Need-slice-aggregate-same-8
+slice-aggregate-same-8 c = search needs
+
+same-requires-8 : tie.Need-same-requires-8
+same-requires-8 c κs = search needs
+
+whole-requires-2 : tie.Need-whole-requires-2
+whole-requires-2 c κs = search needs
+
+returns-9 : tie.Need-returns-9
+returns-9 c =
+    let else8 = c .before .before .before .before in
+    line-means _ (line (wholeCall _ _ Load) []) _ _ _ (record { call = c .whole2 .ensures .0; payload = refl; fits = c .whole2 .ensures .1 })
+    (rw (later (else8 .before .before .before), ← else8 .before .same7 .ensures, else8 .if8 .left, ← c .before .before .same8 .ensures, c .before .if9 .taken))
 
 by-number-requires : tie.Need-by-number-requires
 by-number-requires c κs = search needs
 
-returns-9 : tie.Need-returns-9
-unfolding lineOf
-returns-9 c = let else8 = c .before in
-    let else7 = else8 .before .before .before in
-    let else6 = else7 .before .before .before in
-    let else5 = else6 .before .before .before in
-    let else4 = else5 .before .before .before in
-    let else3 = else4 .before .before .before in
-    let else2 = else3 .before .before .before in
-    let at-past-word = else2 .before .before .before in
-    line-means _ (line (numberCallAt _ (at-past-word .past-word .result) (at-past-word .before .peek-word .result .now)) []) _ _ _ (record { call = c .by-number .ensures .0; payload = refl; fits = c .by-number .ensures .1 }) (rw (next (at-past-word), over (at-past-word .before .before), ← word (at-past-word), ← else2 .before .same .ensures, else2 .if2 .left, ← else3 .before .same2 .ensures, else3 .if3 .left, ← else4 .before .same3 .ensures, else4 .if4 .left, ← else5 .before .same4 .ensures, else5 .if5 .left, ← else6 .before .same5 .ensures, else6 .if6 .left, ← else7 .before .same6 .ensures, else7 .if7 .left, ← else8 .before .same7 .ensures, else8 .if8 .left))
+returns-10 : tie.Need-returns-10
+returns-10 c =
+    let else9 = c .before in
+    let else8 = else9 .before .before .before in
+    line-means _ (line (numberCallAt _ _ _) []) _ _ _ (record { call = c .by-number .ensures .0; payload = refl; fits = c .by-number .ensures .1 })
+    (rw (later (else8 .before .before .before), ← else8 .before .same7 .ensures, else8 .if8 .left, ← else9 .before .same8 .ensures, else9 .if9 .left))
 
 pub parse-spec : {M : Type 1} → statement M
 parse-spec =
@@ -206,5 +231,9 @@ parse-spec =
     same-requires-7
     move-session-requires
     returns-8
+    slice-aggregate-same-8
+    same-requires-8
+    whole-requires-2
+    returns-9
     by-number-requires
-    returns-9)
+    returns-10)
