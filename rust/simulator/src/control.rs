@@ -22,8 +22,8 @@ pub struct Control {
 
 /// The kind of a refusal.
 pub const REFUSED: u32 = 0;
-/// The kind of an accepted setup, commit, preview, send, refresh or move, and of a
-/// message written or applied.
+/// The kind of an accepted setup, commit, preview, send, refresh, move or load, and of
+/// a message written or applied.
 pub const DONE: u32 = 1;
 /// The kind of an answered read, collect or forward.
 pub const ANSWERED: u32 = 2;
@@ -38,8 +38,8 @@ pub const HELD: u32 = 4;
 pub struct Answer {
     /// Refused, done, answered or waits.
     pub kind: u32,
-    /// The refusal's number, the count, the studio moved to, the message's length, the
-    /// state, or the session's number.
+    /// The refusal's number, the count (a load's is commits), the studio moved to, the
+    /// message's length, the state, or the session's number.
     pub value: u32,
     /// How many were found.
     pub found: u32,

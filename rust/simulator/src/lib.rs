@@ -1,9 +1,9 @@
-//! The cart wall of document 01, with requests S-1 to S-7 of document 02, by
+//! The cart wall of document 01, with requests S-1 to S-8 of document 02, by
 //! another hand.
 //!
 //! Every call decodes the lent memory and the control into a value, acts on
-//! the value, and encodes it again; a preview and the van's writer throw the
-//! value away. The title search and the van's receiver are no such calls: they
+//! the value, and encodes it again; a preview, a load and the van's writer throw
+//! the value away. The title search and the van's receiver are no such calls: they
 //! are lent one copy, and the search looks at its bytes as they are. Nothing
 //! here was taken from the engine.
 
@@ -11,6 +11,7 @@ mod bytes;
 mod calls;
 mod cart;
 mod control;
+mod load;
 mod log;
 mod operation;
 mod search;
@@ -105,6 +106,13 @@ pub fn forward(
 /// the session's number.
 pub fn move_session(library: &mut [u8], log: &mut [u8], sessions: &mut [u8], control: Control, session: u32, studio: u32) -> Answer {
     play(library, log, sessions, control, |system| calls::move_session(system, session, studio))
+}
+
+/// Load: whether each copy is what the log makes and each logged operation met its cart
+/// in the right state. It is lent its memory to be read alone, returns commits, and hands
+/// control back as it was passed.
+pub fn load(library: &[u8], log: &[u8], sessions: &[u8], control: Control) -> Answer {
+    look(library, log, sessions, control, |system| load::load(system))
 }
 
 /// The van's writer: the message of one transaction, at output's start. It reads the

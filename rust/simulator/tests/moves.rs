@@ -7,20 +7,6 @@ mod wall;
 use simulator::UNIT;
 use wall::*;
 
-/// S studios, with the sessions among them; session 9 is unused.
-fn studios(count: u32) -> Wall {
-    let mut bytes: Vec<u8> = (0..16).map(|place| 1 + place % u8::try_from(count).unwrap()).collect();
-    bytes[8] = 0;
-    let mut wall = fresh();
-    assert_eq!(wall.setup(count, &bytes), done(0));
-    wall
-}
-
-/// The next transaction of a studio, number n, is sent there and acts there.
-fn refreshed_at(wall: &mut Wall, studio: u32, n: u32) {
-    assert_eq!((wall.send(studio), wall.refresh(studio)), (done(n), done(n)));
-}
-
 /// Session 2 made no commit; it was shown state 2 at studio 1.
 #[test]
 fn a_presenter_walks_to_a_studio_that_is_behind() {
@@ -312,11 +298,6 @@ fn the_numbers_255_to_512() {
     assert_eq!(wall.sessions[80..84], [0, 0, 0, 2]);
     assert_eq!(wall.move_session(2, 2), done(2));
     assert_eq!(wall.read(2, &asked, &mut output), waits(512));
-}
-
-fn seeds() -> impl Iterator<Item = u32> {
-    let next = |seed: &u32| Some(seed.wrapping_mul(1_664_525).wrapping_add(1_013_904_223));
-    std::iter::successors(Some(7u32), next).map(|seed| seed >> 12)
 }
 
 /// Plays a call and gives its session and what that was told: its commit's number, a

@@ -38,6 +38,15 @@ pub fn fresh() -> Wall {
     wall
 }
 
+/// S studios, with the sessions among them; session 9 is unused.
+pub fn studios(count: u32) -> Wall {
+    let mut bytes: Vec<u8> = (0..16).map(|place| 1 + place % u8::try_from(count).unwrap()).collect();
+    bytes[8] = 0;
+    let mut wall = fresh();
+    assert_eq!(wall.setup(count, &bytes), done(0));
+    wall
+}
+
 impl Wall {
     /// Takes the control over. `before` is the wall that a refusal has to leave.
     fn keep(&mut self, before: Wall, answer: Answer) -> Words {
@@ -169,6 +178,14 @@ impl Wall {
         (answer.kind, answer.value, answer.found)
     }
 
+    pub fn load(&mut self) -> Words {
+        let before = self.clone();
+        let answer = simulator::load(&self.library, &self.log, &self.sessions, self.control);
+        self.control = answer.control;
+        assert_eq!(*self, before, "a load changes neither memory nor control, accepted or refused");
+        (answer.kind, answer.value, answer.found)
+    }
+
     pub fn van_write(&mut self, number: u32, output: &mut [u8]) -> Words {
         let (before, given) = (self.clone(), output.to_vec());
         let (library, log) = (&mut self.library, &mut self.log);
@@ -289,6 +306,12 @@ pub fn every_six() -> Vec<(Wall, u32, u32)> {
     walls
 }
 
+/// Seeds of 20 bits for lists of calls.
+pub fn seeds() -> impl Iterator<Item = u32> {
+    let next = |seed: &u32| Some(seed.wrapping_mul(1_664_525).wrapping_add(1_013_904_223));
+    std::iter::successors(Some(7u32), next).map(|seed| seed >> 12)
+}
+
 /// One call of a list that a seed makes: its session, or 0 for a send or refresh,
 /// and its answer.
 pub fn call(wall: &mut Wall, seed: u32) -> (u32, Words) {
@@ -355,7 +378,12 @@ pub fn formless() -> Vec<[u8; UNIT]> {
 
 /// Transaction n is sent to studio 1 and acts there.
 pub fn refreshed(wall: &mut Wall, n: u32) {
-    assert_eq!((wall.send(1), wall.refresh(1)), (done(n), done(n)));
+    refreshed_at(wall, 1, n);
+}
+
+/// The next transaction of a studio, number n, is sent there and acts there.
+pub fn refreshed_at(wall: &mut Wall, studio: u32, n: u32) {
+    assert_eq!((wall.send(studio), wall.refresh(studio)), (done(n), done(n)));
 }
 
 fn unit(kind: u8, cart: u16, title: &str, audio: u32, length: u32) -> [u8; UNIT] {
