@@ -101,6 +101,12 @@ pub fn move_session(library: &mut [u8], log: &mut [u8], sessions: &mut [u8], con
     call!(sulyobak_move, library, log, sessions, passed(control), session, studio)
 }
 
+/// Load.
+#[inline]
+pub fn load(library: &mut [u8], log: &mut [u8], sessions: &mut [u8], control: Control) -> Answer {
+    call!(sulyobak_load, library, log, sessions, passed(control))
+}
+
 /// The layout test alone.
 #[inline]
 pub fn layout(library: &mut [u8], log: &mut [u8], sessions: &mut [u8], control: Control) -> Answer {
