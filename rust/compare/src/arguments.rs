@@ -8,7 +8,7 @@ use crate::rows;
 use crate::wall::Wall;
 
 /// The kinds of call that have a weight, by their places among the weights.
-pub const CALLS: usize = 9;
+pub const CALLS: usize = 10;
 const COMMIT: usize = 0;
 const SEND: usize = 1;
 const REFRESH: usize = 2;
@@ -18,6 +18,7 @@ pub const PREVIEW: usize = 5;
 pub const FORWARD: usize = 6;
 const VAN_WRITE: usize = 7;
 const MOVE: usize = 8;
+const LOAD: usize = 9;
 
 /// The weights by which one kind alone is chosen.
 pub fn only(kind: usize) -> [usize; CALLS] {
@@ -29,7 +30,7 @@ pub fn only(kind: usize) -> [usize; CALLS] {
 /// How a list chooses its arguments.
 #[derive(Clone, Copy)]
 pub struct Taste {
-    /// Weights of commit, send, refresh, read, collect, preview, forward, van_write and move.
+    /// Weights of commit, send, refresh, read, collect, preview, forward, van_write, move and load.
     pub weights: [usize; CALLS],
     /// Operations of a commit or a preview, from and to.
     pub sizes: (usize, usize),
@@ -65,6 +66,7 @@ pub fn call(random: &mut Random, maker: &Maker, taste: &Taste, wall: &Wall) -> C
         FORWARD => forward(random, maker, taste, wall),
         VAN_WRITE => van_write(random, taste, wall),
         MOVE => move_session(random, taste, wall),
+        LOAD => Call::Load,
         _ => collect(random, taste, wall),
     }
 }

@@ -7,10 +7,15 @@ use crate::keys::{COLLECT_RAISES, FORWARD_RAISES, READ_RAISES};
 use crate::keys::{FORWARD_ASKED, FORWARD_COMMITS, FORWARD_HIGH, FORWARD_IN_LIST, FORWARD_NUMBER, FORWARD_RAISED, FORWARD_SPACES};
 use crate::keys::{FORWARD_STUDIO, FORWARD_UNMADE, HEAD_END, WAITED};
 use crate::keys::{HELD, RECEIVE_NUMBER, RECEIVE_OPERATION, RECEIVE_SPACED, RECEIVE_SPARE, REPEATED, RUN, RUN_HIGH};
+use crate::keys::{LOAD_APPLIED, LOAD_BEHIND, LOAD_COMMITS, LOAD_SENT, LOAD_SPACED, LOAD_STUDIOS, LOAD_USED, LOAD_WAITS};
+use crate::keys::{LOAD_BYTE, LOAD_CART, LOAD_EARLIER, LOAD_LATER, LOAD_LESS, LOAD_LETTER, LOAD_LETTER_LAST, LOAD_MORE};
+use crate::keys::{LOAD_HEAD_END, LOAD_LAST, LOAD_STUDIO, LOAD_STUDIO_APPLIED, LOAD_STUDIO_BEHIND};
+use crate::keys::{LOAD_MISFIT, LOAD_MISFIT_IN, LOAD_MISFIT_LATER, LOAD_MISFIT_PLACE};
 use crate::keys::{NONE, ONE, SEARCH_BOTH, SEARCH_BYTE, SEARCH_BYTE_0, SEARCH_CART, SEARCH_COPY, SEARCH_DIFFERS, SEARCH_FOUND};
 use crate::keys::{RAISED_BEHIND, RAISED_FROM, RAISED_HIGH, REFUSED_AT, REFUSED_IN_LIST};
 use crate::keys::{SEARCH_LAST, SEARCH_LENGTH, SEARCH_LENGTH_BYTE, SEARCH_LETTERS, SEARCH_TITLE, SEVERAL, WRONG_LENGTH};
 use crate::keys::{VAN_WRITE_COMMITS, VAN_WRITE_COUNT, VAN_WRITE_NUMBER, VAN_WRITE_ROOM, VAN_WRITE_SPACED, VAN_WRITE_SPARE};
+use crate::torn;
 
 /// −1 as it is kept in a key.
 const LESS: u32 = u32::MAX;
@@ -19,8 +24,44 @@ const HUGE: u32 = u32::MAX;
 pub fn all() -> Vec<Key> {
     let spaces = [reading(&READ_SPACES, WAITED), reading(&COLLECT_SPACES, WAITED), reading(&FORWARD_SPACES, HEAD_END)].concat();
     let asked = [asked(&READ_ASKED, WAITED), asked(&FORWARD_ASKED, HEAD_END)].concat();
-    let calls = [edit(&COMMIT), edit(&PREVIEW), taken(), asked, forward(), spaces, moves(), van_write(), OTHERS.to_vec()].concat();
+    let calls = [edit(&COMMIT), edit(&PREVIEW), taken(), asked, forward(), spaces, moves(), load(), van_write(), OTHERS.to_vec()].concat();
     [calls, searches(), receive()].concat()
+}
+
+/// Those of a load. A byte that alone differs, in memory of the layout, is one of audio, length or title.
+fn load() -> Vec<Key> {
+    let bytes: Vec<u32> = (4..12).chain(16..80).collect();
+    numbered(&[
+        (LOAD_COMMITS, &[0, 1, 2, 511, 512], DONE),
+        (LOAD_COMMITS, &[0, 1, 512], 19),
+        (LOAD_USED, &[0, 1, 511, 512], DONE),
+        (LOAD_USED, &[0, 1, 512], 19),
+        (LOAD_STUDIOS, &[1, 2, 3, 4], DONE),
+        (LOAD_STUDIOS, &[1, 2, 3, 4], 19),
+        (LOAD_APPLIED, &[0, 1, 512], DONE),
+        (LOAD_BEHIND, &[0, 1, 2], DONE),
+        (LOAD_SENT, &[0, 1, 31, 32], DONE),
+        (LOAD_WAITS, &[LESS, 0, 1], DONE),
+        (LOAD_SPACED, &[1, 2], DONE),
+        (LOAD_HEAD_END, &[0, 1, 512], 19),
+        (LOAD_STUDIO, &[1, 2, 3, 4], 19),
+        (LOAD_LAST, &[1, 2, 3, 4], 19),
+        (LOAD_STUDIO_APPLIED, &[0, 1, 512], 19),
+        (LOAD_STUDIO_BEHIND, &[0, 1, 2], 19),
+        (LOAD_MORE, &[0, 1, 2, 3, 4], 19),
+        (LOAD_LESS, &[0, 1, 2, 3, 4], 19),
+        (LOAD_EARLIER, &[0, 1, 2, 3, 4], 19),
+        (LOAD_LATER, &[1, 2, 3, 4], 19),
+        (LOAD_CART, &[1, 128], 19),
+        (LOAD_BYTE, &bytes, 19),
+        (LOAD_LETTER, &[0, 1, 2, 3, 4], 19),
+        (LOAD_LETTER_LAST, &[1, 2, 3, 4], 19),
+        (LOAD_MISFIT, &[1, 2, 3, 4], 19),
+        (LOAD_MISFIT_PLACE, &[1, 2, 3, 4, 5, 6, 7, 8], 19),
+        (LOAD_MISFIT_IN, &[1, 2, 512], 19),
+        (LOAD_MISFIT_LATER, &[0, 1, 2], 19),
+        (torn::SWEEP, &[0, 1, 2, 3, 4], DONE),
+    ])
 }
 
 /// Those of a move, of the numbers that answers raise, and of two answers to one session.

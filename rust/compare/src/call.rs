@@ -14,6 +14,7 @@ pub enum Call {
     Forward { session: u32, request: Vec<u8>, output: usize },
     VanWrite { number: u32, output: usize },
     Move { session: u32, studio: u32 },
+    Load,
 }
 
 impl Call {
@@ -29,6 +30,7 @@ impl Call {
             Call::Forward { .. } => "forward",
             Call::VanWrite { .. } => "van_write",
             Call::Move { .. } => "move",
+            Call::Load => "load",
         }
     }
 
@@ -43,6 +45,7 @@ impl Call {
             Call::Collect { .. } => &[1, 2, 3, 14, 13],
             Call::VanWrite { .. } => &[1, 2, 17],
             Call::Move { .. } => &[1, 2, 3, 4],
+            Call::Load => &[1, 2, 19],
         }
     }
 
@@ -95,6 +98,7 @@ impl fmt::Display for Call {
             }
             Call::VanWrite { number, output } => write!(f, "van_write number={number} output={output}"),
             Call::Move { session, studio } => write!(f, "move session={session} studio={studio}"),
+            Call::Load => write!(f, "load"),
         }
     }
 }

@@ -80,6 +80,7 @@ impl Coverage {
             self.note_van_write(call, control, after, answer);
             self.note_move(call, control, before, answer);
             self.note_raise(call, before, answer);
+            self.note_load(call, control, after, answer);
         }
     }
 
@@ -116,8 +117,8 @@ impl Coverage {
                 self.count(("collect, kind of read", u32::from(before.session[0]), end));
             }
             Call::Forward { .. } => self.note_asked(&FORWARD_ASKED, call, control, before, answer),
-            // `note_van_write` and `note_move` have their arguments.
-            Call::VanWrite { .. } | Call::Move { .. } => {}
+            // `note_van_write` and `note_move` have their arguments; a load has none.
+            Call::VanWrite { .. } | Call::Move { .. } | Call::Load => {}
         }
     }
 
@@ -311,5 +312,6 @@ fn call_place(call: &Call) -> usize {
         Call::Forward { .. } => 7,
         Call::VanWrite { .. } => 8,
         Call::Move { .. } => 9,
+        Call::Load => 10,
     }
 }

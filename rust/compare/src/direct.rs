@@ -7,8 +7,13 @@ use crate::wall::Wall;
 use simulator::{COPY, Control, UNIT};
 
 pub fn wall(random: &mut Random, maker: &Maker) -> Wall {
-    let mut wall = Wall::zeros();
     let studios = random.within(1, 4) as u32;
+    wall_of(studios, random, maker)
+}
+
+/// The same with so many studios.
+pub fn wall_of(studios: u32, random: &mut Random, maker: &Maker) -> Wall {
+    let mut wall = Wall::zeros();
     let mut control = Control { studios, ..Control::default() };
     for word in &mut control.session_studios {
         *word = random.within(0, studios as usize) as u32;

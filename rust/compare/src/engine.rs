@@ -34,6 +34,7 @@ macro_rules! play {
             Call::Forward { session, .. } => $by::forward(library, log, sessions, $control, session, input, output),
             Call::VanWrite { number, .. } => $by::van_write(library, log, sessions, $control, number, output),
             Call::Move { session, studio } => $by::move_session(library, log, sessions, $control, session, studio),
+            Call::Load => $by::load(library, log, sessions, $control),
         }
     }};
 }

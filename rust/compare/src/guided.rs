@@ -9,6 +9,7 @@ use crate::older;
 use crate::one_copy::History;
 use crate::player::{Mismatch, Player};
 use crate::random::Random;
+use crate::torn;
 use crate::wall::Wall;
 use crate::written;
 use simulator::Answer;
@@ -95,16 +96,17 @@ impl Guide<'_, '_> {
 
     fn follow(&mut self, aim: Aim) -> Result<(), Mismatch> {
         match aim {
-            Aim::Mixed => self.steps(400, &taste([25, 20, 20, 25, 10, 8, 12, 12, 10], (1, 8), 85)),
-            Aim::Waits => self.steps(350, &taste([22, 13, 13, 30, 22, 6, 15, 10, 8], (1, 3), 93)),
-            Aim::Titles => self.steps(350, &taste([25, 18, 20, 30, 7, 6, 15, 10, 8], (1, 3), 93)),
-            Aim::Eights => self.fill(&taste([66, 13, 13, 5, 3, 7, 4, 8, 3], (8, 8), 97), 504),
-            // Few reads: a session that waits commits nothing, and the studios are far behind.
+            Aim::Mixed => self.steps(400, &taste([25, 20, 20, 25, 10, 8, 12, 12, 10, 4], (1, 8), 85)),
+            Aim::Waits => self.steps(350, &taste([22, 13, 13, 30, 22, 6, 15, 10, 8, 4], (1, 3), 93)),
+            Aim::Titles => self.steps(350, &taste([25, 18, 20, 30, 7, 6, 15, 10, 8, 4], (1, 3), 93)),
+            Aim::Eights => self.fill(&taste([66, 13, 13, 5, 3, 7, 4, 8, 3, 2], (8, 8), 97), 504),
+            // Few reads: a session that waits commits nothing, and the studios are far behind. Few arguments that do not fit: among them
+            // are transactions of two.
             Aim::Ones => {
-                self.fill(&taste([85, 6, 6, 1, 1, 5, 3, 4, 2], (1, 1), 97), 511)?;
+                self.fill(&taste([85, 6, 6, 1, 1, 5, 3, 4, 2, 1], (1, 1), 99), 511)?;
                 self.write_all()
             }
-            Aim::Varied => self.fill(&taste([66, 13, 13, 5, 3, 7, 4, 6, 3], (1, 8), 97), 500),
+            Aim::Varied => self.fill(&taste([66, 13, 13, 5, 3, 7, 4, 6, 3, 2], (1, 8), 97), 500),
             Aim::Window => self.window(),
             Aim::Older => self.older(),
             Aim::Taken => self.taken(),
@@ -116,6 +118,9 @@ impl Guide<'_, '_> {
     fn step(&mut self, taste: &Taste) -> Result<Answer, Mismatch> {
         if self.random.percent(7) {
             asides::play(self.player, &mut self.random, &self.maker, taste, &self.wall)?;
+        }
+        if self.random.percent(2) {
+            torn::play_aside(self.player, &mut self.random, &self.maker, &self.wall)?;
         }
         let call = arguments::call(&mut self.random, &self.maker, taste, &self.wall);
         let answer = self.player.play_in(&mut self.history, &mut self.wall, &call)?;
@@ -137,10 +142,10 @@ impl Guide<'_, '_> {
         }
         for _ in 0..60 {
             self.overfill()?;
-            self.step(&taste([50, 15, 15, 10, 10, 12, 10, 10, 5], (1, 2), 90))?;
+            self.step(&taste([50, 15, 15, 10, 10, 12, 10, 10, 5, 2], (1, 2), 90))?;
         }
-        self.steps(40, &taste([60, 12, 12, 10, 6, 12, 8, 8, 5], (1, 8), 80))?;
-        self.steps(150, &taste([5, 40, 40, 10, 5, 3, 6, 8, 6], (1, 1), 95))
+        self.steps(40, &taste([60, 12, 12, 10, 6, 12, 8, 8, 5, 2], (1, 8), 80))?;
+        self.steps(150, &taste([5, 40, 40, 10, 5, 3, 6, 8, 6, 2], (1, 1), 95))
     }
 
     /// Now and then the messages of all transactions.
@@ -171,20 +176,20 @@ impl Guide<'_, '_> {
                 if self.wall.control.commits >= target {
                     break;
                 }
-                self.step(&taste([90, 2, 0, 6, 2, 4, 3, 4, 2], (1, 1), 97))?;
+                self.step(&taste([90, 2, 0, 6, 2, 4, 3, 4, 2, 2], (1, 1), 97))?;
             }
-            self.steps(80, &taste([2, 90, 0, 6, 2, 1, 3, 3, 2], (1, 1), 95))?;
-            self.steps(60, &taste([8, 36, 40, 10, 6, 4, 6, 8, 6], (1, 2), 90))?;
+            self.steps(80, &taste([2, 90, 0, 6, 2, 1, 3, 3, 2, 3], (1, 1), 95))?;
+            self.steps(60, &taste([8, 36, 40, 10, 6, 4, 6, 8, 6, 3], (1, 2), 90))?;
         }
         Ok(())
     }
 
     /// Studios that have nearly caught up, then titles exchanged.
     fn older(&mut self) -> Result<(), Mismatch> {
-        let mixed = taste([30, 22, 22, 20, 8, 6, 10, 10, 6], (1, 3), 93);
+        let mixed = taste([30, 22, 22, 20, 8, 6, 10, 10, 6, 4], (1, 3), 93);
         self.steps(60, &mixed)?;
-        self.steps(80, &taste([2, 45, 45, 5, 3, 0, 3, 5, 3], (1, 1), 95))?;
-        self.steps(5, &taste([80, 5, 5, 5, 5, 0, 5, 5, 0], (1, 1), 97))?;
+        self.steps(80, &taste([2, 45, 45, 5, 3, 0, 3, 5, 3, 2], (1, 1), 95))?;
+        self.steps(5, &taste([80, 5, 5, 5, 5, 0, 5, 5, 0, 0], (1, 1), 97))?;
         let Guide { player, random, maker, wall, history, .. } = self;
         if older::exchange_titles(random, maker, wall, history, &mut player.written) {
             player.coverage.count((older::NAME, 0, DONE));
@@ -195,11 +200,11 @@ impl Guide<'_, '_> {
     /// Edits; then studios that stay behind or catch up; then edits of carts in the wrong state, and reads.
     fn taken(&mut self) -> Result<(), Mismatch> {
         for _ in 0..10 {
-            self.steps(6, &taste([75, 5, 5, 5, 5, 5, 3, 5, 3], (1, 3), 95))?;
+            self.steps(6, &taste([75, 5, 5, 5, 5, 5, 3, 5, 3, 2], (1, 3), 95))?;
             if self.random.percent(50) {
-                self.steps(20, &taste([0, 45, 45, 0, 10, 0, 0, 0, 0], (1, 1), 100))?;
+                self.steps(20, &taste([0, 45, 45, 0, 10, 0, 0, 0, 0, 2], (1, 1), 100))?;
             }
-            let mistaken = Taste { misfits: 70, ..taste([40, 5, 5, 30, 12, 8, 10, 5, 8], (1, 3), 97) };
+            let mistaken = Taste { misfits: 70, ..taste([40, 5, 5, 30, 12, 8, 10, 5, 8, 3], (1, 3), 97) };
             self.steps(10, &mistaken)?;
         }
         Ok(())
@@ -208,11 +213,11 @@ impl Guide<'_, '_> {
     /// Edits; then studios that stay behind or nearly catch up; then forwards, reads and collects, with edits and refreshes between them.
     fn forwards(&mut self) -> Result<(), Mismatch> {
         for _ in 0..10 {
-            self.steps(6, &taste([75, 5, 5, 5, 5, 0, 5, 5, 3], (1, 3), 95))?;
+            self.steps(6, &taste([75, 5, 5, 5, 5, 0, 5, 5, 3, 2], (1, 3), 95))?;
             if self.random.percent(50) {
-                self.steps(14, &taste([0, 45, 45, 0, 10, 0, 0, 0, 0], (1, 1), 100))?;
+                self.steps(14, &taste([0, 45, 45, 0, 10, 0, 0, 0, 0, 2], (1, 1), 100))?;
             }
-            self.steps(14, &taste([12, 12, 14, 18, 14, 2, 28, 5, 8], (1, 2), 97))?;
+            self.steps(14, &taste([12, 12, 14, 18, 14, 2, 28, 5, 8, 3], (1, 2), 97))?;
         }
         Ok(())
     }
@@ -220,9 +225,9 @@ impl Guide<'_, '_> {
     /// Edits; then studios that catch up, one further than the other; then reads, collects and forwards with moves between them.
     fn moves(&mut self) -> Result<(), Mismatch> {
         for _ in 0..10 {
-            self.steps(6, &taste([75, 5, 5, 5, 5, 0, 5, 5, 5], (1, 2), 95))?;
-            self.steps(10, &taste([0, 45, 45, 0, 10, 0, 0, 0, 10], (1, 1), 100))?;
-            self.steps(20, &taste([6, 8, 12, 25, 14, 2, 12, 3, 28], (1, 2), 97))?;
+            self.steps(6, &taste([75, 5, 5, 5, 5, 0, 5, 5, 5, 2], (1, 2), 95))?;
+            self.steps(10, &taste([0, 45, 45, 0, 10, 0, 0, 0, 10, 2], (1, 1), 100))?;
+            self.steps(20, &taste([6, 8, 12, 25, 14, 2, 12, 3, 28, 3], (1, 2), 97))?;
         }
         Ok(())
     }

@@ -104,6 +104,48 @@ pub const ANSWERS_UNREACHED: &str = "list from unreached memory with two answers
 /// A list that was played again without its moves and by the rule before S-7, where a session's number is another at the end.
 pub const UNMOVED: &str = "list without its moves, with a number raised by an answer";
 
+/// Of a load that rows 1 and 2 let through: commits, records used, and S.
+pub const LOAD_COMMITS: &str = "load, commits";
+pub const LOAD_USED: &str = "load, used";
+pub const LOAD_STUDIOS: &str = "load, S";
+/// Of each studio of an accepted one with commits: applied, commits less that, 2 standing for more too, and sent less that.
+pub const LOAD_APPLIED: &str = "load with commits, applied of a studio";
+pub const LOAD_BEHIND: &str = "load with commits, commits − applied of a studio";
+pub const LOAD_SENT: &str = "load with commits, sent − applied of a studio";
+/// Of each session of an accepted one that waits: its number less what its studio has applied, between −2 and 2. And the kind of a record
+/// with a spaced title.
+pub const LOAD_WAITS: &str = "load, a read waits, session number − applied";
+pub const LOAD_SPACED: &str = "load, record with a spaced title, kind";
+/// Where one copy differs from its L and all else is right: commits, for the head end's; the studio, S where it is the last one, what it
+/// has applied, and commits less that, 2 standing for more too.
+pub const LOAD_HEAD_END: &str = "load, the head end's copy alone differs, commits";
+pub const LOAD_STUDIO: &str = "load, a studio's copy alone differs, studio";
+pub const LOAD_LAST: &str = "load, the last studio's copy alone differs, S";
+pub const LOAD_STUDIO_APPLIED: &str = "load, a studio's copy alone differs, applied";
+pub const LOAD_STUDIO_BEHIND: &str = "load, a studio's copy alone differs, commits − applied";
+/// How that copy (0 the head end's) differs: it has a cart more, or one less; it is that of the transaction before, or of the one after.
+pub const LOAD_MORE: &str = "load, one copy differs by a cart more, copy";
+pub const LOAD_LESS: &str = "load, one copy differs by a cart less, copy";
+pub const LOAD_EARLIER: &str = "load, one copy is that of the state before, copy";
+pub const LOAD_LATER: &str = "load, one copy is that of the state after, copy";
+/// It differs in one byte alone: the cart, and the byte of it. For a letter of the title the copy, and S where it is the last studio's.
+pub const LOAD_CART: &str = "load, one copy differs in one byte, cart";
+pub const LOAD_BYTE: &str = "load, one copy differs in one byte, byte of the cart";
+pub const LOAD_LETTER: &str = "load, one copy differs in one letter, copy";
+pub const LOAD_LETTER_LAST: &str = "load, the last studio's copy differs in one letter, S";
+/// Where an operation met its cart in the wrong state and every copy is right: of the first such one the kind, the place in its
+/// transaction, the transaction, and commits less that, 2 standing for more too.
+pub const LOAD_MISFIT: &str = "load, copies right and an operation in a wrong state, kind";
+pub const LOAD_MISFIT_PLACE: &str = "load, copies right and an operation in a wrong state, place";
+pub const LOAD_MISFIT_IN: &str = "load, copies right and an operation in a wrong state, transaction";
+pub const LOAD_MISFIT_LATER: &str = "load, copies right and an operation in a wrong state, commits − transaction";
+/// Where it is the only one, by the studios that have applied its transaction.
+pub const LOAD_MISFIT_BY_NONE: &str = "load, copies right and one operation in a wrong state, applied by no studio";
+pub const LOAD_MISFIT_BY_SOME: &str = "load, copies right and one operation in a wrong state, applied by some studios";
+pub const LOAD_MISFIT_BY_ALL: &str = "load, copies right and one operation in a wrong state, applied by every studio";
+/// A copy that differs, and an operation in a wrong state.
+pub const LOAD_BOTH: &str = "load, a copy that differs and an operation in a wrong state";
+
 /// The subjects of a session's number that an answer of its studio raises.
 pub struct Raises {
     /// The number before, how far it is raised, 2 standing for more too, and the high byte that is written.
@@ -316,8 +358,8 @@ pub const SENT_OVER: &str = "send over spaced titles, studio";
 pub const APPLIED: &str = "refresh, record with a spaced title, kind";
 
 /// The subjects for the length of each memory, call by call: setup, commit, send, refresh, read, collect, preview, forward, van_write,
-/// move.
-pub const LENGTHS: [[&str; 3]; 10] = [
+/// move, load.
+pub const LENGTHS: [[&str; 3]; 11] = [
     ["setup, library bytes", "setup, log bytes", "setup, session bytes"],
     ["commit, library bytes", "commit, log bytes", "commit, session bytes"],
     ["send, library bytes", "send, log bytes", "send, session bytes"],
@@ -328,4 +370,5 @@ pub const LENGTHS: [[&str; 3]; 10] = [
     ["forward, library bytes", "forward, log bytes", "forward, session bytes"],
     ["van_write, library bytes", "van_write, log bytes", "van_write, session bytes"],
     ["move, library bytes", "move, log bytes", "move, session bytes"],
+    ["load, library bytes", "load, log bytes", "load, session bytes"],
 ];

@@ -1,8 +1,8 @@
-//! What a refused call leaves, and what a read, a collect, a forward, a move, a van_write and a receive answer and leave, by the words of
-//! 01 and 02 and not by the simulator (the form of one operation apart, of a receive). A refused call changes nothing, with one exception
-//! (02's S-3). A reading call that no row stops is answered by the session's studio, and raises its number (02's S-7), or it waits, or is
-//! answered by the head end (02's S-4). A move changes one word of control (02's S-7). A van_write changes nothing but output, a receive
-//! nothing but the van's copy (02's S-6).
+//! What a refused call leaves, and what a read, a collect, a forward, a move, a load, a van_write and a receive answer and leave, by the
+//! words of 01 and 02 and not by the simulator (the form of one operation apart, of a receive). A refused call changes nothing, with one
+//! exception (02's S-3). A reading call that no row stops is answered by the session's studio, and raises its number (02's S-7), or it
+//! waits, or is answered by the head end (02's S-4). A move changes one word of control (02's S-7), a load nothing (02's S-8). A van_write
+//! changes nothing but output, a receive nothing but the van's copy (02's S-6).
 
 use crate::call::Call;
 use crate::delivery::Delivery;
@@ -80,6 +80,11 @@ fn waits(session: u32, control: Control, lent: &Lent) -> Answer {
 pub fn by_move(session: u32, studio: u32, mut control: Control) -> Answer {
     control.session_studios[session as usize - 1] = studio;
     Answer { kind: DONE, value: studio, found: 0, control }
+}
+
+/// The answer of a load that no row stops: it "tests" memory "and returns commits". Neither control nor a lent byte changes.
+pub fn by_load(control: Control) -> Answer {
+    Answer { kind: DONE, value: control.commits, found: 0, control }
 }
 
 /// The answer of a van_write that no row stops; `lent` is what it was lent, and becomes what it leaves. "The writer puts one message at

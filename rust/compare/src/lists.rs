@@ -2,6 +2,7 @@
 
 use crate::arguments::{self, CALLS, Taste};
 use crate::asides;
+use crate::call::Call;
 use crate::chaos;
 use crate::direct;
 use crate::guided::{self, Aim};
@@ -10,9 +11,10 @@ use crate::make::Maker;
 use crate::player::{Mismatch, Player};
 use crate::random::Random;
 use crate::sweep;
+use crate::torn;
 use crate::written::{self, Written};
 
-const KINDS: [&str; 21] = [
+const KINDS: [&str; 22] = [
     "mixed",
     "direct",
     "waits",
@@ -34,6 +36,7 @@ const KINDS: [&str; 21] = [
     "taken",
     "forwards",
     "moves",
+    "loads",
 ];
 
 pub fn kind(seed: u64) -> &'static str {
@@ -60,6 +63,7 @@ pub fn play(player: &mut Player<'_>, seed: u64) -> Result<(), Mismatch> {
         "taken" => guided::play(player, seed, Aim::Taken),
         "forwards" => guided::play(player, seed, Aim::Forwards),
         "moves" => guided::play(player, seed, Aim::Moves),
+        "loads" => loads(player, seed),
         "direct" => unreached(player, seed),
         "damage" => damage(player, seed),
         "memory sweep" => sweep::memory(player, seed, turn),
@@ -80,7 +84,7 @@ pub fn play_fresh(player: &mut Player<'_>, seed: u64) -> Result<(), Mismatch> {
 /// Lists from memory of the layout that no list reaches. The messages of the last one go to vans, the first ones among them.
 fn unreached(player: &mut Player<'_>, seed: u64) -> Result<(), Mismatch> {
     let mut random = Random::new(seed);
-    let taste = Taste { weights: [25, 15, 30, 18, 12, 12, 16, 14, 14], sizes: (1, 8), fitting: 92, misfits: 8 };
+    let taste = Taste { weights: [25, 15, 30, 18, 12, 12, 16, 14, 14, 5], sizes: (1, 8), fitting: 92, misfits: 8 };
     let (raised, walked) = (player.coverage.met(&RAISED), player.coverage.watched_moved);
     for _ in 0..8 {
         let maker = Maker::new(&mut random, 6);
@@ -99,6 +103,19 @@ fn unreached(player: &mut Player<'_>, seed: u64) -> Result<(), Mismatch> {
         player.coverage.count((ANSWERS_UNREACHED, 0, DONE));
     }
     Ok(())
+}
+
+/// Memory of one to four studios that the log makes and no list leaves, and copies of it that are torn. Then the sweep.
+fn loads(player: &mut Player<'_>, seed: u64) -> Result<(), Mismatch> {
+    let mut random = Random::new(seed);
+    for studios in 1..=4 {
+        let carts = *random.pick(&[3, 6, 40, 128]);
+        let maker = Maker::new(&mut random, carts);
+        let mut wall = torn::made_wall(studios, &mut random, &maker);
+        player.play(&mut wall, &Call::Load)?;
+        torn::play(player, &mut random, &maker, &wall)?;
+    }
+    torn::sweep(player, &mut random)
 }
 
 /// Damage of every kind to memory that has a place for every kind.

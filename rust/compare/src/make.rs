@@ -104,6 +104,15 @@ impl Maker {
         unit
     }
 
+    /// The same, of an operation that meets its cart, as `fitting` makes it.
+    pub fn logged_fitting(&self, random: &mut Random, held: &mut [bool; 129]) -> Unit {
+        let mut unit = self.fitting(random, held);
+        if matches!(unit[0], 1 | 2) {
+            put_title(&mut unit, self.any_title(random));
+        }
+        unit
+    }
+
     /// A message of so many operations as records have them.
     pub fn message(&self, random: &mut Random, number: u32, count: usize) -> Vec<u8> {
         let operations: Vec<u8> = (0..count).flat_map(|_| self.logged(random)).collect();

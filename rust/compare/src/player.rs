@@ -59,6 +59,11 @@ impl<'e> Player<'e> {
         Player { engine, judge, coverage, call_number: 0, calls: 0, written, scratch: None, before: Lent::zeros() }
     }
 
+    /// Whether every call is compared with the simulator's.
+    pub fn is_compared(&self) -> bool {
+        self.judge == Judge::All
+    }
+
     /// Begins the list of a seed.
     pub fn begin_list(&mut self, seed: u64) {
         self.call_number = 0;
@@ -259,7 +264,7 @@ impl<'e> Player<'e> {
         Err(self.mismatch(call.to_string(), words))
     }
 
-    /// A refused call, the reading calls, a move and a van_write leave what `left.rs` says, apart from the simulator.
+    /// A refused call, the reading calls, a move, a load and a van_write leave what `left.rs` says, apart from the simulator.
     fn check_left(&mut self, call: &Call, control: Control, answer: &Answer, played: &Lent) -> Result<(), Mismatch> {
         let right = match call {
             _ if answer.kind == REFUSED => left::by_refusal(answer.value, call, control, &mut self.before),
@@ -267,6 +272,7 @@ impl<'e> Player<'e> {
             Call::Collect { session, .. } => left::by_collect(*session, control, &mut self.before),
             Call::Forward { session, request, .. } => left::by_forward(*session, request, control, &mut self.before),
             Call::Move { session, studio } => left::by_move(*session, *studio, control),
+            Call::Load => left::by_load(control),
             Call::VanWrite { number, .. } => left::by_van_write(*number, control, &mut self.before),
             _ => return Ok(()),
         };
@@ -363,6 +369,21 @@ mod tests {
         assert!(!passes(2, [1; 16], 0), "the session is where it was");
         assert!(!passes(2, another, 0), "another session is moved");
         assert!(!passes(2, moved, 1), "the session's number is another");
+    }
+
+    #[test]
+    fn a_load_must_leave_everything() {
+        let control = Control { studios: 2, commits: 3, sent: [2; 4], ..Control::default() };
+        let passes = |value: u32, handed_back: Control, byte: u8| {
+            let answer = Answer { kind: simulator::DONE, value, found: 0, control: handed_back };
+            let mut played = Lent::zeros();
+            played.sessions.lent_mut()[2] = byte;
+            Player::new(&mut Simulated, Judge::All).check_left(&Call::Load, control, &answer, &played).is_ok()
+        };
+        assert!(passes(3, control, 0), "commits, and nothing else");
+        assert!(!passes(0, control, 0), "commits are not returned");
+        assert!(!passes(3, Control { sent: [0; 4], ..control }, 0), "control is another");
+        assert!(!passes(3, control, 1), "a number is another");
     }
 
     #[test]

@@ -9,11 +9,13 @@ use crate::keys::{BY_BOTH, BY_OUTSIDE, BY_STUDIO, BY_UNUSED, MOVE_AWAY, MOVE_HER
 use crate::keys::{COLLECT_FORWARDED, COLLECT_KEPT, FORWARD_AGAIN, FORWARD_AGAIN_ALONE, FORWARD_TOLD, MIXED};
 use crate::keys::{COLLECT_TOLD, RAISED, RAISED_UNREACHED, READ_TOLD, READ_TOLD_ALONE};
 use crate::keys::{DONE, HEAD_END, Key, LENGTHS, PREVIEWED, PREVIEWED_IN_LIST, READ, WAITED};
+use crate::keys::{LOAD_BOTH, LOAD_MISFIT_BY_ALL, LOAD_MISFIT_BY_NONE, LOAD_MISFIT_BY_SOME};
 use crate::keys::{NONE, ONE, SEARCH_AFTER, SEARCH_NUMBER, SEVERAL, WRONG_LENGTH};
 use crate::keys::{READ_FORWARDED, READ_FORWARDED_ALONE, READ_STRAIGHT, VAN_WRITE_LOW, VAN_WRITE_UNSENT};
 use crate::older;
 use crate::places;
 use crate::sweep;
+use crate::tears;
 use crate::van_sweep;
 use std::fmt;
 
@@ -70,7 +72,7 @@ pub const EXCLUDED: [(&str, u32, u32, &str); 5] = [
 /// The rows of commit and of preview, by their numbers.
 const EDIT_ROWS: &[u32] = &[1, 2, 3, 4, 5, 6, 7, 8, 16];
 
-const CALLS: [(&str, &[u32], &[u32]); 10] = [
+const CALLS: [(&str, &[u32], &[u32]); 11] = [
     ("setup", &[1, 15], &[DONE]),
     ("commit", EDIT_ROWS, &[DONE]),
     ("preview", EDIT_ROWS, &[DONE]),
@@ -81,6 +83,7 @@ const CALLS: [(&str, &[u32], &[u32]); 10] = [
     ("forward", &[1, 2, 3, 4, 12, 13], &[READ, HEAD_END]),
     ("van_write", &[1, 2, 17], &[DONE]),
     ("move", &[1, 2, 3, 4], &[DONE]),
+    ("load", &[1, 2, 19], &[DONE]),
 ];
 
 /// Every line a run must have met.
@@ -110,6 +113,8 @@ pub fn lines() -> Vec<Line> {
     lines.extend(told().map(Line::Ended));
     lines.extend(forwarded().map(Line::Ended));
     lines.extend(moved().into_iter().map(Line::Ended));
+    lines.extend(tears::TORN.iter().flat_map(|torn| torn.ends.iter().map(|end| Line::Ended((torn.name, 0, *end)))));
+    lines.extend(loaded().map(Line::Ended));
     lines.extend([SEARCH_NUMBER, SEARCH_AFTER].map(|subject| Line::Ended((subject, 0, ONE))));
     lines.extend(faulty().map(Line::Met));
     lines.extend(vans().map(Line::Ended));
@@ -157,6 +162,11 @@ fn moved() -> Vec<Key> {
     let held = [READ_HELD.map(|subject| (subject, 0, WAITED)), FORWARD_HELD.map(|subject| (subject, 0, HEAD_END))];
     let lists = [ANSWERS_UNREACHED, UNMOVED].map(|subject| (subject, 0, DONE));
     [&row_3[..], &known.concat(), &waits.concat(), &forwards.concat(), &held.concat(), &lists].concat()
+}
+
+/// What a load is refused for with no number beside it.
+fn loaded() -> [Key; 4] {
+    [(LOAD_MISFIT_BY_NONE, 0, 19), (LOAD_MISFIT_BY_SOME, 0, 19), (LOAD_MISFIT_BY_ALL, 0, 19), (LOAD_BOTH, 0, 19)]
 }
 
 /// Each reason for refusal 17 at the receiver, alone, with a number that else is held, applied or refused with 18. A number 0 else is held.

@@ -4,10 +4,12 @@
 //! the bytes that are there are taken: memory is cut or filled with zeros to
 //! its length, operations are the whole 80-byte units, and an output is too
 //! short for an unknown request if it is shorter than 80, for an unknown
-//! transaction if it is shorter than the message of one operation.
+//! transaction if it is shorter than the message of one operation. What the log
+//! makes is what its transactions make as far as links that go up lead.
 
 use crate::call::Call;
 use crate::lent::{Lent, Part};
+use crate::made;
 use crate::message;
 use crate::single;
 use simulator::{ANSWERED, Answer, COPY, Control, LIBRARY, LOG, SESSION_MEMORY, UNIT};
@@ -55,6 +57,7 @@ fn row_holds(row: u32, call: &Call, control: &Control, lent: &Lent) -> bool {
         (17, Call::VanWrite { number, output }) => {
             !(1..=control.commits).contains(number) || *output < message::output_asked(lent, *number)
         }
+        (19, _) => made::faults(control, lent).any(),
         _ => false,
     }
 }
@@ -170,6 +173,11 @@ pub fn title(unit: &[u8]) -> &[u8] {
 /// The log's 512 records, for memory of any length.
 pub fn log(lent: &Lent) -> Cow<'_, [u8]> {
     sized(&lent.log, LOG)
+}
+
+/// The five copies, for memory of any length.
+pub fn library(lent: &Lent) -> Cow<'_, [u8]> {
+    sized(&lent.library, LIBRARY)
 }
 
 /// The head end's copy, for memory of any length.

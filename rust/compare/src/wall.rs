@@ -98,7 +98,7 @@ impl Wall {
     }
 
     /// The number of session 1 to 16.
-    fn number(&self, session: u32) -> u32 {
+    pub fn number(&self, session: u32) -> u32 {
         let unit = 80 * (session as usize - 1);
         rows::session_number(&self.played.sessions.lent()[unit..unit + 80])
     }
