@@ -3,6 +3,7 @@
 use crate::keys::{ACTED, PASSED_OVER, RECEIVE_AHEAD, RECEIVE_APPLIED, RECEIVE_BYTES, RECEIVE_CART, RECEIVE_COPY, RECEIVE_COUNT};
 use crate::keys::{ANSWERS, ANSWERS_MOVED, MOVE_ABOVE, MOVE_AHEAD, MOVE_BEHIND, MOVE_SESSION, MOVE_STUDIO};
 use crate::keys::{APPLIED, Asked, COLLECT_SPACES, COMMIT, DONE, Edit, Key, PREVIEW, READ, READ_ASKED, READ_SPACES, Reading, SENT_OVER};
+use crate::keys::{COLLECT_LOADED, COMMIT_LOADED, FIRST_SHOWN, FIRST_SHOWN_MOVED, LOADED, REFUSED_LOADED};
 use crate::keys::{COLLECT_RAISES, FORWARD_RAISES, READ_RAISES};
 use crate::keys::{FORWARD_ASKED, FORWARD_COMMITS, FORWARD_HIGH, FORWARD_IN_LIST, FORWARD_NUMBER, FORWARD_RAISED, FORWARD_SPACES};
 use crate::keys::{FORWARD_STUDIO, FORWARD_UNMADE, HEAD_END, WAITED};
@@ -25,7 +26,7 @@ pub fn all() -> Vec<Key> {
     let spaces = [reading(&READ_SPACES, WAITED), reading(&COLLECT_SPACES, WAITED), reading(&FORWARD_SPACES, HEAD_END)].concat();
     let asked = [asked(&READ_ASKED, WAITED), asked(&FORWARD_ASKED, HEAD_END)].concat();
     let calls = [edit(&COMMIT), edit(&PREVIEW), taken(), asked, forward(), spaces, moves(), load(), van_write(), OTHERS.to_vec()].concat();
-    [calls, searches(), receive()].concat()
+    [calls, loaded(), searches(), receive()].concat()
 }
 
 /// Those of a load. A byte that alone differs, in memory of the layout, is one of audio, length or title.
@@ -62,6 +63,19 @@ fn load() -> Vec<Key> {
         (LOAD_MISFIT_LATER, &[0, 1, 2], 19),
         (torn::SWEEP, &[0, 1, 2, 3, 4], DONE),
     ])
+}
+
+/// Those of the lists over loaded memory.
+fn loaded() -> Vec<Key> {
+    let answers = [READ, HEAD_END].map(|end| numbered(&[(FIRST_SHOWN, &[0, 1, 2], end), (FIRST_SHOWN_MOVED, &[0, 1, 2], end)]));
+    let others = numbered(&[
+        (LOADED, &[0, 1, 512], DONE),
+        (COLLECT_LOADED, &[1, 2], READ),
+        (COLLECT_LOADED, &[1, 2], WAITED),
+        (COMMIT_LOADED, &[1, 2], DONE),
+        (REFUSED_LOADED, &[0, 1, 2], 8),
+    ]);
+    [answers.concat(), others].concat()
 }
 
 /// Those of a move, of the numbers that answers raise, and of two answers to one session.

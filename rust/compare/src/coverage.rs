@@ -31,6 +31,12 @@ pub struct Coverage {
     pub watched_moved: u64,
     /// Calls played again without moves, by S-7's rule and by the one before.
     pub unmoved: u64,
+    /// Orders over loaded memory, the entries in them that are loaded transactions, and the requests that were loaded.
+    pub loaded: u64,
+    pub loaded_transactions: u64,
+    pub loaded_requests: u64,
+    /// Calls of lists after which memory was loaded.
+    pub restarts: u64,
     /// Title searches.
     pub searches: u64,
     /// Receives; fresh vans, and the receives of these.
@@ -60,6 +66,10 @@ impl Coverage {
         self.forwards += history.forwards() as u64;
         if history.is_mixed() {
             self.count((MIXED, 0, DONE));
+        }
+        if let Some(commits) = history.loaded_commits() {
+            self.loaded += 1;
+            self.loaded_transactions += u64::from(commits);
         }
     }
 
@@ -276,6 +286,10 @@ impl Coverage {
         self.watched += other.watched;
         self.watched_moved += other.watched_moved;
         self.unmoved += other.unmoved;
+        self.loaded += other.loaded;
+        self.loaded_transactions += other.loaded_transactions;
+        self.loaded_requests += other.loaded_requests;
+        self.restarts += other.restarts;
         self.searches += other.searches;
         self.receives += other.receives;
         self.vans += other.vans;

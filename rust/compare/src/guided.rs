@@ -1,18 +1,22 @@
-//! Lists from fresh systems, guided so that deep states are reached.
+//! Lists from fresh systems, guided so that deep states are reached, and the lists over loaded memory that go on from them.
 
 use crate::arguments::{self, CALLS, PREVIEW, Taste};
 use crate::asides;
 use crate::call::Call;
-use crate::keys::DONE;
+use crate::keys::{DONE, LOADED_EARLIER};
+use crate::lists;
 use crate::make::Maker;
 use crate::older;
-use crate::one_copy::History;
+use crate::played::Played;
 use crate::player::{Mismatch, Player};
 use crate::random::Random;
 use crate::torn;
 use crate::wall::Wall;
-use crate::written;
+use crate::written::{self, Written};
 use simulator::Answer;
+
+/// In one of so many lists of a kind memory is loaded after each call.
+const LOADS_EACH: usize = 4;
 
 /// What a list is after.
 #[derive(Clone, Copy, Debug)]
@@ -36,6 +40,8 @@ pub enum Aim {
     Forwards,
     /// Moves among reads, collects and forwards, with studios that have applied different counts.
     Moves,
+    /// Restarts while reads wait and studios are behind, some with a save from before, and lists over what is loaded.
+    Restarts,
 }
 
 /// One list being played.
@@ -44,25 +50,28 @@ pub struct Guide<'p, 'e> {
     random: Random,
     maker: Maker,
     wall: Wall,
-    history: History,
-    /// The list so far, from its setup on.
-    calls: Vec<Call>,
+    list: Played,
+    /// A save from an earlier moment.
+    saved: Option<Wall>,
+    /// Whether memory is loaded after each call, and the calls since it last was.
+    loads_each: bool,
+    unloaded: u32,
 }
 
 pub fn play(player: &mut Player<'_>, seed: u64, aim: Aim) -> Result<(), Mismatch> {
     let mut random = Random::new(seed);
     let carts = match aim {
-        Aim::Titles | Aim::Waits | Aim::Older | Aim::Taken | Aim::Forwards | Aim::Moves => 3,
+        Aim::Titles | Aim::Waits | Aim::Older | Aim::Taken | Aim::Forwards | Aim::Moves | Aim::Restarts => 3,
         Aim::Mixed => 40,
         _ => 10,
     };
     let maker = Maker::new(&mut random, carts);
-    let (wall, history) = (Wall::zeros(), History::new());
-    let mut guide = Guide { player, random, maker, wall, history, calls: Vec::new() };
+    let (wall, list) = (Wall::zeros(), Played::fresh());
+    let loads_each = lists::turn(seed).is_multiple_of(LOADS_EACH);
+    let mut guide = Guide { player, random, maker, wall, list, saved: None, loads_each, unloaded: 0 };
     guide.begin(aim)?;
     guide.follow(aim)?;
-    guide.player.check_order(&guide.history)?;
-    guide.player.check_unmoved(&guide.calls)
+    guide.list.end(guide.player)
 }
 
 impl Guide<'_, '_> {
@@ -89,16 +98,14 @@ impl Guide<'_, '_> {
                 session_studios[15] = *studios as u8;
             }
         }
-        self.player.play(&mut self.wall, &call)?;
-        self.calls.push(call);
-        Ok(())
+        self.list.set_up(self.player, &mut self.wall, call)
     }
 
     fn follow(&mut self, aim: Aim) -> Result<(), Mismatch> {
         match aim {
-            Aim::Mixed => self.steps(400, &taste([25, 20, 20, 25, 10, 8, 12, 12, 10, 4], (1, 8), 85)),
-            Aim::Waits => self.steps(350, &taste([22, 13, 13, 30, 22, 6, 15, 10, 8, 4], (1, 3), 93)),
-            Aim::Titles => self.steps(350, &taste([25, 18, 20, 30, 7, 6, 15, 10, 8, 4], (1, 3), 93)),
+            Aim::Mixed => self.halves(400, &taste([25, 20, 20, 25, 10, 8, 12, 12, 10, 4], (1, 8), 85)),
+            Aim::Waits => self.halves(350, &taste([22, 13, 13, 30, 22, 6, 15, 10, 8, 4], (1, 3), 93)),
+            Aim::Titles => self.halves(350, &taste([25, 18, 20, 30, 7, 6, 15, 10, 8, 4], (1, 3), 93)),
             Aim::Eights => self.fill(&taste([66, 13, 13, 5, 3, 7, 4, 8, 3, 2], (8, 8), 97), 504),
             // Few reads: a session that waits commits nothing, and the studios are far behind. Few arguments that do not fit: among them
             // are transactions of two.
@@ -112,6 +119,7 @@ impl Guide<'_, '_> {
             Aim::Taken => self.taken(),
             Aim::Forwards => self.forwards(),
             Aim::Moves => self.moves(),
+            Aim::Restarts => self.restarts(),
         }
     }
 
@@ -123,9 +131,64 @@ impl Guide<'_, '_> {
             torn::play_aside(self.player, &mut self.random, &self.maker, &self.wall)?;
         }
         let call = arguments::call(&mut self.random, &self.maker, taste, &self.wall);
-        let answer = self.player.play_in(&mut self.history, &mut self.wall, &call)?;
-        self.calls.push(call);
+        let answer = self.list.play(self.player, &mut self.wall, call)?;
+        self.load_after()?;
         Ok(answer)
+    }
+
+    /// In some lists memory is loaded after each call; less often where the log is long, since the simulator then takes long.
+    fn load_after(&mut self) -> Result<(), Mismatch> {
+        let between = self.wall.control.used / 40;
+        self.unloaded += 1;
+        if !self.loads_each || self.unloaded <= between {
+            return Ok(());
+        }
+        self.unloaded = 0;
+        self.player.check_restart(&mut self.wall)
+    }
+
+    /// Saves memory and control.
+    fn save(&mut self) {
+        self.saved = Some(self.wall.clone());
+    }
+
+    /// The list ends. Memory and control are loaded, as they are or as they were saved, and a list begins with them; nothing else is left
+    /// of the one before.
+    fn restart(&mut self) -> Result<(), Mismatch> {
+        let earlier = self.saved.take();
+        if let Some(before) = &earlier {
+            torn::play_mixed(self.player, before, &self.wall)?;
+        }
+        let mut wall = earlier.clone().unwrap_or_else(|| self.wall.clone());
+        wall.mirror();
+        if !self.player.load(&mut wall)? {
+            return Ok(());
+        }
+        self.list.end(self.player)?;
+        self.player.coverage.note_loaded(&wall);
+        if earlier.is_some() {
+            self.player.coverage.count((LOADED_EARLIER, 0, DONE));
+            self.player.written = Written::before(&wall);
+            wall.written = 0;
+        }
+        self.list = Played::over(&wall);
+        self.wall = wall;
+        Ok(())
+    }
+
+    /// A restart in some lists.
+    fn restart_in(&mut self, percent: usize) -> Result<(), Mismatch> {
+        match self.random.percent(percent) {
+            true => self.restart(),
+            false => Ok(()),
+        }
+    }
+
+    /// Steps with a restart between them now and then.
+    fn halves(&mut self, count: usize, taste: &Taste) -> Result<(), Mismatch> {
+        self.steps(count / 2, taste)?;
+        self.restart_in(30)?;
+        self.steps(count / 2, taste)
     }
 
     fn steps(&mut self, count: usize, taste: &Taste) -> Result<(), Mismatch> {
@@ -144,7 +207,9 @@ impl Guide<'_, '_> {
             self.overfill()?;
             self.step(&taste([50, 15, 15, 10, 10, 12, 10, 10, 5, 2], (1, 2), 90))?;
         }
+        self.restart_in(30)?;
         self.steps(40, &taste([60, 12, 12, 10, 6, 12, 8, 8, 5, 2], (1, 8), 80))?;
+        self.restart_in(30)?;
         self.steps(150, &taste([5, 40, 40, 10, 5, 3, 6, 8, 6, 2], (1, 1), 95))
     }
 
@@ -179,6 +244,7 @@ impl Guide<'_, '_> {
                 self.step(&taste([90, 2, 0, 6, 2, 4, 3, 4, 2, 2], (1, 1), 97))?;
             }
             self.steps(80, &taste([2, 90, 0, 6, 2, 1, 3, 3, 2, 3], (1, 1), 95))?;
+            self.restart_in(30)?;
             self.steps(60, &taste([8, 36, 40, 10, 6, 4, 6, 8, 6, 3], (1, 2), 90))?;
         }
         Ok(())
@@ -190,11 +256,11 @@ impl Guide<'_, '_> {
         self.steps(60, &mixed)?;
         self.steps(80, &taste([2, 45, 45, 5, 3, 0, 3, 5, 3, 2], (1, 1), 95))?;
         self.steps(5, &taste([80, 5, 5, 5, 5, 0, 5, 5, 0, 0], (1, 1), 97))?;
-        let Guide { player, random, maker, wall, history, .. } = self;
-        if older::exchange_titles(random, maker, wall, history, &mut player.written) {
+        let Guide { player, random, maker, wall, list, .. } = self;
+        if older::exchange_titles(random, maker, wall, &mut list.history, &mut player.written) {
             player.coverage.count((older::NAME, 0, DONE));
         }
-        self.steps(300, &mixed)
+        self.halves(300, &mixed)
     }
 
     /// Edits; then studios that stay behind or catch up; then edits of carts in the wrong state, and reads.
@@ -204,6 +270,7 @@ impl Guide<'_, '_> {
             if self.random.percent(50) {
                 self.steps(20, &taste([0, 45, 45, 0, 10, 0, 0, 0, 0, 2], (1, 1), 100))?;
             }
+            self.restart_in(5)?;
             let mistaken = Taste { misfits: 70, ..taste([40, 5, 5, 30, 12, 8, 10, 5, 8, 3], (1, 3), 97) };
             self.steps(10, &mistaken)?;
         }
@@ -217,6 +284,7 @@ impl Guide<'_, '_> {
             if self.random.percent(50) {
                 self.steps(14, &taste([0, 45, 45, 0, 10, 0, 0, 0, 0, 2], (1, 1), 100))?;
             }
+            self.restart_in(5)?;
             self.steps(14, &taste([12, 12, 14, 18, 14, 2, 28, 5, 8, 3], (1, 2), 97))?;
         }
         Ok(())
@@ -227,7 +295,29 @@ impl Guide<'_, '_> {
         for _ in 0..10 {
             self.steps(6, &taste([75, 5, 5, 5, 5, 0, 5, 5, 5, 2], (1, 2), 95))?;
             self.steps(10, &taste([0, 45, 45, 0, 10, 0, 0, 0, 10, 2], (1, 1), 100))?;
+            self.restart_in(5)?;
             self.steps(20, &taste([6, 8, 12, 25, 14, 2, 12, 3, 28, 3], (1, 2), 97))?;
+        }
+        Ok(())
+    }
+
+    /// Edits; studios that catch up, one further than the other; reads, some of which wait; perhaps a save and then collects, edits and
+    /// reads that are lost; then a restart, and all kinds of call over what is loaded.
+    fn restarts(&mut self) -> Result<(), Mismatch> {
+        let waits = taste([16, 8, 10, 40, 6, 2, 6, 3, 8, 3], (1, 2), 97);
+        self.restart_in(10)?;
+        for _ in 0..6 {
+            self.steps(6, &taste([75, 5, 5, 5, 5, 0, 5, 5, 5, 2], (1, 2), 95))?;
+            self.steps(8, &taste([0, 45, 45, 0, 10, 0, 0, 0, 5, 0], (1, 1), 100))?;
+            self.steps(12, &waits)?;
+            if self.random.percent(40) {
+                self.save();
+                self.steps(12, &taste([0, 30, 30, 0, 30, 0, 0, 0, 0, 2], (1, 1), 100))?;
+                self.steps(12, &waits)?;
+            }
+            self.restart()?;
+            let mistaken = Taste { misfits: 20, ..taste([14, 8, 12, 24, 18, 4, 16, 4, 18, 4], (1, 2), 97) };
+            self.steps(20, &mistaken)?;
         }
         Ok(())
     }
@@ -238,7 +328,7 @@ impl Aim {
     fn studios(self) -> Option<(usize, usize)> {
         match self {
             Aim::Window | Aim::Waits | Aim::Older | Aim::Taken | Aim::Forwards => Some((1, 2)),
-            Aim::Moves => Some((2, 4)),
+            Aim::Moves | Aim::Restarts => Some((2, 4)),
             _ => None,
         }
     }

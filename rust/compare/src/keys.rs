@@ -19,11 +19,12 @@ pub const HELD: u32 = 108;
 /// Subject, the number met, and how the call ended.
 pub type Key = (&'static str, u32, u32);
 
-/// The commit that is the next call after its preview and gives the same answer: anywhere, and in lists from fresh systems.
+/// The commit that is the next call after its preview and gives the same answer: anywhere, and in lists from fresh or loaded systems.
 pub const PREVIEWED: &str = "commit right after its preview";
 pub const PREVIEWED_IN_LIST: &str = "commit right after its preview, in a list";
 
-/// The commits of the control at which a commit was refused with 8: anywhere, and in lists from fresh systems, where it is an entry.
+/// The commits of the control at which a commit was refused with 8: anywhere, and in lists from fresh or loaded systems, where it is an
+/// entry.
 pub const REFUSED_AT: &str = "commit refused with 8, commits";
 pub const REFUSED_IN_LIST: &str = "commit refused with 8 in a list, commits";
 /// Such a refusal of a session whose number is below commits.
@@ -95,7 +96,7 @@ pub const FORWARD_HELD: [&str; 3] = [
     "next forward after a move, studio behind only what a forward showed",
 ];
 /// Two answers to one session, one after the other: the later state less the earlier, 2 standing for more too. Then those with a move
-/// between them; in lists from fresh systems, where both are entries; in lists from memory that no list reaches.
+/// between them; in lists from fresh or loaded systems, where both are entries; in lists from memory that no list reaches.
 pub const ANSWERS: &str = "two answers to a session, state − state";
 pub const ANSWERS_MOVED: &str = "two answers to a session and a move between them, state − state";
 pub const ANSWERS_IN_LIST: &str = "two answers to a session and a move between them, in a list";
@@ -145,6 +146,33 @@ pub const LOAD_MISFIT_BY_SOME: &str = "load, copies right and one operation in a
 pub const LOAD_MISFIT_BY_ALL: &str = "load, copies right and one operation in a wrong state, applied by every studio";
 /// A copy that differs, and an operation in a wrong state.
 pub const LOAD_BOTH: &str = "load, a copy that differs and an operation in a wrong state";
+
+/// A list that begins with loaded memory: by its commits; one whose memory was saved before other calls; one whose memory no list has left.
+pub const LOADED: &str = "list over loaded memory, commits";
+pub const LOADED_EARLIER: &str = "list over loaded memory that was saved before other calls";
+pub const LOADED_MADE: &str = "list over loaded memory that no list has left";
+/// In such a list, answers with a state below the loaded commits, which stand between the loaded transactions; and one with state 0.
+pub const READ_BELOW: &str = "read over loaded memory, state below its commits";
+pub const COLLECT_BELOW: &str = "collect over loaded memory, state below its commits";
+pub const FORWARD_BELOW: &str = "forward over loaded memory, state below its commits";
+pub const BELOW_ALL: &str = "answer over loaded memory with commits, state 0";
+/// A collect of a loaded request, by its kind; a commit, by its number less the loaded commits, 2 standing for more too, or refused with 8,
+/// by commits less those.
+pub const COLLECT_LOADED: &str = "collect of a loaded request, kind of read";
+pub const COMMIT_LOADED: &str = "commit over loaded memory, number − loaded commits";
+pub const REFUSED_LOADED: &str = "commit over loaded memory refused with 8, commits − loaded commits";
+/// A move to another studio, also refused by 4 because of the loaded request.
+pub const MOVE_LOADED: &str = "move over loaded memory";
+pub const MOVE_STOPPED: &str = "move while a loaded request waits";
+/// The first answer to a session since memory was loaded: its state less the loaded number, 2 standing for more too; then with a move
+/// before it.
+pub const FIRST_SHOWN: &str = "first answer over loaded memory, state − loaded number";
+pub const FIRST_SHOWN_MOVED: &str = "first answer over loaded memory and after a move, state − loaded number";
+/// What the loaded number alone stops before the first answer: a read, a forward by the studio; and those after a move.
+pub const FIRST_READ: &str = "first read over loaded memory, studio behind the loaded number";
+pub const FIRST_FORWARD: &str = "first forward over loaded memory, studio behind the loaded number";
+pub const FIRST_READ_MOVED: &str = "first read over loaded memory and after a move, studio behind the loaded number";
+pub const FIRST_FORWARD_MOVED: &str = "first forward over loaded memory and after a move, studio behind the loaded number";
 
 /// The subjects of a session's number that an answer of its studio raises.
 pub struct Raises {

@@ -2,19 +2,20 @@
 
 use crate::arguments::{self, CALLS, Taste};
 use crate::asides;
-use crate::call::Call;
 use crate::chaos;
 use crate::direct;
 use crate::guided::{self, Aim};
-use crate::keys::{ANSWERS_UNREACHED, DONE, RAISED, RAISED_UNREACHED};
+use crate::keys::{ANSWERS_UNREACHED, DONE, LOADED_MADE, RAISED, RAISED_UNREACHED};
 use crate::make::Maker;
+use crate::played::Played;
 use crate::player::{Mismatch, Player};
 use crate::random::Random;
 use crate::sweep;
 use crate::torn;
+use crate::wall::Wall;
 use crate::written::{self, Written};
 
-const KINDS: [&str; 22] = [
+const KINDS: [&str; 23] = [
     "mixed",
     "direct",
     "waits",
@@ -36,6 +37,7 @@ const KINDS: [&str; 22] = [
     "taken",
     "forwards",
     "moves",
+    "restarts",
     "loads",
 ];
 
@@ -63,6 +65,7 @@ pub fn play(player: &mut Player<'_>, seed: u64) -> Result<(), Mismatch> {
         "taken" => guided::play(player, seed, Aim::Taken),
         "forwards" => guided::play(player, seed, Aim::Forwards),
         "moves" => guided::play(player, seed, Aim::Moves),
+        "restarts" => guided::play(player, seed, Aim::Restarts),
         "loads" => loads(player, seed),
         "direct" => unreached(player, seed),
         "damage" => damage(player, seed),
@@ -74,10 +77,12 @@ pub fn play(player: &mut Player<'_>, seed: u64) -> Result<(), Mismatch> {
     }
 }
 
-/// Only lists from fresh systems, for the one-copy order alone, for what S-7 says of them alone, and for fresh vans.
+/// Only lists from fresh systems, and over what these leave: for the one-copy order alone, for what S-7 and S-8 say of them alone, and for
+/// fresh vans.
 pub fn play_fresh(player: &mut Player<'_>, seed: u64) -> Result<(), Mismatch> {
     player.begin_list(seed);
-    let aims = [Aim::Waits, Aim::Titles, Aim::Mixed, Aim::Window, Aim::Older, Aim::Taken, Aim::Forwards, Aim::Moves];
+    let reads = [Aim::Waits, Aim::Titles, Aim::Mixed, Aim::Window, Aim::Older];
+    let aims = [&reads[..], &[Aim::Taken, Aim::Forwards, Aim::Moves, Aim::Restarts]].concat();
     guided::play(player, seed, aims[seed as usize % aims.len()])
 }
 
@@ -105,17 +110,32 @@ fn unreached(player: &mut Player<'_>, seed: u64) -> Result<(), Mismatch> {
     Ok(())
 }
 
-/// Memory of one to four studios that the log makes and no list leaves, and copies of it that are torn. Then the sweep.
+/// Memory of one to four studios that the log makes and no list leaves: copies of it that are torn, and a list over it. Then the sweep.
 fn loads(player: &mut Player<'_>, seed: u64) -> Result<(), Mismatch> {
     let mut random = Random::new(seed);
     for studios in 1..=4 {
         let carts = *random.pick(&[3, 6, 40, 128]);
         let maker = Maker::new(&mut random, carts);
         let mut wall = torn::made_wall(studios, &mut random, &maker);
-        player.play(&mut wall, &Call::Load)?;
+        player.load(&mut wall)?;
         torn::play(player, &mut random, &maker, &wall)?;
+        over(player, &mut random, &maker, wall)?;
     }
     torn::sweep(player, &mut random)
+}
+
+/// A list over loaded memory.
+fn over(player: &mut Player<'_>, random: &mut Random, maker: &Maker, mut wall: Wall) -> Result<(), Mismatch> {
+    let taste = Taste { weights: [20, 12, 22, 22, 22, 4, 14, 6, 14, 2], sizes: (1, 3), fitting: 95, misfits: 20 };
+    let mut list = Played::over(&wall);
+    player.written = Written::before(&wall);
+    player.coverage.note_loaded(&wall);
+    player.coverage.count((LOADED_MADE, 0, DONE));
+    for _ in 0..50 {
+        let call = arguments::call(random, maker, &taste, &wall);
+        list.play(player, &mut wall, call)?;
+    }
+    list.end(player)
 }
 
 /// Damage of every kind to memory that has a place for every kind.

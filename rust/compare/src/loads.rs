@@ -1,16 +1,35 @@
-//! What is met of load (02's S-8): the memory that it accepts, and what alone it refuses with 19.
+//! What is met of load (02's S-8): the memory that it accepts, what alone it refuses with 19, and the lists over loaded memory.
 
 use crate::call::Call;
 use crate::coverage::{Coverage, outcome};
-use crate::keys::{DONE, LOAD_APPLIED, LOAD_BEHIND, LOAD_COMMITS, LOAD_SENT, LOAD_SPACED, LOAD_STUDIOS, LOAD_USED, LOAD_WAITS};
+use crate::keys::{BELOW_ALL, COLLECT_BELOW, DONE, FORWARD_BELOW, HEAD_END, READ, READ_BELOW, WAITED};
+use crate::keys::{COLLECT_LOADED, COMMIT_LOADED, LOADED, MOVE_LOADED, MOVE_STOPPED, REFUSED_LOADED};
+use crate::keys::{FIRST_FORWARD, FIRST_FORWARD_MOVED, FIRST_READ, FIRST_READ_MOVED, FIRST_SHOWN, FIRST_SHOWN_MOVED};
+use crate::keys::{LOAD_APPLIED, LOAD_BEHIND, LOAD_COMMITS, LOAD_SENT, LOAD_SPACED, LOAD_STUDIOS, LOAD_USED, LOAD_WAITS};
 use crate::keys::{LOAD_BOTH, LOAD_BYTE, LOAD_CART, LOAD_EARLIER, LOAD_LATER, LOAD_LESS, LOAD_LETTER, LOAD_LETTER_LAST, LOAD_MORE};
 use crate::keys::{LOAD_HEAD_END, LOAD_LAST, LOAD_STUDIO, LOAD_STUDIO_APPLIED, LOAD_STUDIO_BEHIND};
 use crate::keys::{LOAD_MISFIT, LOAD_MISFIT_IN, LOAD_MISFIT_LATER, LOAD_MISFIT_PLACE};
 use crate::keys::{LOAD_MISFIT_BY_ALL, LOAD_MISFIT_BY_NONE, LOAD_MISFIT_BY_SOME};
 use crate::lent::Lent;
 use crate::made::{self, Faults, Log, Misfit};
+use crate::one_copy::History;
 use crate::rows;
-use simulator::{Answer, COPY, Control, UNIT};
+use crate::walks::Walk;
+use crate::wall::Wall;
+use simulator::{ANSWERED, Answer, COPY, Control, UNIT};
+
+/// A call of a list over loaded memory.
+pub struct Over {
+    /// The commits that were loaded.
+    commits: u32,
+    /// Before the call: its session's studio, number and walk, and the kind of the loaded request that a collect takes.
+    studio: u32,
+    number: u32,
+    walk: Walk,
+    request: Option<u8>,
+    /// How it ended.
+    end: u32,
+}
 
 impl Coverage {
     /// A load that rows 1 and 2 let through; `lent` is what it was lent, since it changes nothing.
@@ -119,5 +138,82 @@ impl Coverage {
         if alone {
             self.count((subject, 0, 19));
         }
+    }
+
+    /// A list begins with this memory.
+    pub fn note_loaded(&mut self, wall: &Wall) {
+        self.count((LOADED, wall.control.commits, DONE));
+        self.loaded_requests += wall.used_sessions().into_iter().filter(|session| wall.waiting(*session)).count() as u64;
+    }
+
+    /// A call of such a list.
+    pub fn note_over(&mut self, call: &Call, over: &Over, answer: &Answer) {
+        let Over { commits, end, .. } = *over;
+        if answer.kind == ANSWERED {
+            self.note_answer_over(call, over, answer.value);
+        }
+        match (call, end) {
+            (Call::Collect { .. }, READ | WAITED) => {
+                over.request.into_iter().for_each(|kind| self.count((COLLECT_LOADED, u32::from(kind), end)));
+            }
+            (Call::Commit { .. }, DONE) => self.count((COMMIT_LOADED, answer.value.saturating_sub(commits).min(2), end)),
+            (Call::Commit { .. }, 8) => self.count((REFUSED_LOADED, answer.control.commits.saturating_sub(commits).min(2), end)),
+            (Call::Move { studio, .. }, DONE) if *studio != over.studio => self.count((MOVE_LOADED, 0, end)),
+            (Call::Move { .. }, 4) if over.request.is_some() => self.count((MOVE_STOPPED, 0, end)),
+            (Call::Read { .. }, WAITED) | (Call::Forward { .. }, HEAD_END) => self.note_first_stopped(call, over),
+            _ => {}
+        }
+    }
+
+    /// An answer: where its state stands, and beside the session's loaded number if it is the session's first.
+    fn note_answer_over(&mut self, call: &Call, over: &Over, state: u32) {
+        let Over { commits, walk, end, .. } = *over;
+        if state < commits {
+            let subject = match call {
+                Call::Read { .. } => READ_BELOW,
+                Call::Collect { .. } => COLLECT_BELOW,
+                _ => FORWARD_BELOW,
+            };
+            self.count((subject, 0, end));
+        }
+        if state == 0 && commits > 0 {
+            self.count((BELOW_ALL, 0, end));
+        }
+        if walk.shown.is_none() {
+            let above = state.saturating_sub(walk.loaded).min(2);
+            self.count((FIRST_SHOWN, above, end));
+            if walk.moved {
+                self.count((FIRST_SHOWN_MOVED, above, end));
+            }
+        }
+    }
+
+    /// A read that waits or a forward by the head end, because of the loaded number.
+    fn note_first_stopped(&mut self, call: &Call, over: &Over) {
+        let Over { walk, number, end, .. } = *over;
+        if walk.shown.is_some() || number != walk.loaded {
+            return;
+        }
+        let (first, moved) = match call {
+            Call::Read { .. } => (FIRST_READ, FIRST_READ_MOVED),
+            _ => (FIRST_FORWARD, FIRST_FORWARD_MOVED),
+        };
+        self.count((if walk.moved { moved } else { first }, 0, end));
+    }
+}
+
+impl Over {
+    /// Before a call of a list, if that is over loaded memory.
+    pub fn before(history: &History, wall: &Wall, call: &Call) -> Option<Over> {
+        let commits = history.loaded_commits()?;
+        let (studio, number) = (rows::session_studio(call, &wall.control), rows::session_number(&rows::stored(call, &wall.played)));
+        let request = rows::session_of(call).and_then(|session| history.loaded_request(session));
+        Some(Over { commits, studio, number, walk: wall.walks.of(call), request, end: 0 })
+    }
+
+    /// After it; an answered forward is the head end's or its studio's.
+    pub fn after(self, call: &Call, answer: &Answer) -> Over {
+        let end = if rows::by_head_end(call, self.number, answer) { HEAD_END } else { outcome(answer) };
+        Over { end, ..self }
     }
 }

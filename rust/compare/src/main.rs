@@ -29,6 +29,7 @@ mod older;
 mod one_copy;
 mod options;
 mod places;
+mod played;
 mod player;
 mod random;
 mod receives;

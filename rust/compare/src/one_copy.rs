@@ -1,11 +1,14 @@
 //! 01's one-copy order: the list's accepted commits, its commits refused with 8
 //! (02's S-3) and its answered reads, forwards (02's S-4) among them, put into
 //! one order and played on the single library. A session's entries stand in its
-//! order whatever studios it was at (02's S-7).
+//! order whatever studios it was at (02's S-7). A list may begin with loaded
+//! memory (02's S-8): the loaded log's transactions are the first commits then.
 
 use crate::call::Call;
+use crate::lent::Lent;
+use crate::message;
 use crate::single::SingleLibrary;
-use simulator::{ANSWERED, Answer, DONE, REFUSED, WAITS};
+use simulator::{ANSWERED, Answer, Control, DONE, REFUSED, UNIT, WAITS};
 
 enum What {
     Commit {
@@ -35,6 +38,7 @@ enum ReadBy {
 }
 
 struct Entry {
+    /// 0 for a loaded transaction, which stands before every call and "belongs to no session".
     call: u64,
     session: u32,
     what: What,
@@ -50,20 +54,40 @@ impl Entry {
     }
 }
 
-/// The list H so far, from a fresh system.
+/// The list H so far, from a fresh system or from loaded memory.
 pub struct History {
     entries: Vec<Entry>,
-    /// Per session, its latest read that waited.
+    /// Per session, its latest read that waited; before the first such read of H the request that was loaded for it.
     waited: Vec<Vec<u8>>,
+    /// Whether that is still the loaded one.
+    loaded_request: [bool; 17],
+    /// The commits of loaded memory.
+    loaded: Option<u32>,
 }
 
 impl History {
     pub fn new() -> History {
-        History { entries: Vec::new(), waited: vec![Vec::new(); 17] }
+        History { entries: Vec::new(), waited: vec![Vec::new(); 17], loaded_request: [false; 17], loaded: None }
     }
 
-    /// Takes in one call of H; `output` is as it stood when the call ended. Waits, sends, refreshes, previews, written messages, moves
-    /// and refusals have no entry, but for a commit's refusal 8.
+    /// Before the first call of H, which begins with this memory: "the loaded log's transactions, which belong to no session, are the
+    /// first commits of the one-copy order". Transactions to which the log's links do not lead have no operations.
+    pub fn loaded(control: &Control, lent: &Lent) -> History {
+        let mut history = History { loaded: Some(control.commits), ..History::new() };
+        for number in 1..=control.commits {
+            let operations = message::operations_in_log(lent, number).unwrap_or_default();
+            history.entries.push(Entry { call: 0, session: 0, what: What::Commit { operations, number } });
+        }
+        for (session, unit) in (1..).zip(lent.sessions.lent().chunks_exact(UNIT)).filter(|(_, unit)| unit[0] != 0) {
+            history.waited[session] = unit.to_vec();
+            history.waited[session][2..4].fill(0);
+            history.loaded_request[session] = true;
+        }
+        history
+    }
+
+    /// Takes in one call of H; `output` is as it stood when the call ended. Waits, sends, refreshes, previews, written messages, moves,
+    /// loads and refusals have no entry, but for a commit's refusal 8.
     pub fn note(&mut self, number: u64, call: &Call, answer: &Answer, output: &[u8]) {
         match (call, answer.kind) {
             (Call::Commit { session, operations }, DONE) => {
@@ -82,6 +106,7 @@ impl History {
             }
             (Call::Read { session, request, .. }, WAITS) => {
                 self.waited[*session as usize].clone_from(request);
+                self.loaded_request[*session as usize] = false;
             }
             (Call::Collect { session, .. }, ANSWERED) => {
                 let request = self.waited[*session as usize].clone();
@@ -92,7 +117,7 @@ impl History {
     }
 
     fn push_read(&mut self, call: u64, session: u32, (by, request): (ReadBy, Vec<u8>), answer: &Answer, output: &[u8]) {
-        let numbers = if request[0] == 1 { usize::from(request[1]) } else { 1 };
+        let numbers = if let [1, count, ..] = request[..] { usize::from(count) } else { 1 };
         let written = output[..output.len().min(80 * numbers)].to_vec();
         let what = What::Read { by, request, state: answer.value, found: answer.found, written };
         self.entries.push(Entry { call, session, what });
@@ -110,6 +135,18 @@ impl History {
             }
         }
         self.waited.iter_mut().filter(|asked| !asked.is_empty()).for_each(|asked| request(asked));
+    }
+
+    /// The commits of loaded memory, if H begins with that.
+    pub fn loaded_commits(&self) -> Option<u32> {
+        self.loaded
+    }
+
+    /// The kind of the loaded request that a collect of this session takes: there is "no waiting read of its session before it in the
+    /// list".
+    pub fn loaded_request(&self, session: u32) -> Option<u8> {
+        let place = session as usize;
+        self.loaded_request.get(place).filter(|loaded| **loaded).map(|_| self.waited[place][0])
     }
 
     pub fn len(&self) -> usize {
@@ -169,6 +206,7 @@ fn replay(library: &mut SingleLibrary, entry: &Entry) -> Result<(), String> {
             Err(count) => Err(format!("one-copy order: refusal 8 at {commits} commits is the library's at {count}")),
             Ok(count) => Err(format!("one-copy order: refusal 8 at {commits} commits is the library's commit {count}")),
         },
+        What::Read { request, .. } if request.is_empty() => Err("one-copy order: a collect is answered, and no read waited".to_string()),
         What::Read { request, state, found, written, .. } => {
             let (count, held, carts) = library.read(request);
             if (count, held) != (*state, *found) {
@@ -340,6 +378,65 @@ mod tests {
         assert_eq!((walked.len(), walked.check()), (3, Ok(())));
         let back = moved(0, &[0; 80]).check();
         assert_eq!(back.unwrap_err(), (3, "one-copy order: session 2 out of its order".to_string()));
+    }
+
+    /// Cart 1 is new by commit 1 and withdrawn by commit 2, and session 1 waits for it with number 2: memory that a list begins with.
+    fn loaded() -> History {
+        let (mut lent, control) = (Lent::zeros(), Control { commits: 2, ..Control::default() });
+        let log = lent.log.lent_mut();
+        log[..80].copy_from_slice(&new_cart_1());
+        log[14] = 2;
+        log[80..83].copy_from_slice(&[4, 0, 1]);
+        let unit = lent.sessions.lent_mut();
+        (unit[0], unit[1], unit[2], unit[16]) = (1, 1, 2, 1);
+        History::loaded(&control, &lent)
+    }
+
+    #[test]
+    fn loaded_transactions_are_the_first_commits_and_reads_stand_between_them() {
+        let mut history = loaded();
+        history.note(1, &read_cart_1(2), &answer(ANSWERED, 0, 0), &[0; 80]);
+        history.note(2, &read_cart_1(2), &answer(ANSWERED, 1, 1), &new_cart_1());
+        history.note(3, &Call::Load, &answer(DONE, 2, 0), &[]);
+        history.note(4, &Call::Commit { session: 2, operations: new_cart_1() }, &answer(DONE, 3, 0), &[]);
+        assert_eq!((history.len(), history.loaded_commits(), history.check()), (5, Some(2), Ok(())));
+        history.note(5, &read_cart_1(2), &answer(ANSWERED, 2, 0), &[0; 80]);
+        assert!(history.check().unwrap_err().1.contains("session 2 out of its order"));
+    }
+
+    #[test]
+    fn a_commit_that_is_numbered_without_the_loaded_ones_does_not_stand() {
+        let mut history = loaded();
+        history.note(1, &Call::Commit { session: 2, operations: new_cart_1() }, &answer(DONE, 1, 0), &[]);
+        assert!(history.check().is_err());
+    }
+
+    #[test]
+    fn a_refusal_8_stands_after_the_loaded_commits() {
+        let (mut history, withdraw) = (loaded(), [&[4, 0, 1][..], &[0; 77]].concat());
+        let commit = Call::Commit { session: 2, operations: withdraw };
+        history.note(1, &commit, &Answer { control: Control { commits: 2, ..Control::default() }, ..answer(REFUSED, 8, 0) }, &[]);
+        assert_eq!(history.check(), Ok(()));
+    }
+
+    #[test]
+    fn a_collect_takes_the_loaded_request_until_a_read_waits() {
+        let mut history = loaded();
+        assert_eq!((history.loaded_request(1), history.loaded_request(2), history.loaded_request(17)), (Some(1), None, None));
+        let collect = Call::Collect { session: 1, output: 80 };
+        history.note(1, &collect, &answer(ANSWERED, 2, 0), &[0; 80]);
+        assert_eq!(history.check(), Ok(()));
+        history.note(2, &read_cart_1(1), &answer(WAITS, 3, 0), &[]);
+        assert_eq!(history.loaded_request(1), None);
+        history.note(3, &collect, &answer(ANSWERED, 1, 1), &new_cart_1());
+        assert!(history.check().unwrap_err().1.contains("session 1 out of its order"), "at an earlier state than before");
+    }
+
+    #[test]
+    fn a_collect_with_no_request_does_not_stand() {
+        let mut history = loaded();
+        history.note(1, &Call::Collect { session: 2, output: 80 }, &answer(ANSWERED, 2, 0), &[0; 80]);
+        assert!(history.check().unwrap_err().1.contains("no read waited"));
     }
 
     #[test]

@@ -8,10 +8,11 @@ use crate::engine::{Engine, simulate};
 use crate::keys::{ANSWERS_IN_LIST, DONE, FORWARD_IN_LIST, HEAD_END, PREVIEWED, PREVIEWED_IN_LIST, READ, REFUSED_IN_LIST, UNMOVED};
 use crate::left;
 use crate::lent::Lent;
+use crate::loads::Over;
 use crate::one_copy::History;
 use crate::rows;
 use crate::sought::Sought;
-use crate::unmoved;
+use crate::unmoved::{self, System};
 use crate::walks::Walk;
 use crate::wall::Wall;
 use crate::watch;
@@ -124,7 +125,7 @@ impl<'e> Player<'e> {
 
     /// Plays a call of H and takes it into the history.
     pub fn play_in(&mut self, history: &mut History, wall: &mut Wall, call: &Call) -> Result<Answer, Mismatch> {
-        let previewed = wall.answer_previewed(call);
+        let (previewed, over) = (wall.answer_previewed(call), Over::before(history, wall, call));
         let (number, walk) = (rows::session_number(&rows::stored(call, &wall.played)), wall.walks.of(call));
         let answer = self.play_on(wall, call)?;
         if previewed.is_some() {
@@ -139,7 +140,42 @@ impl<'e> Player<'e> {
             let end = if rows::by_head_end(call, number, &answer) { HEAD_END } else { READ };
             self.note_entry(call, walk, end);
         }
+        if let Some(over) = over {
+            self.coverage.note_over(call, &over.after(call, &answer), &answer);
+        }
         Ok(answer)
+    }
+
+    /// Loads what a list has left, and says whether a list may begin with it: always, for an engine that is held to that.
+    pub fn load(&mut self, wall: &mut Wall) -> Result<bool, Mismatch> {
+        let whole = left::by_load(wall.control);
+        let answer = self.play(wall, &Call::Load)?;
+        let loaded = answer == whole;
+        match self.judge {
+            Judge::All if !loaded => Err(self.not_loaded(&answer)),
+            _ => Ok(loaded),
+        }
+    }
+
+    /// S-8: what a list leaves is loaded, whenever that is. Engine and simulator are asked, beside the list.
+    pub fn check_restart(&mut self, wall: &mut Wall) -> Result<(), Mismatch> {
+        if !self.is_compared() {
+            return Ok(());
+        }
+        self.coverage.restarts += 1;
+        let whole = left::by_load(wall.control);
+        let mut answer = self.engine.play(&Call::Load, wall.control, &mut wall.played);
+        if answer == whole {
+            answer = simulate(&Call::Load, wall.control, &mut wall.simulated);
+        }
+        match answer == whole {
+            true => Ok(()),
+            false => Err(self.not_loaded(&answer)),
+        }
+    }
+
+    fn not_loaded(&self, answer: &Answer) -> Mismatch {
+        self.mismatch("load, beside the list".to_string(), format!("what a list leaves is not loaded: {}", answer_text(answer)))
     }
 
     /// An answered read, collect or forward that is an entry; `walk` is its session's before it.
@@ -213,12 +249,12 @@ impl<'e> Player<'e> {
         history.check().map_err(|(call_number, words)| Mismatch { call_number, call: "(the whole list)".to_string(), words })
     }
 
-    /// Plays a whole list, from its setup on, again without its moves.
-    pub fn check_unmoved(&mut self, calls: &[Call]) -> Result<(), Mismatch> {
+    /// Plays a whole list, from its setup or from what it began with, again without its moves.
+    pub fn check_unmoved(&mut self, start: &System, calls: &[Call]) -> Result<(), Mismatch> {
         if !matches!(self.judge, Judge::All | Judge::Unmoved) {
             return Ok(());
         }
-        let (played, raised) = unmoved::check(self.engine, calls).map_err(|(call, words)| self.mismatch(call.to_string(), words))?;
+        let (played, raised) = unmoved::check(self.engine, start, calls).map_err(|(call, words)| self.mismatch(call.to_string(), words))?;
         self.coverage.unmoved += played;
         if raised {
             self.coverage.count((UNMOVED, 0, DONE));
@@ -253,14 +289,17 @@ impl<'e> Player<'e> {
         Err(self.mismatch(call.to_string(), words))
     }
 
-    /// 02's "nobody walks back in time" (S-7): a session's answer shows no lower state than the one before.
+    /// 02's "nobody walks back in time" (S-7): a session's answer shows no lower state than the one before, nor than its loaded number.
     fn check_walk(&self, wall: &Wall, call: &Call, answer: &Answer) -> Result<(), Mismatch> {
         let walk = wall.walks.of(call);
         if answer.kind != ANSWERED || !walk.leads_back(answer.value) {
             return Ok(());
         }
-        let (shown, state) = (walk.shown.unwrap_or_default(), answer.value);
-        let words = format!("a walk back in time: state {state}, and the session was shown {shown} before");
+        let before = match walk.shown {
+            Some(shown) => format!("the session was shown {shown} before"),
+            None => format!("the session's loaded number is {}", walk.loaded),
+        };
+        let words = format!("a walk back in time: state {}, and {before}", answer.value);
         Err(self.mismatch(call.to_string(), words))
     }
 
@@ -384,6 +423,20 @@ mod tests {
         assert!(!passes(0, control, 0), "commits are not returned");
         assert!(!passes(3, Control { sent: [0; 4], ..control }, 0), "control is another");
         assert!(!passes(3, control, 1), "a number is another");
+    }
+
+    #[test]
+    fn what_a_list_leaves_must_be_loaded() {
+        let mut engine = Simulated;
+        let mut player = Player::new(&mut engine, Judge::All);
+        let mut wall = Wall::zeros();
+        player.play(&mut wall, &Call::Setup { studios: 1, session_studios: vec![1; 16] }).expect("no mismatch");
+        assert!(player.check_restart(&mut wall).is_ok() && player.load(&mut wall).is_ok_and(|loaded| loaded));
+        wall.played.library.lent_mut()[..17].copy_from_slice(&[1, 1, 1, 0, 5, 0, 0, 0, 6, 0, 0, 0, 0, 0, 0, 0, b'A']);
+        wall.mirror();
+        let words = "what a list leaves is not loaded: refused 19 (found 0)";
+        assert_eq!(player.check_restart(&mut wall).expect_err("a cart, and no commit").words, words);
+        assert_eq!(player.load(&mut wall).expect_err("a cart, and no commit").words, words);
     }
 
     #[test]

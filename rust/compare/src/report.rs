@@ -21,7 +21,12 @@ pub fn print(coverage: &Coverage) -> usize {
         println!("{:>9}  {call}: rows {row} and {other} at once: {reason}", "-");
     }
     let Coverage { orders, entries, refusals, forwards, watched, watched_moved, unmoved, vans, arrived, .. } = coverage;
+    let Coverage { loaded, loaded_transactions, loaded_requests, restarts, .. } = coverage;
     println!("one-copy orders: {orders}, entries in them: {entries}, of these refusals 8: {refusals}, forwards: {forwards}");
+    println!(
+        "of these orders over loaded memory: {loaded}, loaded transactions in them: {loaded_transactions}, requests: {loaded_requests}"
+    );
+    println!("calls of lists after which engine and simulator loaded what was left: {restarts}");
     println!("answers held to the one before of their session: {watched}, of these with a move between them: {watched_moved}");
     println!("calls played again without moves, by S-7's rule and by the one before: {unmoved}");
     println!("fresh vans: {vans}, messages for them: {arrived}");

@@ -5,10 +5,12 @@ use crate::damage;
 use crate::faults::FAULTS;
 use crate::keys::{ANSWERS_IN_LIST, ANSWERS_UNREACHED, COLLECT_MOVED, FORWARD_HELD, FORWARD_MOVED, READ_HELD, READ_MOVED};
 use crate::keys::{ARRIVED_AGAIN, ARRIVED_LATE, ARRIVED_SPACED, HELD, RECEIVE, RUN_LOST, RUN_SOON, RUN_WHOLE};
+use crate::keys::{BELOW_ALL, COLLECT_BELOW, FORWARD_BELOW, LOADED_EARLIER, LOADED_MADE, MOVE_LOADED, MOVE_STOPPED, READ_BELOW};
 use crate::keys::{BY_BOTH, BY_OUTSIDE, BY_STUDIO, BY_UNUSED, MOVE_AWAY, MOVE_HERE, UNMOVED};
 use crate::keys::{COLLECT_FORWARDED, COLLECT_KEPT, FORWARD_AGAIN, FORWARD_AGAIN_ALONE, FORWARD_TOLD, MIXED};
 use crate::keys::{COLLECT_TOLD, RAISED, RAISED_UNREACHED, READ_TOLD, READ_TOLD_ALONE};
 use crate::keys::{DONE, HEAD_END, Key, LENGTHS, PREVIEWED, PREVIEWED_IN_LIST, READ, WAITED};
+use crate::keys::{FIRST_FORWARD, FIRST_FORWARD_MOVED, FIRST_READ, FIRST_READ_MOVED};
 use crate::keys::{LOAD_BOTH, LOAD_MISFIT_BY_ALL, LOAD_MISFIT_BY_NONE, LOAD_MISFIT_BY_SOME};
 use crate::keys::{NONE, ONE, SEARCH_AFTER, SEARCH_NUMBER, SEVERAL, WRONG_LENGTH};
 use crate::keys::{READ_FORWARDED, READ_FORWARDED_ALONE, READ_STRAIGHT, VAN_WRITE_LOW, VAN_WRITE_UNSENT};
@@ -16,6 +18,7 @@ use crate::older;
 use crate::places;
 use crate::sweep;
 use crate::tears;
+use crate::torn;
 use crate::van_sweep;
 use std::fmt;
 
@@ -114,6 +117,7 @@ pub fn lines() -> Vec<Line> {
     lines.extend(forwarded().map(Line::Ended));
     lines.extend(moved().into_iter().map(Line::Ended));
     lines.extend(tears::TORN.iter().flat_map(|torn| torn.ends.iter().map(|end| Line::Ended((torn.name, 0, *end)))));
+    lines.extend(torn::MIXED.map(|(name, end)| Line::Ended((name, 0, end))));
     lines.extend(loaded().map(Line::Ended));
     lines.extend([SEARCH_NUMBER, SEARCH_AFTER].map(|subject| Line::Ended((subject, 0, ONE))));
     lines.extend(faulty().map(Line::Met));
@@ -164,9 +168,27 @@ fn moved() -> Vec<Key> {
     [&row_3[..], &known.concat(), &waits.concat(), &forwards.concat(), &held.concat(), &lists].concat()
 }
 
-/// What a load is refused for with no number beside it.
-fn loaded() -> [Key; 4] {
-    [(LOAD_MISFIT_BY_NONE, 0, 19), (LOAD_MISFIT_BY_SOME, 0, 19), (LOAD_MISFIT_BY_ALL, 0, 19), (LOAD_BOTH, 0, 19)]
+/// What a load is refused for with no number beside it, and of lists over loaded memory what stands between the loaded transactions, moves,
+/// and what the loaded numbers alone hold back.
+fn loaded() -> [Key; 16] {
+    [
+        (LOAD_MISFIT_BY_NONE, 0, 19),
+        (LOAD_MISFIT_BY_SOME, 0, 19),
+        (LOAD_MISFIT_BY_ALL, 0, 19),
+        (LOAD_BOTH, 0, 19),
+        (LOADED_EARLIER, 0, DONE),
+        (LOADED_MADE, 0, DONE),
+        (READ_BELOW, 0, READ),
+        (COLLECT_BELOW, 0, READ),
+        (FORWARD_BELOW, 0, READ),
+        (BELOW_ALL, 0, READ),
+        (MOVE_LOADED, 0, DONE),
+        (MOVE_STOPPED, 0, 4),
+        (FIRST_READ, 0, WAITED),
+        (FIRST_READ_MOVED, 0, WAITED),
+        (FIRST_FORWARD, 0, HEAD_END),
+        (FIRST_FORWARD_MOVED, 0, HEAD_END),
+    ]
 }
 
 /// Each reason for refusal 17 at the receiver, alone, with a number that else is held, applied or refused with 18. A number 0 else is held.

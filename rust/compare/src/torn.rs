@@ -1,4 +1,5 @@
-//! Memory for load (02's S-8): walls that the log makes, and walls torn so that they are of the layout and no list leaves them.
+//! Memory for load (02's S-8): walls that the log makes, walls torn so that they are of the layout and no list leaves them, and what two
+//! saves of one list make.
 
 use crate::call::Call;
 use crate::coverage::outcome;
@@ -42,6 +43,44 @@ impl Torn {
         let answer = player.play_aside(wall, &Call::Load, |wall| (self.tear)(random, maker, wall))?;
         player.coverage.count((self.name, 0, outcome(&answer)));
         Ok(())
+    }
+}
+
+/// Where one part is of an earlier save than the others, and how a load of that must have ended.
+pub const MIXED: [(&str, u32); 4] = [
+    ("torn: the library of an earlier save", 19),
+    ("torn: the log of an earlier save", 2),
+    ("torn: the sessions of an earlier save", DONE),
+    ("torn: the control of an earlier save", 2),
+];
+
+/// Loads what two saves of one list make, some of the four parts from before and some from now.
+pub fn play_mixed(player: &mut Player<'_>, before: &Wall, now: &Wall) -> Result<(), Mismatch> {
+    if !player.is_compared() {
+        return Ok(());
+    }
+    for parts in 1..15 {
+        let answer = player.play_aside(now, &Call::Load, |wall| mix(parts, before, wall))?;
+        if let Some(part) = (0..4).find(|part| parts == 1 << part) {
+            player.coverage.count((MIXED[part].0, 0, outcome(&answer)));
+        }
+    }
+    Ok(())
+}
+
+/// The parts whose bits are set become those of before.
+fn mix(parts: u32, before: &Wall, wall: &mut Wall) {
+    let is_before = |part: u32| parts & 1 << part != 0;
+    let memories = [
+        (&mut wall.played.library, &before.played.library),
+        (&mut wall.played.log, &before.played.log),
+        (&mut wall.played.sessions, &before.played.sessions),
+    ];
+    for (_, (memory, earlier)) in (0..).zip(memories).filter(|(part, _)| is_before(*part)) {
+        memory.copy_from(earlier);
+    }
+    if is_before(3) {
+        wall.control = before.control;
     }
 }
 

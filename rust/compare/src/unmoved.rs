@@ -1,5 +1,5 @@
-//! 02's S-7, "In a list without moves every answer is the same as it was": a list's calls without its moves, played from a fresh system,
-//! and beside it by the rule of before, 01's "A read does not change the session's number".
+//! 02's S-7, "In a list without moves every answer is the same as it was": a list's calls without its moves, played from a fresh system
+//! or from loaded memory (02's S-8), and beside it by the rule of before, 01's "A read does not change the session's number".
 
 use crate::call::Call;
 use crate::differ::answer_text;
@@ -7,16 +7,25 @@ use crate::engine::Engine;
 use crate::left;
 use crate::lent::Lent;
 use crate::rows;
+use crate::wall::Wall;
 use simulator::{ANSWERED, Answer, Control};
 
-struct System {
+/// Memory and control that a list begins with.
+#[derive(Clone)]
+pub struct System {
     lent: Lent,
     control: Control,
 }
 
 impl System {
-    fn zeros() -> System {
+    /// For a list that begins with an accepted setup.
+    pub fn zeros() -> System {
         System { lent: Lent::zeros(), control: Control::default() }
+    }
+
+    /// The engine's, as they are.
+    pub fn of(wall: &Wall) -> System {
+        System { lent: wall.played.clone(), control: wall.control }
     }
 
     fn play(&mut self, engine: &mut dyn Engine, call: &Call) -> Answer {
@@ -39,9 +48,9 @@ impl System {
 }
 
 /// How many calls were played, and whether a session's number was another at the end; or the first call that is answered otherwise, and
-/// in what. The first call is an accepted setup.
-pub fn check(engine: &mut dyn Engine, calls: &[Call]) -> Result<(u64, bool), (Call, String)> {
-    let (mut now, mut before) = (System::zeros(), System::zeros());
+/// in what.
+pub fn check(engine: &mut dyn Engine, start: &System, calls: &[Call]) -> Result<(u64, bool), (Call, String)> {
+    let (mut now, mut before) = (start.clone(), start.clone());
     let mut played = 0;
     for call in calls.iter().filter(|call| !matches!(call, Call::Move { .. })) {
         played += 1;
@@ -91,8 +100,17 @@ mod tests {
 
     #[test]
     fn without_its_move_a_list_is_answered_as_before() {
-        assert_eq!(check(&mut Simulated, &walk()), Ok((6, true)));
-        assert_eq!(check(&mut Simulated, &walk()[..4]), Ok((4, false)), "no number is raised yet");
+        assert_eq!(check(&mut Simulated, &System::zeros(), &walk()), Ok((6, true)));
+        assert_eq!(check(&mut Simulated, &System::zeros(), &walk()[..4]), Ok((4, false)), "no number is raised yet");
+    }
+
+    #[test]
+    fn a_list_may_begin_with_loaded_memory() {
+        let mut loaded = System::zeros();
+        for call in &walk()[..4] {
+            loaded.play(&mut Simulated, call);
+        }
+        assert_eq!(check(&mut Simulated, &loaded, &[&[Call::Load], &walk()[4..]].concat()), Ok((3, true)));
     }
 
     #[test]
@@ -101,7 +119,7 @@ mod tests {
         let to_commits = mistakes.iter().find(|mistake| mistake.name == "an answer raises the number to commits").expect("a wrong engine");
         let mut calls = walk();
         calls.insert(4, Call::Commit { session: 1, operations: vec![4, 0, 1].into_iter().chain([0; 77]).collect() });
-        let (call, words) = check(&mut crate::wrong::Wrong::new(to_commits), &calls).expect_err("the second read waits");
+        let (call, words) = check(&mut crate::wrong::Wrong::new(to_commits), &System::zeros(), &calls).expect_err("the second read waits");
         assert!(matches!(call, Call::Read { session: 2, .. }));
         assert_eq!(words, "without moves waits 2 (found 0), by the rule before S-7 answered state 1 found 1");
     }

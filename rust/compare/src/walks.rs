@@ -1,7 +1,9 @@
 //! What each session was shown, and where it went since (02's S-7, "So that nobody walks back in time"): of two reads answered to one
-//! session the later shows no lower state.
+//! session the later shows no lower state. Over a restart (02's S-8) that is the session's number, as it was loaded: none shows a lower
+//! state.
 
 use crate::call::Call;
+use crate::lent::Lent;
 use crate::rows;
 use simulator::{ANSWERED, Answer, DONE, REFUSED, WAITS};
 
@@ -16,7 +18,9 @@ pub enum By {
 /// One session.
 #[derive(Clone, Copy, Default, PartialEq, Eq, Debug)]
 pub struct Walk {
-    /// The state that its latest answer showed.
+    /// Its number when memory was loaded, or made: what it was shown before, or more.
+    pub loaded: u32,
+    /// The state that its latest answer since then showed.
     pub shown: Option<u32>,
     /// Where answers of studios have raised its number since it last committed or heard of the head end: the latest call that did, and
     /// the number before the first.
@@ -30,7 +34,7 @@ pub struct Walk {
 impl Walk {
     /// Whether an answer with this state leads back in time.
     pub fn leads_back(&self, state: u32) -> bool {
-        self.shown.is_some_and(|shown| state < shown)
+        state < self.loaded || self.shown.is_some_and(|shown| state < shown)
     }
 
     /// After a move, at a studio that has applied so many: the last call that raised the number, if the studio has reached what the number
@@ -47,7 +51,7 @@ impl Walk {
             Some(by) if number < state => Some((by, first)),
             Some(_) => self.raised,
         };
-        Walk { shown: Some(state), raised, moved: false, waits: false }
+        Walk { shown: Some(state), raised, moved: false, waits: false, ..self }
     }
 }
 
@@ -56,6 +60,15 @@ impl Walk {
 pub struct Walks([Walk; 17]);
 
 impl Walks {
+    /// The sessions of this memory, of any length.
+    pub fn loaded(lent: &Lent) -> Walks {
+        let mut walks = Walks::default();
+        for (session, walk) in (1..).zip(&mut walks.0[1..]) {
+            walk.loaded = rows::session_number(&rows::stored(&Call::Collect { session, output: 0 }, lent));
+        }
+        walks
+    }
+
     /// Takes in a call; `number` is its session's before it, and `studio` its session's studio.
     pub fn follow(&mut self, call: &Call, number: u32, studio: u32, answer: &Answer) {
         let walk = &mut self.0[rows::place(call)];
@@ -123,10 +136,24 @@ mod tests {
     }
 
     #[test]
+    fn a_state_below_the_loaded_number_leads_back() {
+        let mut lent = Lent::zeros();
+        lent.sessions.lent_mut()[82..84].copy_from_slice(&[4, 1]);
+        let mut walks = Walks::loaded(&lent);
+        assert!(walks.of(&READ).leads_back(259) && !walks.of(&READ).leads_back(260));
+        assert!(!walks.of(&Call::Collect { session: 1, output: 80 }).leads_back(0), "another session");
+        let control = Control { session_studios: [1; 16], commits: 300, applied: [270; 4], ..Control::default() };
+        walks.follow(&READ, 260, 1, &Answer { kind: ANSWERED, value: 270, found: 0, control });
+        assert!(walks.of(&READ).leads_back(269) && !walks.of(&READ).leads_back(270));
+        walks.follow(&Call::Setup { studios: 1, session_studios: Vec::new() }, 0, 0, &Answer { kind: DONE, value: 0, found: 0, control });
+        assert!(!walks.of(&READ).leads_back(0), "a fresh system");
+    }
+
+    #[test]
     fn what_answers_have_raised_makes_a_session_wait_after_a_move() {
         let raised = [(&READ, 1, ANSWERED, 3), (&COLLECT, 3, ANSWERED, 5), (&READ, 5, ANSWERED, 5), (&MOVE, 5, DONE, 2)];
         let walk = walked(&raised);
-        assert_eq!(walk, Walk { shown: Some(5), raised: Some((By::Collect, 1)), moved: true, waits: false });
+        assert_eq!(walk, Walk { loaded: 0, shown: Some(5), raised: Some((By::Collect, 1)), moved: true, waits: false });
         assert_eq!((walk.held_by(0), walk.held_by(1), walk.held_by(4)), (None, Some(By::Collect), Some(By::Collect)));
         assert_eq!(walked(&raised[..3]).held_by(1), None, "it has not moved");
         assert_eq!(walked(&[(&FORWARD, 6, ANSWERED, 6), (&MOVE, 6, DONE, 2)]).held_by(1), None, "nothing was raised");

@@ -48,12 +48,13 @@ impl Wall {
         }
     }
 
-    /// Gives the simulator the engine's memory, after the latter was changed. What the sessions were told and shown is forgotten.
+    /// Gives the simulator the engine's memory, after the latter was changed. What the sessions were told and shown is forgotten, but for
+    /// the numbers that memory has.
     pub fn mirror(&mut self) {
         self.simulated.copy_from(&self.played);
         self.previewed = None;
         self.told = Sessions::default();
-        self.walks = Walks::default();
+        self.walks = Walks::loaded(&self.played);
     }
 
     /// The answer of the preview right before this call, if the call is the commit that it was of.
