@@ -15,7 +15,7 @@ use crate::wall::Wall;
 use crate::written::{self, Written};
 use simulator::Answer;
 
-/// In one of so many lists of a kind memory is loaded after each call.
+/// In one of so many lists of a kind memory is loaded after each call, without the simulator in all.
 const LOADS_EACH: usize = 4;
 
 /// What a list is after.
@@ -67,7 +67,7 @@ pub fn play(player: &mut Player<'_>, seed: u64, aim: Aim) -> Result<(), Mismatch
     };
     let maker = Maker::new(&mut random, carts);
     let (wall, list) = (Wall::zeros(), Played::fresh());
-    let loads_each = lists::turn(seed).is_multiple_of(LOADS_EACH);
+    let loads_each = !player.is_compared() || lists::turn(seed).is_multiple_of(LOADS_EACH);
     let mut guide = Guide { player, random, maker, wall, list, saved: None, loads_each, unloaded: 0 };
     guide.begin(aim)?;
     guide.follow(aim)?;
@@ -136,9 +136,9 @@ impl Guide<'_, '_> {
         Ok(answer)
     }
 
-    /// In some lists memory is loaded after each call; less often where the log is long, since the simulator then takes long.
+    /// In some lists memory is loaded after each call; with the simulator, which then takes long, less often where the log is long.
     fn load_after(&mut self) -> Result<(), Mismatch> {
-        let between = self.wall.control.used / 40;
+        let between = if self.player.is_compared() { self.wall.control.used / 40 } else { 0 };
         self.unloaded += 1;
         if !self.loads_each || self.unloaded <= between {
             return Ok(());

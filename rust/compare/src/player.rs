@@ -38,6 +38,8 @@ pub enum Judge {
     Walks,
     /// S-7's "In a list without moves every answer is the same as it was".
     Unmoved,
+    /// That what a list leaves is loaded (S-8), after each of its calls.
+    Restarts,
 }
 
 pub struct Player<'e> {
@@ -152,20 +154,20 @@ impl<'e> Player<'e> {
         let answer = self.play(wall, &Call::Load)?;
         let loaded = answer == whole;
         match self.judge {
-            Judge::All if !loaded => Err(self.not_loaded(&answer)),
+            Judge::All | Judge::Restarts if !loaded => Err(self.not_loaded(&answer)),
             _ => Ok(loaded),
         }
     }
 
     /// S-8: what a list leaves is loaded, whenever that is. Engine and simulator are asked, beside the list.
     pub fn check_restart(&mut self, wall: &mut Wall) -> Result<(), Mismatch> {
-        if !self.is_compared() {
+        if !matches!(self.judge, Judge::All | Judge::Restarts) {
             return Ok(());
         }
         self.coverage.restarts += 1;
         let whole = left::by_load(wall.control);
         let mut answer = self.engine.play(&Call::Load, wall.control, &mut wall.played);
-        if answer == whole {
+        if answer == whole && self.judge == Judge::All {
             answer = simulate(&Call::Load, wall.control, &mut wall.simulated);
         }
         match answer == whole {
@@ -427,16 +429,18 @@ mod tests {
 
     #[test]
     fn what_a_list_leaves_must_be_loaded() {
-        let mut engine = Simulated;
-        let mut player = Player::new(&mut engine, Judge::All);
-        let mut wall = Wall::zeros();
-        player.play(&mut wall, &Call::Setup { studios: 1, session_studios: vec![1; 16] }).expect("no mismatch");
-        assert!(player.check_restart(&mut wall).is_ok() && player.load(&mut wall).is_ok_and(|loaded| loaded));
-        wall.played.library.lent_mut()[..17].copy_from_slice(&[1, 1, 1, 0, 5, 0, 0, 0, 6, 0, 0, 0, 0, 0, 0, 0, b'A']);
-        wall.mirror();
-        let words = "what a list leaves is not loaded: refused 19 (found 0)";
-        assert_eq!(player.check_restart(&mut wall).expect_err("a cart, and no commit").words, words);
-        assert_eq!(player.load(&mut wall).expect_err("a cart, and no commit").words, words);
+        for judge in [Judge::All, Judge::Restarts] {
+            let mut engine = Simulated;
+            let mut player = Player::new(&mut engine, judge);
+            let mut wall = Wall::zeros();
+            player.play(&mut wall, &Call::Setup { studios: 1, session_studios: vec![1; 16] }).expect("no mismatch");
+            assert!(player.check_restart(&mut wall).is_ok() && player.load(&mut wall).is_ok_and(|loaded| loaded));
+            wall.played.library.lent_mut()[..17].copy_from_slice(&[1, 1, 1, 0, 5, 0, 0, 0, 6, 0, 0, 0, 0, 0, 0, 0, b'A']);
+            wall.mirror();
+            let words = "what a list leaves is not loaded: refused 19 (found 0)";
+            assert_eq!(player.check_restart(&mut wall).expect_err("a cart, and no commit").words, words);
+            assert_eq!(player.load(&mut wall).expect_err("a cart, and no commit").words, words);
+        }
     }
 
     #[test]

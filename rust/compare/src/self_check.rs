@@ -75,6 +75,8 @@ fn alone(mistake: &Mistake) -> Vec<Option<String>> {
         Alone::Order => vec![caught_alone(mistake, Judge::Order, lists::play_fresh)],
         Alone::Walks => [Judge::Order, Judge::Walks].map(|judge| caught_alone(mistake, judge, lists::play_fresh)).to_vec(),
         Alone::Unmoved => vec![caught_alone(mistake, Judge::Unmoved, lists::play_fresh)],
+        Alone::Restarts => vec![caught_alone(mistake, Judge::Restarts, lists::play_fresh)],
+        Alone::Copies => [Judge::Order, Judge::Restarts].map(|judge| caught_alone(mistake, judge, lists::play_fresh)).to_vec(),
         Alone::Vans => vec![caught_alone(mistake, Judge::Order, |player, seed| {
             lists::play_fresh(player, seed).and_then(|()| vans::play_fresh(player, seed))
         })],

@@ -1,6 +1,6 @@
 //! Mistakes of commit.
 
-use super::mistake::{Mistake, Notes, copy_of, is_refused, mistake, order_mistake, refused, refused_8, right};
+use super::mistake::{Mistake, Notes, copy_mistake, copy_of, is_refused, mistake, order_mistake, refused, refused_8, right};
 use super::mistake::{clear_waiting, session_unit};
 use crate::call::Call;
 use crate::left::set_number;
@@ -12,7 +12,7 @@ use simulator::{Answer, Control, DONE};
 
 pub const MISTAKES: &[Mistake] = &[
     order_mistake("session number raised when the commit is sent", number_at_send),
-    order_mistake("commit acts on its first operation, logs the rest", first_acts),
+    copy_mistake("commit acts on its first operation, logs the rest", first_acts),
     mistake("previous transaction's link not written", no_previous_link),
     mistake("next operation one record off", operation_link_off),
     mistake("next transaction one record off", transaction_link_off),

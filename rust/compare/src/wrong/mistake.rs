@@ -16,6 +16,10 @@ pub struct Notes {
     pub sessions: BTreeMap<u32, u32>,
     /// The studio that each session left by its latest move, until it reads.
     pub left: BTreeMap<usize, u32>,
+    /// The commits that were loaded last.
+    pub loaded: Option<u32>,
+    /// The request of each session's latest read that waited.
+    pub requests: BTreeMap<usize, Vec<u8>>,
 }
 
 pub type Play = fn(&mut Notes, &Call, Control, &mut Lent) -> Answer;
@@ -34,6 +38,10 @@ pub enum Alone {
     Unmoved,
     /// What 02's S-6 says of fresh vans.
     Vans,
+    /// That what a list leaves is loaded (02's S-8).
+    Restarts,
+    /// The one-copy order, and apart from it that what a list leaves is loaded.
+    Copies,
 }
 
 /// A mistake: its name, and the simulator with it, in calls, in searches or in receives.
@@ -75,6 +83,16 @@ pub const fn walk_mistake(name: &'static str, play: Play) -> Mistake {
 /// A mistake that lists without moves alone must catch as well: they are not answered as before S-7.
 pub const fn unmoved_mistake(name: &'static str, play: Play) -> Mistake {
     Mistake { alone: Alone::Unmoved, ..mistake(name, play) }
+}
+
+/// A mistake that restarts alone must catch as well: what a list leaves is not loaded.
+pub const fn restart_mistake(name: &'static str, play: Play) -> Mistake {
+    Mistake { alone: Alone::Restarts, ..mistake(name, play) }
+}
+
+/// A mistake that the one-copy order alone must catch as well, and apart from it restarts, since a copy is not what the log makes.
+pub const fn copy_mistake(name: &'static str, play: Play) -> Mistake {
+    Mistake { alone: Alone::Copies, ..mistake(name, play) }
 }
 
 /// A mistake of the title search.

@@ -5,6 +5,7 @@ mod bounds;
 mod commits;
 mod forwards;
 mod layouts;
+mod loads;
 mod mistake;
 mod moves;
 mod previews;
@@ -38,6 +39,7 @@ pub fn all() -> Vec<Mistake> {
         forwards::MISTAKES,
         moves::MISTAKES,
         raises::MISTAKES,
+        loads::MISTAKES,
         layouts::MISTAKES,
         setups::MISTAKES,
         bounds::MISTAKES,

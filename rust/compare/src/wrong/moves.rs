@@ -1,6 +1,6 @@
 //! Mistakes of move (02's S-7).
 
-use super::mistake::{Mistake, Notes, clear_waiting, is_refused, mistake, order_mistake, refused, right, session_unit, walk_mistake};
+use super::mistake::{Mistake, Notes, clear_waiting, copy_mistake, is_refused, mistake, refused, right, session_unit, walk_mistake};
 use crate::call::Call;
 use crate::left::{self, set_number};
 use crate::lent::Lent;
@@ -10,7 +10,7 @@ use simulator::{Answer, Control, DONE};
 pub const MISTAKES: &[Mistake] = &[
     walk_mistake("move resets the session's number", resets_number),
     walk_mistake("move lowers the session's number to what the new studio has applied", lowers_number),
-    order_mistake("move counts the new studio as caught up", counts_caught_up),
+    copy_mistake("move counts the new studio as caught up", counts_caught_up),
     mistake("move raises the session's number to what the new studio has applied", raised_by_new),
     mistake("move raises the session's number to what the old studio has applied", raised_by_old),
     mistake("move writes the studio into the session's bytes", writes_studio),

@@ -1,6 +1,6 @@
 //! Mistakes of preview.
 
-use super::mistake::{Mistake, Notes, clear_waiting, copy_of, is_refused, mistake, order_mistake, refused, right};
+use super::mistake::{Mistake, Notes, clear_waiting, copy_mistake, copy_of, is_refused, mistake, order_mistake, refused, right};
 use crate::call::Call;
 use crate::lent::Lent;
 use crate::rows;
@@ -9,7 +9,7 @@ use simulator::{Answer, COPY, Control, DONE};
 
 pub const MISTAKES: &[Mistake] = &[
     order_mistake("preview commits", commits),
-    order_mistake("preview leaves its carts at the head end", leaves_carts),
+    copy_mistake("preview leaves its carts at the head end", leaves_carts),
     mistake("preview leaves its records in the log", leaves_records),
     mistake("preview raises the session's number", raises_number),
     mistake("preview hands back control as commit would", hands_back_commits_control),

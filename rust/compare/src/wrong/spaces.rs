@@ -1,6 +1,6 @@
 //! Mistakes of row 16, and of memory and requests with spaced titles, which begin or end with a space.
 
-use super::mistake::{Mistake, Notes, copy_of, is_refused, mistake, order_mistake, refused, refused_8, right};
+use super::mistake::{Mistake, Notes, copy_mistake, copy_of, is_refused, mistake, order_mistake, refused, refused_8, right};
 use crate::call::Call;
 use crate::lent::{Lent, Part};
 use crate::log;
@@ -33,7 +33,7 @@ pub const MISTAKES: &[Mistake] = &[
     mistake("layout: a cart with a spaced title is out of it", cart_out_of_layout),
     mistake("layout: a record with a spaced title is out of it", record_out_of_layout),
     mistake("layout: a waiting read of a spaced title is out of it", waiting_out_of_layout),
-    order_mistake("refresh passes over a record with a spaced title", record_passed_over),
+    copy_mistake("refresh passes over a record with a spaced title", record_passed_over),
     order_mistake("a read shows a title without its spaces", shown_without_spaces),
 ];
 

@@ -1,6 +1,6 @@
 //! Mistakes of send and refresh.
 
-use super::mistake::{Mistake, Notes, copy_of, is_refused, mistake, order_mistake, refused, right};
+use super::mistake::{Mistake, Notes, copy_mistake, copy_of, is_refused, mistake, refused, right};
 use crate::call::Call;
 use crate::lent::Lent;
 use crate::log::transaction;
@@ -8,9 +8,9 @@ use crate::single;
 use simulator::{Answer, Control, DONE};
 
 pub const MISTAKES: &[Mistake] = &[
-    order_mistake("applied raised after the first operation, others later", applied_early),
-    order_mistake("refresh counts and leaves the carts", refresh_counts_only),
-    order_mistake("refresh plays the transaction after", refresh_plays_next),
+    copy_mistake("applied raised after the first operation, others later", applied_early),
+    copy_mistake("refresh counts and leaves the carts", refresh_counts_only),
+    copy_mistake("refresh plays the transaction after", refresh_plays_next),
     mistake("refresh acts on studio 1's copy", refresh_on_first_studio),
     mistake("refresh acts on carts in the other state", refresh_forces),
     mistake("refresh plays a transaction's first seven operations", refresh_seven),
