@@ -41,7 +41,7 @@ impl Bar {
 
 pub struct Bars {
     pub layout: Bar,
-    calls: [(Kind, Bar); 7],
+    calls: [(Kind, Bar); 8],
     pub setup: Bar,
     pub van_write: Bar,
     pub van_receive: Bar,
@@ -59,6 +59,7 @@ impl Bars {
                 (Kind::Forward, Bar::new("forward by numbers / layout test", 1.1)),
                 (Kind::ForwardTitle, Bar::new("forward by title / layout test", 1.3)),
                 (Kind::Move, Bar::new("move / layout test", 1.1)),
+                (Kind::Load, Bar::new("load / layout test, full memory", 3.0).only_on(FULL)),
             ],
             setup: Bar::new("setup / memset of 93,440 bytes", 1.5),
             van_write: Bar::new("van_write / layout test, full memory", 1.4),

@@ -15,6 +15,7 @@ pub enum Call {
     Forward { session: u32, request: [u8; UNIT] },
     VanWrite { number: u32 },
     Move { session: u32, studio: u32 },
+    Load,
 }
 
 /// Plays a call by one of the two crates that have a function for each, or the layout test by `$layout`.
@@ -34,6 +35,7 @@ macro_rules! play {
             Call::Forward { session, request } => $by::forward(library, log, sessions, control, *session, request, $output),
             Call::VanWrite { number } => $by::van_write(library, log, sessions, control, *number, $output),
             Call::Move { session, studio } => $by::move_session(library, log, sessions, control, *session, *studio),
+            Call::Load => $by::load(library, log, sessions, control),
         }
     }};
 }

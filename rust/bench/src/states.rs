@@ -29,6 +29,7 @@ pub enum Kind {
     /// Forwards by title.
     ForwardTitle,
     Move,
+    Load,
     /// Every other call that begins with the layout test.
     Other,
 }
@@ -56,6 +57,7 @@ fn calls(letters: &[u8], operations: Vec<u8>, is_empty: bool) -> Vec<(&'static s
         ("forward, studio, 32", Kind::Forward, Call::Forward { session, request: thirty_two }),
         ("forward, studio, title", Kind::ForwardTitle, Call::Forward { session, request: title }),
         ("move", Kind::Move, Call::Move { session, studio: wall::MOVED_TO }),
+        ("load", Kind::Load, Call::Load),
     ];
     if !is_empty {
         let by_head_end = |request| Call::Forward { session: wall::WAITING_READER, request };
