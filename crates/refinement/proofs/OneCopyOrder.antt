@@ -1,7 +1,7 @@
 -- The one-copy order on bytes, from whatever stands for a state of the plain machine in which each logged operation met its cart; what a list leaves, load accepts.
 use mathlib.Core.Path.{_≡_, refl, sym, ap, fun-ext, subst, _∙_}
 use mathlib.Core.Bool.{true}
-use mathlib.Core.List.{List, [], _++_}
+use mathlib.Core.List.{List, [], _∷_, _++_}
 use Prim.Native.Nat.{ℕ, _*_, _-_, _≤_}
 use native.Mathlib.Omega.{arith}
 use native.Mathlib.Decide.{decLe}
@@ -14,7 +14,7 @@ use Rattle.replication.specs.Memory.{Memory, sessionAt}
 use Rattle.replication.specs.Log.{transactionsFrom}
 use Rattle.replication.specs.Request.{Request, nothing, requestOf, isWaiting}
 use Rattle.replication.specs.Rows.{setupStop}
-use Rattle.replication.specs.Call.{Call}
+use Rattle.replication.specs.Call.{Call, run}
 use Rattle.replication.specs.Calls as Bytes
 use Rattle.replication.specs.Calls.{After, after, controlOf, freshMemory, afterCalls}
 use Rattle.replication.specs.declared.control.Control.{Control}
@@ -51,6 +51,12 @@ module _ (r : After) (p : Step) (there : Simulates r p) (met : Met (p .next)) wh
         arrays = last .next .form .arrays;
         accepted = stands-load _ _ (record { state = _; represents = last .next; met = after-met H p met });
       }
+
+-- the entries of a list go by the control and memory that it begins with
+pub same-entries : (r p : After) → r .control ≡ p .control → r .memory ≡ p .memory → (none : Request) (H : List Call) → entriesFrom r none H ≡ entriesFrom p none H
+unfolding entriesFrom countedHistory run
+same-entries r p e f none [] = rw (e, f)
+same-entries r p e f none (x ∷ H) = rw (e, f)
 
 -- a fresh system has no log, and no session waits
 no-bytes : requestOf [] ≡ nothing

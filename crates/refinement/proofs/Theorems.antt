@@ -389,11 +389,14 @@ module _ (c : Control) (m : Memory) (loadable : Loadable c m) where
 pub demand3-loaded : Demand3Loaded
 demand3-loaded c m loadable = OneCopyOrder.ordered-from _ _ (load-simulates c m loadable) (load-met c m loadable)
 
--- DEMAND 3. Every list of calls from a fresh system has a one-copy order: the case of an empty log.
+-- DEMAND 3. Every list of calls from a fresh system has a one-copy order: load accepts a fresh system, and its log is empty.
 pub demand3 : Demand3
+unfolding Bytes.callBy Call.run Call.final
 demand3 before studios bytes accepted H none =
-    rw (← OneCopyOrder.setup-entries before studios bytes accepted none H)
-    (OneCopyOrder.ordered-from _ _ (setup-simulates before studios bytes accepted) (setup-met before studios bytes accepted) H none)
+    let r = setup before studios bytes in
+    let (c, m) = load-unchanging (r .control) (r .memory) in
+    rw (← OneCopyOrder.setup-entries before studios bytes accepted none H, ← OneCopyOrder.same-entries (Bytes.load (r .control) (r .memory)) r c m none H)
+    (demand3-loaded (r .control) (r .memory) (reloads before studios bytes accepted []) H none)
 
 -- TABLE. The twelve cases hold of the calls on bytes, with their outputs, whatever three memories of the right lengths setup is lent: from the plain
 -- machine's table, with no byte computed.
