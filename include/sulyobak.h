@@ -300,8 +300,9 @@ sulyobak_answer sulyobak_layout(const uint8_t *library, size_t library_len, cons
  *   control   as it was saved
  * WHAT A TORN SAVE GIVES. A library, a log and a control of different moments are refused by 2 or 19 wherever a copy then differs from what
  * log and control make of it. What cannot be told, and is accepted: sessions of another moment (a number too low shows its session an
- * earlier copy: save them with the rest); in control, counts of sent and studios of sessions from another moment; and a whole system of an
- * earlier moment. Copies of studios above control.studios, and sessions, are tested by the layout alone.
+ * earlier copy: save them with the rest); in control, counts of sent and studios of sessions from another moment; a byte of the log that no
+ * copy depends on any more, as a title that was replaced later; and a whole system of an earlier moment. Copies of studios above
+ * control.studios, and sessions, are tested by the layout alone.
  * Answers done (value: control.commits), or refused 1, 2, 19. Nobody is obliged to load: the other calls go by the layout alone. */
 sulyobak_answer sulyobak_load(const uint8_t *library, size_t library_len, const uint8_t *log, size_t log_len,
                               const uint8_t *sessions, size_t sessions_len, sulyobak_control control);

@@ -42,6 +42,7 @@
 //!
 //! - sessions of another moment: a number too low shows its session an earlier copy;
 //! - in control, counts of sent and studios of sessions from another moment;
+//! - a byte of the log that no copy depends on any more, as a title that was replaced later;
 //! - a whole system of an earlier moment.
 //!
 //! `examples/rust/restart.rs` saves to a file, reads it back, loads, goes on, and shows what torn files give.
