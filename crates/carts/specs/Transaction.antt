@@ -1,7 +1,7 @@
 -- Document 01, "The plain machine": transactions, and the library that a list of them makes.
 use mathlib.Core.Bool.{Bool, true, _&&_}
 use mathlib.Core.List.{List, [], _∷_}
-use Prim.Native.Nat.{ℕ, _+_}
+use Prim.Native.Nat.{ℕ, _+_, _-_}
 use lib.ListN.{length, take}
 use Rattle.carts.specs.Bytes.{zeros}
 use Rattle.carts.specs.Cart.{copySize}
@@ -19,6 +19,10 @@ replay copy (t ∷ ts) = replay (actAll copy t) ts
 -- "L(n) is the library that the first n transactions make from 128 empty carts, operation by operation"
 unfoldable pub L : List Transaction → ℕ → List ℕ
 L log n = replay (zeros copySize) (take n log)
+
+-- 02, S-9, "Load works out its copies from the sixth": the library of n transactions, made from that of the first `begun` by those after them
+unfoldable pub LFrom : List ℕ → ℕ → List Transaction → ℕ → List ℕ
+LFrom base begun log n = replay base (take (n - begun) log)
 
 -- 02, S-8, of the log: "a logged operation met its cart in the wrong state". In this list of transactions, which acts on a copy, none does.
 unfoldable pub metFrom : List ℕ → List Transaction → Bool

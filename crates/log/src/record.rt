@@ -3,8 +3,8 @@ use carts::bytes;
 ghost use mathlib.Core.Path.{_≡_};
 ghost use Prim.Native.Nat.{_<_, _≤_};
 ghost use lib.ListN.{length};
-ghost use Rattle.replication.specs.Memory.{recordSize, recordCount, logSize, recordAt};
-ghost use Rattle.replication.specs.Values.{linksOf};
+ghost use Rattle.log.specs.Log.{recordSize, recordCount, logSize, recordAt};
+ghost use Rattle.log.specs.Values.{linksOf};
 
 // A record's links, as a value: the next operation of its transaction, and in a first record the next transaction; 0 for none.
 pub struct Record {

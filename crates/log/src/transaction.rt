@@ -8,9 +8,8 @@ ghost use lib.ListN.{length};
 ghost use Rattle.carts.specs.Bytes.{every};
 ghost use Rattle.carts.specs.Cart.{copySize};
 ghost use Rattle.carts.specs.Operation.{meetsAll, actAll};
-ghost use Rattle.replication.specs.Memory.{logSize};
-ghost use Rattle.replication.specs.Log.{recordsOf, transactionAt};
-ghost use Rattle.replication.specs.Values.{usable};
+ghost use Rattle.log.specs.Log.{logSize, recordsOf, transactionAt};
+ghost use Rattle.log.specs.Values.{usable};
 
 // The operations of the transaction whose first record is `first`, one after the other along the chain; the answer is whether each met its cart in the right
 // state.

@@ -1,0 +1,21 @@
+-- Laws of the log: its two chains, the walk, what a commit and a retire leave, and a transaction that acts on a copy.
+pub mod AppendLaws
+pub mod BoolLaws
+pub mod ChainLaws
+pub mod CommitLaws
+pub mod Examples
+pub mod FreeLaws
+pub mod HoldLaws
+pub mod LinkLaws
+pub mod ListLaws
+pub mod MeetLaws
+pub mod OnceLaws
+pub mod ReachLaws
+pub mod RetireLaws
+pub mod SizeLaws
+pub mod TakeLaws
+pub mod TransactionLaws
+pub mod UpFromLaws
+pub mod WalkLaws
+pub mod WholeLaws
+pub mod WriteLaws
