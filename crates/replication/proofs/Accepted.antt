@@ -1,19 +1,22 @@
 -- What is true of an accepted call, and of a commit that row 8 stops: one law for each call's rows, over what the rows look at, so that a row more is one
 -- field and one place here.
-use Prim.Native.Nat.{ℕ, _+_, _-_, _≤_}
+use Prim.Native.Nat.{ℕ, _+_, _-_, _≤_, _<_}
 use mathlib.Core.Path.{_≡_, refl}
-use mathlib.Core.Bool.{Bool, true, false, not}
+use mathlib.Core.Bool.{Bool, true, false, _||_, _&&_, not}
 use mathlib.Core.List.{List, [], _∷_}
 use lib.Dec.{eqb, leb, ltb}
+use native.Mathlib.Omega.{arith}
 use lib.ListN.{length}
-use borrow.Author.Tests.{eqb-true, eqb-false, ltb-false, not-true, not-false}
+use borrow.Author.Tests.{eqb-true, eqb-false, ltb-true, ltb-false, leb-false, not-true, not-false}
 use Rattle.carts.specs.Bytes.{within, all, every, any}
 use Rattle.carts.specs.Operation.{operationForm, spaced, operationsOf, meetsAll}
-use Rattle.carts.proofs.TestLaws.{all-at}
-use Rattle.replication.specs.Memory.{Memory, lengthsForm}
+use Rattle.carts.proofs.TestLaws.{all-at, and-left, and-right}
+use Rattle.log.specs.Log.{upFrom}
+use Rattle.log.proofs.OnceLaws.{every-upFrom}
+use Rattle.replication.specs.Memory.{Memory, lengthsForm, nth}
 use Rattle.replication.specs.Log.{noRoom}
 use Rattle.replication.specs.Request.{Request, nothing, byNumbers, byTitle, requestOf, requestForm, isWaiting, needed}
-use Rattle.replication.specs.Rows.{Row, row, stopped, lengthsRow, setupRows, setupStop, sessionRow, studioRow, sizeForm, formRows, commitRows, sendRows, refreshRows, readRows, collectRows, moveRows}
+use Rattle.replication.specs.Rows.{Row, row, stopped, lengthsRow, setupRows, setupStop, sessionRow, studioRow, sizeForm, formRows, commitRows, sendRows, refreshRows, readRows, collectRows, moveRows, retireRows}
 use Rattle.replication.proofs.RowLaws.{lacks, passed, later-stops, row-holds, session-numbered, studio-numbered}
 use Rattle.replication.proofs.DecideLaws.{KnownSession, KnownStudio, known-session, known-studio}
 
@@ -50,25 +53,32 @@ idle-is nothing e = refl
 idle-is (byNumbers cs) e = cc
 idle-is (byTitle t) e = cc
 
-pub record CommitAccepted (s studio : ℕ) (waiting : Request) (used : ℕ) (primary bytes : List ℕ) : Type 0 where
+pub record CommitAccepted (s studio : ℕ) (waiting : Request) (used commits : ℕ) (primary bytes : List ℕ) : Type 0 where
   pub who : KnownSession s studio
   pub idle : waiting ≡ nothing
   pub size : sizeForm bytes ≡ true
   pub form : every operationForm (operationsOf bytes) ≡ true
   pub unspaced : any spaced (operationsOf bytes) ≡ false
   pub room : used + length (operationsOf bytes) ≤ 512
+  pub few : commits < 65535
   pub meets : meetsAll primary (operationsOf bytes) ≡ true
 
-pub commit-passed : (s studio : ℕ) (waiting : Request) (used : ℕ) (primary bytes : List ℕ)
-    → stopped (commitRows s studio waiting used primary bytes) ≡ 0 → CommitAccepted s studio waiting used primary bytes
+-- neither condition of row 7
+neither : (a b : Bool) → (a || b) ≡ false → (a ≡ false) × (b ≡ false)
+neither true b e = let z : _≡_ {A = ℕ} 0 1 = cc in absurd (omega arith)
+neither false b e = (refl, e)
+
+pub commit-passed : (s studio : ℕ) (waiting : Request) (used commits : ℕ) (primary bytes : List ℕ)
+    → stopped (commitRows s studio waiting used commits primary bytes) ≡ 0 → CommitAccepted s studio waiting used commits primary bytes
 unfolding commitRows noRoom
-commit-passed s studio waiting used primary bytes e =
+commit-passed s studio waiting used commits primary bytes e =
     let p3 = session-passed s studio _ e in
     let p4 = passed 3 (isWaiting waiting) _ (p3 .1) in
     let p5 = passed 4 (not (sizeForm bytes)) _ (p4 .1) in
     let p6 = passed 5 (not (every operationForm (operationsOf bytes))) _ (p5 .1) in
     let p16 = passed 15 (any spaced (operationsOf bytes)) _ (p6 .1) in
-    let p7 = passed 6 (ltb 512 (used + length (operationsOf bytes))) _ (p16 .1) in
+    let p7 = passed 6 (ltb 512 (used + length (operationsOf bytes)) || leb 65535 commits) _ (p16 .1) in
+    let (room, few) = neither (ltb 512 (used + length (operationsOf bytes))) (leb 65535 commits) (p7 .0) in
     let p8 = passed 7 (not (meetsAll primary (operationsOf bytes))) _ (p7 .1) in
     record {
       who = p3 .0;
@@ -76,7 +86,8 @@ commit-passed s studio waiting used primary bytes e =
       size = not-false _ (p5 .0);
       form = not-false _ (p6 .0);
       unspaced = p16 .0;
-      room = ltb-false _ _ (p7 .0);
+      room = ltb-false _ _ room;
+      few = leb-false _ _ few;
       meets = not-false _ (p8 .0);
     }
 
@@ -85,13 +96,13 @@ pub record CommitTold (s studio : ℕ) (primary bytes : List ℕ) : Type 0 where
   pub who : KnownSession s studio
   pub misses : meetsAll primary (operationsOf bytes) ≡ false
 
-pub commit-told : (s studio : ℕ) (waiting : Request) (used : ℕ) (primary bytes : List ℕ)
-    → stopped (commitRows s studio waiting used primary bytes) ≡ 8 → CommitTold s studio primary bytes
+pub commit-told : (s studio : ℕ) (waiting : Request) (used commits : ℕ) (primary bytes : List ℕ)
+    → stopped (commitRows s studio waiting used commits primary bytes) ≡ 8 → CommitTold s studio primary bytes
 unfolding commitRows lacks every sessionRow
-commit-told s studio waiting used primary bytes e =
-    let first : List Row = sessionRow s studio ∷ row 4 (isWaiting waiting) ∷ formRows used bytes in
+commit-told s studio waiting used commits primary bytes e =
+    let first : List Row = sessionRow s studio ∷ row 4 (isWaiting waiting) ∷ formRows used commits bytes in
     let p = later-stops first (row 8 (not (meetsAll primary (operationsOf bytes))) ∷ []) 8 refl e in
-    let q = session-passed s studio (row 4 (isWaiting waiting) ∷ formRows used bytes) (p .0) in
+    let q = session-passed s studio (row 4 (isWaiting waiting) ∷ formRows used commits bytes) (p .0) in
     record { who = q .0; misses = not-true _ (row-holds 7 _ (p .1)) }
 
 pub record SendAccepted (studios i sent applied commits : ℕ) : Type 0 where
@@ -159,3 +170,18 @@ move-passed s studio waiting studios i e =
     let q3 = studio-passed studios i _ (p3 .1) in
     let p4 = passed 3 (isWaiting waiting) _ (q3 .1) in
     record { who = p3 .0; there = q3 .0; idle = idle-is waiting (p4 .0) }
+
+-- row 20: there is an oldest transaction, and every studio has applied it
+pub record RetireAccepted (studios retired commits : ℕ) (applied : List ℕ) : Type 0 where
+  pub some : retired < commits
+  pub unneeded : (i : ℕ) → 1 ≤ i → i ≤ studios → retired < nth applied i
+
+pub retire-passed : (studios retired commits : ℕ) (applied : List ℕ) → stopped (retireRows studios retired commits applied) ≡ 0 → RetireAccepted studios retired commits applied
+unfolding retireRows
+retire-passed studios retired commits applied e =
+    let every-one : Bool = every (λ i. ltb retired (nth applied i)) (upFrom 1 studios) in
+    let both = not-false _ (passed 19 (not (ltb retired commits && every-one)) [] e .0) in
+    record {
+      some = ltb-true _ _ (and-left (ltb retired commits) every-one both);
+      unneeded = λ i l g. ltb-true _ _ (every-upFrom (λ i. ltb retired (nth applied i)) 1 studios (and-right (ltb retired commits) every-one both) i l (omega arith));
+    }

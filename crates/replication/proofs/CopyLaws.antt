@@ -9,13 +9,13 @@ use Rattle.carts.proofs.PartLaws.{length-part, length-over, part-over}
 use Rattle.carts.proofs.EachLaws.{record-other}
 use Rattle.replication.specs.Memory.{copyAt, withCopy}
 
-module _ (library : List ℕ) (n : length library ≡ 51200) (i : ℕ) (high : i ≤ 4) where
+module _ (library : List ℕ) (n : length library ≡ 61440) (i : ℕ) (high : i ≤ 5) where
   pub length-copyAt : length (copyAt library i) ≡ 10240
   unfolding copyAt
   length-copyAt = length-part library (10240 * i) 10240 (omega arith)
 
   module _ (x : List ℕ) (e : length x ≡ 10240) where
-    pub length-withCopy : length (withCopy library i x) ≡ 51200
+    pub length-withCopy : length (withCopy library i x) ≡ 61440
     unfolding withCopy
     length-withCopy = length-over library (10240 * i) 10240 x (omega arith) e ∙ n
 

@@ -1,4 +1,4 @@
--- WORKED EXAMPLES of the definitions, by computation: the rows of each call in their order, requests, sessions, the log's chains.
+-- WORKED EXAMPLES of the definitions, by computation: the rows of each call in their order, requests, sessions, counts.
 use mathlib.Core.Path.{_≡_, refl}
 use mathlib.Core.Bool.{Bool, true, false, _&&_}
 use mathlib.Core.List.{List, [], _∷_, _++_}
@@ -7,13 +7,14 @@ use lib.ListN.{set, replicate}
 use Rattle.carts.specs.Bytes.{zeros, u16, u32, u16Bytes, u16s, within, all, every, any, allZero, pairwise, parts}
 use Rattle.carts.specs.Cart.{cartAt, printable, titleForm, hasTitle, noTitle, hasAudio, noAudio, held}
 use Rattle.carts.specs.Operation.{operationFields, operationForm, spaced, operationsOf, made, meetsCart, effect, actedOn, meets, act, meetsAll, actAll}
-use Rattle.carts.specs.Transaction.{metFrom, metAll}
+use Rattle.carts.specs.Transaction.{metFrom}
 use Rattle.carts.proofs.Samples.{u32Bytes, operation, newCart, withdrawCart, topHourA, news, longTitle}
-use Rattle.replication.specs.Memory.{recordAt, withRecord, sessionAt, withSession, sequenceOf, withSequence, studioOf}
-use Rattle.replication.specs.Log.{nextOperation, nextTransaction, chain, recordsOf, walk, logRecords, ownForm, transactionsForm, firstRecord, upFrom, filledUpward, freeRecords, noRoom, front, writeAll, linked, appended}
+use Rattle.replication.specs.Memory.{sessionAt, withSession, sequenceOf, withSequence, studioOf}
+use Rattle.log.specs.Log.{upFrom}
+use Rattle.replication.specs.Log.{logCount, noRoom}
 use Rattle.replication.specs.Request.{nothing, byNumbers, byTitle, numbersIn, requestOf, numbersForm, requestFields, requestForm, isWaiting, needed}
 use Rattle.replication.specs.Layout.{waitingForm, sessionForm, sessionFormOf, countsForm}
-use Rattle.replication.specs.Rows.{stopped, setupRows, sessionRow, studioRow, sizeForm, commitRows, sendRows, refreshRows, readRows, collectRows, moveRows, loadRows}
+use Rattle.replication.specs.Rows.{stopped, setupRows, sessionRow, studioRow, sizeForm, commitRows, sendRows, refreshRows, readRows, collectRows, writeRows, moveRows, loadRows, retireRows}
 use Rattle.replication.specs.Calls.{controlOf, toldSessions, committed, withSent, withApplied}
 use Rattle.replication.specs.declared.control.Control.{Control}
 use Rattle.replication.proofs.Samples.{filled, pairs, askNumbers, askTitle}
@@ -39,19 +40,20 @@ pub record RowOrder : Type 0 where
   setup-count : stopped (setupRows 2 (zeros 15)) ≡ 15
   setup-above : stopped (setupRows 2 (3 ∷ zeros 15)) ≡ 15
   setup-passes : stopped (setupRows 2 (1 ∷ 2 ∷ zeros 14)) ≡ 0
-  commit-3 : stopped (commitRows 17 1 (byNumbers (7 ∷ [])) 512 one []) ≡ 3
-  commit-unused : stopped (commitRows 16 0 nothing 0 none A) ≡ 3
-  commit-4 : stopped (commitRows 1 1 (byNumbers (7 ∷ [])) 512 one []) ≡ 4
-  commit-5 : stopped (commitRows 1 1 nothing 512 one (zeros 79)) ≡ 5
-  commit-5-long : stopped (commitRows 1 1 nothing 512 one (zeros 720)) ≡ 5
-  commit-6 : stopped (commitRows 1 1 nothing 512 one (A ++ zeros 80)) ≡ 6
-  commit-6-later : stopped (commitRows 1 1 nothing 512 one (B ++ zeros 80)) ≡ 6
-  commit-16 : stopped (commitRows 1 1 nothing 512 one B) ≡ 16
-  commit-16-later : stopped (commitRows 1 1 nothing 512 one (A ++ B)) ≡ 16
-  commit-16-alone : stopped (commitRows 1 1 nothing 511 none B) ≡ 16
-  commit-7 : stopped (commitRows 1 1 nothing 512 one A) ≡ 7
-  commit-8 : stopped (commitRows 1 1 nothing 511 one A) ≡ 8
-  commit-passes : stopped (commitRows 16 4 nothing 511 none A) ≡ 0
+  commit-3 : stopped (commitRows 17 1 (byNumbers (7 ∷ [])) 512 9 one []) ≡ 3
+  commit-unused : stopped (commitRows 16 0 nothing 0 9 none A) ≡ 3
+  commit-4 : stopped (commitRows 1 1 (byNumbers (7 ∷ [])) 512 9 one []) ≡ 4
+  commit-5 : stopped (commitRows 1 1 nothing 512 9 one (zeros 79)) ≡ 5
+  commit-5-long : stopped (commitRows 1 1 nothing 512 9 one (zeros 720)) ≡ 5
+  commit-6 : stopped (commitRows 1 1 nothing 512 9 one (A ++ zeros 80)) ≡ 6
+  commit-6-later : stopped (commitRows 1 1 nothing 512 9 one (B ++ zeros 80)) ≡ 6
+  commit-16 : stopped (commitRows 1 1 nothing 512 9 one B) ≡ 16
+  commit-16-later : stopped (commitRows 1 1 nothing 512 9 one (A ++ B)) ≡ 16
+  commit-16-alone : stopped (commitRows 1 1 nothing 511 9 none B) ≡ 16
+  commit-7 : stopped (commitRows 1 1 nothing 512 9 one A) ≡ 7
+  commit-7-numbers : stopped (commitRows 1 1 nothing 0 65535 one A) ≡ 7
+  commit-8 : stopped (commitRows 1 1 nothing 511 9 one A) ≡ 8
+  commit-passes : stopped (commitRows 16 4 nothing 511 65534 none A) ≡ 0
   send-3 : stopped (sendRows 2 3 32 0 32) ≡ 3
   send-9 : stopped (sendRows 2 2 32 0 32) ≡ 9
   send-10 : stopped (sendRows 2 2 32 0 33) ≡ 10
@@ -77,13 +79,22 @@ pub record RowOrder : Type 0 where
   move-4 : stopped (moveRows 1 1 (byTitle topHourA) 2 2) ≡ 4
   move-passes : stopped (moveRows 1 1 nothing 2 2) ≡ 0
   move-here : stopped (moveRows 16 2 nothing 2 2) ≡ 0
-  load-empty : stopped (loadRows true []) ≡ 0
-  load-copy : stopped (loadRows false []) ≡ 19
-  load-passes : stopped (loadRows true (operationsOf A ∷ [])) ≡ 0
-  load-twice : stopped (loadRows true (operationsOf A ∷ operationsOf A ∷ [])) ≡ 19
+  load-empty : stopped (loadRows true one []) ≡ 0
+  load-copy : stopped (loadRows false one []) ≡ 19
+  load-passes : stopped (loadRows true none (operationsOf A ∷ [])) ≡ 0
+  load-twice : stopped (loadRows true none (operationsOf A ∷ operationsOf A ∷ [])) ≡ 19
+  load-from-sixth : stopped (loadRows true one (operationsOf A ∷ [])) ≡ 19
+  retire-none : stopped (retireRows 1 5 5 (5 ∷ zeros 3)) ≡ 20
+  retire-needed : stopped (retireRows 2 4 9 (9 ∷ 4 ∷ zeros 2)) ≡ 20
+  retire-passes : stopped (retireRows 2 4 9 (9 ∷ 5 ∷ zeros 2)) ≡ 0
+  write-21 : stopped (writeRows 4 9 4 84 0) ≡ 21
+  write-17 : stopped (writeRows 4 9 10 84 84) ≡ 17
+  write-0 : stopped (writeRows 4 9 0 84 84) ≡ 17
+  write-short : stopped (writeRows 4 9 5 84 83) ≡ 17
+  write-passes : stopped (writeRows 4 9 5 84 84) ≡ 0
 
 pub row-order : RowOrder
-unfolding A B none one zeros u16 u32 u16Bytes u16s within all every any allZero parts cartAt printable titleForm hasTitle noTitle hasAudio noAudio held operationFields operationForm spaced operationsOf made meetsCart effect actedOn meets act meetsAll actAll metFrom metAll u32Bytes operation newCart topHourA news noRoom numbersIn requestOf numbersForm requestFields requestForm isWaiting needed stopped setupRows sessionRow studioRow sizeForm commitRows sendRows refreshRows readRows collectRows moveRows loadRows filled pairs askNumbers askTitle
+unfolding A B none one zeros u16 u32 u16Bytes u16s within all every any allZero parts cartAt printable titleForm hasTitle noTitle hasAudio noAudio held operationFields operationForm spaced operationsOf made meetsCart effect actedOn meets act meetsAll actAll metFrom u32Bytes operation newCart topHourA news noRoom numbersIn requestOf numbersForm requestFields requestForm isWaiting needed stopped setupRows sessionRow studioRow sizeForm commitRows sendRows refreshRows readRows collectRows moveRows loadRows retireRows writeRows upFrom filled pairs askNumbers askTitle
 row-order = record {
   setup-studios = refl;
   setup-none = refl;
@@ -101,6 +112,7 @@ row-order = record {
   commit-16-later = refl;
   commit-16-alone = refl;
   commit-7 = refl;
+  commit-7-numbers = refl;
   commit-8 = refl;
   commit-passes = refl;
   send-3 = refl;
@@ -132,15 +144,24 @@ row-order = record {
   load-copy = refl;
   load-passes = refl;
   load-twice = refl;
+  load-from-sixth = refl;
+  retire-none = refl;
+  retire-needed = refl;
+  retire-passes = refl;
+  write-21 = refl;
+  write-17 = refl;
+  write-0 = refl;
+  write-short = refl;
+  write-passes = refl;
 }
 
 -- control of two studios with session 1 at studio 1, 3 commits
 unfoldable three : Control
-three = committed (committed (committed (controlOf 2 (1 ∷ zeros 15)) 1) 1) 1
+three = committed (committed (committed (controlOf 2 (1 ∷ zeros 15) 1 512) 1 2) 1 3) 1 4
 
 -- control of one studio with 33 commits, of which so many are sent and applied
 unfoldable counted : ℕ → ℕ → Control
-counted sent applied = record { studios = 1; «session_studios» = zeros 16; used = 33; commits = 33; sent = sent ∷ zeros 3; applied = applied ∷ zeros 3 }
+counted sent applied = record { studios = 1; «session_studios» = zeros 16; used = 33; commits = 33; sent = sent ∷ zeros 3; applied = applied ∷ zeros 3; retired = 1; oldest = 1; «free_first» = 34; «free_last» = 512 }
 
 pub record Requests : Type 0 where
   numbers : requestOf (askNumbers (7 ∷ 8 ∷ [])) ≡ byNumbers (7 ∷ 8 ∷ [])
@@ -171,11 +192,12 @@ pub record Requests : Type 0 where
   applied-above : countsForm (withApplied three 1 1) 1 ≡ false
   counts : countsForm (withApplied (withSent three 2 3) 2 2) 2 ≡ true
   counts-above-S : countsForm (withSent three 3 1) 3 ≡ false
-  window-32 : countsForm (counted 32 0) 1 ≡ true
+  window-32 : countsForm (counted 33 1) 1 ≡ true
   window-33 : countsForm (counted 33 0) 1 ≡ false
+  retired-above : countsForm (counted 5 0) 1 ≡ false
 
 pub requests : Requests
-unfolding three counted zeros u16 u16s within all every allZero printable titleForm sequenceOf studioOf numbersIn requestOf numbersForm requestFields requestForm waitingForm sessionForm sessionFormOf countsForm controlOf committed withSent withApplied topHourA news longTitle filled pairs askNumbers askTitle
+unfolding three counted zeros u16 u16s within all every allZero printable titleForm sequenceOf studioOf numbersIn requestOf numbersForm requestFields requestForm waitingForm sessionForm sessionFormOf countsForm controlOf committed logCount withSent withApplied topHourA news longTitle filled pairs askNumbers askTitle
 requests = record {
   numbers = refl;
   title = refl;
@@ -207,6 +229,7 @@ requests = record {
   counts-above-S = refl;
   window-32 = refl;
   window-33 = refl;
+  retired-above = refl;
 }
 
 -- the sessions after a commit of session 2 at 300 commits, 44 + 256, by the row that stopped it: three sessions, every byte 255
@@ -218,64 +241,3 @@ pub record Told : Type 0 where
 pub told : Told
 unfolding toldSessions sessionAt withSession withSequence u16Bytes
 told = record { by-8 = refl; by-7 = refl; by-16 = refl }
-
--- a short log of five records: a transaction of two operations, then one of one
-unfoldable start : Control
-start = controlOf 1 (zeros 16)
-
-unfoldable first : List ℕ
-first = appended start (zeros 400) (A ∷ withdrawCart 7 ∷ [])
-
-unfoldable both : List ℕ
-both = appended (committed start 2) first (A ∷ [])
-
--- nine records: a transaction of n operations
-unfoldable long : ℕ → List ℕ
-long n = appended start (zeros 720) (replicate n A)
-
--- n transactions, in the records 1 to `used`
-unfoldable onlyUpward : ℕ → List ℕ → ℕ → ℕ → Bool
-onlyUpward n log first used = transactionsForm n log first && filledUpward used (logRecords n log first)
-
-pub record Chains : Type 0 where
-  empty : onlyUpward 0 (zeros 400) 0 0 ≡ true
-  one-transaction : onlyUpward 1 first 1 2 ≡ true
-  two-transactions : onlyUpward 2 both 1 3 ≡ true
-  records-1 : recordsOf both 1 ≡ 1 ∷ 2 ∷ []
-  records-2 : recordsOf both 3 ≡ 3 ∷ []
-  link : nextTransaction both 1 ≡ 3
-  link-end : nextTransaction both 3 ≡ 0
-  walk-1 : walk 1 both 1 ≡ 3
-  fewer-commits : onlyUpward 1 both 1 2 ≡ false
-  more-commits : onlyUpward 3 both 1 3 ≡ false
-  fewer-used : onlyUpward 2 both 1 2 ≡ false
-  more-used : onlyUpward 2 both 1 4 ≡ false
-  link-in-second : transactionsForm 2 (set both 94 3) 1 ≡ false
-  eight-operations : transactionsForm 1 (long 8) 1 ≡ true
-  nine-operations : transactionsForm 1 (long 9) 1 ≡ false
-  operation-back : onlyUpward 2 (set both 92 1) 1 3 ≡ false
-  operation-skips : onlyUpward 2 (set both 12 3) 1 3 ≡ false
-  transaction-skips : onlyUpward 2 (set both 14 4) 1 3 ≡ false
-
-pub chains : Chains
-unfolding start first both long A zeros u16 u16Bytes within all every pairwise u32Bytes operation newCart withdrawCart topHourA recordAt withRecord nextOperation nextTransaction chain recordsOf walk firstRecord logRecords ownForm transactionsForm upFrom filledUpward onlyUpward freeRecords front writeAll linked appended controlOf committed
-chains = record {
-  empty = refl;
-  one-transaction = refl;
-  two-transactions = refl;
-  records-1 = refl;
-  records-2 = refl;
-  link = refl;
-  link-end = refl;
-  walk-1 = refl;
-  fewer-commits = refl;
-  more-commits = refl;
-  fewer-used = refl;
-  more-used = refl;
-  link-in-second = refl;
-  eight-operations = refl;
-  nine-operations = refl;
-  operation-back = refl;
-  operation-skips = refl;
-  transaction-skips = refl;
-}

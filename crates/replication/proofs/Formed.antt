@@ -7,39 +7,37 @@ use native.Mathlib.Omega.{arith}
 use native.Mathlib.Decide.{decLe}
 use borrow.Author.Tests.{leb-true, le-leb, lt-leb, eqb-true, eq-eqb}
 use lib.Dec.{leb, eqb}
-use lib.ListN.{length, drop, getD}
-use Rattle.carts.specs.Bytes.{within, all, every, allZero}
+use lib.ListN.{length, getD}
+use Rattle.carts.specs.Bytes.{within, all, every}
 use Rattle.carts.specs.Cart.{copyForm}
-use Rattle.carts.specs.Operation.{operationFields}
-use Rattle.replication.specs.Memory.{Memory, lengthsForm, copyAt, recordAt, sessionAt, nth, studioOf}
-use Rattle.replication.specs.Log.{logRecords, transactionsForm, firstRecord, upFrom, filledUpward}
-use Rattle.replication.specs.Layout.{replicaForm, sessionForm, countsForm, layoutTests, ofLayout}
+use Rattle.replication.specs.Memory.{Memory, lengthsForm, copyAt, sessionAt, nth, studioOf}
+use Rattle.log.specs.Chains.{chainsForm}
+use Rattle.replication.specs.Log.{logCount}
+use Rattle.replication.specs.Layout.{replicaForm, sixthForm, sessionForm, countsForm, layoutTests, ofLayout}
 use Rattle.replication.specs.Calls.{committed}
 use Rattle.replication.specs.declared.control.Control.{Control}
-use Rattle.carts.proofs.TestLaws.{all-at, all-set, all-cons, all-nil, every-at, within-high, pairwise-eq, pairwise-refl}
+use Rattle.carts.proofs.TestLaws.{all-at, all-set, all-cons, all-nil, every-at, within-low, within-high}
 use Rattle.carts.proofs.EachLaws.{each-at, at-each, from-one, to-one}
 
--- control: S, and the sessions' studios
+-- control: S, the sessions' studios, and commits
 abbrev pub ControlFormed : Control → Type 0
 ControlFormed c = record {
   studios : within 1 4 (c .studios) ≡ true;
   places : every (λ i. leb i (c .studios)) (c .«session_studios») ≡ true;
+  few : c .commits ≤ 65535;
 }
 
 abbrev pub LibraryFormed : Control → List ℕ → Type 0
 LibraryFormed c library = record {
-  size : length library ≡ 51200;
+  size : length library ≡ 61440;
   copies : (i : ℕ) → i ≤ 4 → replicaForm (c .studios) i (copyAt library i) ≡ true;
+  sixth : sixthForm (c .retired) (copyAt library 5) ≡ true;
 }
 
 abbrev pub LogFormed : Control → List ℕ → Type 0
 LogFormed c log = record {
   size : length log ≡ 40960;
-  used : c .used ≤ 512;
-  records : (r : ℕ) → 1 ≤ r → r ≤ c .used → operationFields (recordAt log r) ≡ true;
-  free : allZero (drop (80 * c .used) log) ≡ true;
-  form : transactionsForm (c .commits) log (firstRecord c) ≡ true;
-  upward : logRecords (c .commits) log (firstRecord c) ≡ upFrom 1 (c .used);
+  chains : chainsForm (logCount c) log (c .used) (c .oldest) (c .«free_first») (c .«free_last») ≡ true;
 }
 
 abbrev pub SessionsFormed : Control → List ℕ → Type 0
@@ -75,45 +73,40 @@ unfolding every
 four-studios p f = rw (f 1 (omega arith) (omega arith), f 2 (omega arith) (omega arith), f 3 (omega arith) (omega arith), f 4 (omega arith) (omega arith))
 
 pub formed : (c : Control) (m : Memory) → lengthsForm m ≡ true → ofLayout c m ≡ true → Formed c m
-unfolding lengthsForm ofLayout layoutTests filledUpward copyAt recordAt sessionAt
+unfolding lengthsForm ofLayout layoutTests copyAt sessionAt
 formed c m lengths layout = record {
-  control = record { studios = test 0; places = test 1 };
+  control = record { studios = test 0; places = test 1; few = leb-true _ _ (test 2) };
   library = record {
     size = eqb-true _ _ (all-at 0 sizes lengths);
-    copies = λ i l. let e : 0 + i ≡ i = omega arith in rw e at (each-at (replicaForm (c .studios)) 10240 5 0 (m .library) (test 2) i (omega arith));
+    copies = λ i l. let e : 0 + i ≡ i = omega arith in rw e at (each-at (replicaForm (c .studios)) 10240 5 0 (m .library) (test 4) i (omega arith));
+    sixth = test 5;
   };
   log = record {
     size = eqb-true _ _ (all-at 1 sizes lengths);
-    used = leb-true _ _ (test 3);
-    records = from-one (λ r. operationFields) 80 (c .used) (m .log) (test 4);
-    free = test 5;
-    form = test 6;
-    upward = pairwise-eq _ _ (test 7);
+    chains = test 6;
   };
-  sessions = record { size = eqb-true _ _ (all-at 2 sizes lengths); forms = from-one (sessionForm c) 80 16 (m .sessions) (test 8) };
-  counts = studio-at (countsForm c) (test 9);
+  sessions = record { size = eqb-true _ _ (all-at 2 sizes lengths); forms = from-one (sessionForm c) 80 16 (m .sessions) (test 7) };
+  counts = studio-at (countsForm c) (test 3);
 }
   where
     test : (n : ℕ) → getD (layoutTests c m) n true ≡ true
     test n = all-at n (layoutTests c m) layout
 
     sizes : List Bool
-    sizes = eqb (length (m .library)) 51200 ∷ eqb (length (m .log)) 40960 ∷ eqb (length (m .sessions)) 1280 ∷ []
+    sizes = eqb (length (m .library)) 61440 ∷ eqb (length (m .log)) 40960 ∷ eqb (length (m .sessions)) 1280 ∷ []
 
 pub of-layout : (c : Control) (m : Memory) → Formed c m → (lengthsForm m ≡ true) × (ofLayout c m ≡ true)
-unfolding lengthsForm ofLayout layoutTests filledUpward copyAt recordAt sessionAt
+unfolding lengthsForm ofLayout layoutTests copyAt sessionAt
 of-layout c m f = (
   all-cons _ _ (eq-eqb _ _ (f .library .size)) (all-cons _ _ (eq-eqb _ _ (f .log .size)) (all-cons _ _ (eq-eqb _ _ (f .sessions .size)) all-nil)),
   all-cons _ _ (f .control .studios)
       (all-cons _ _ (f .control .places)
+      (all-cons _ _ (le-leb _ _ (f .control .few))
+      (all-cons _ _ (four-studios (countsForm c) (f .counts))
       (all-cons _ _ (at-each (replicaForm (c .studios)) 10240 5 0 (m .library) (λ i l. let e : 0 + i ≡ i = omega arith in rw e (f .library .copies i (omega arith))))
-      (all-cons _ _ (le-leb _ _ (f .log .used))
-      (all-cons _ _ (to-one (λ r. operationFields) 80 (c .used) (m .log) (f .log .records))
-      (all-cons _ _ (f .log .free)
-      (all-cons _ _ (f .log .form)
-      (all-cons _ _ (rw (f .log .upward) (pairwise-refl (upFrom 1 (c .used))))
-      (all-cons _ _ (to-one (sessionForm c) 80 16 (m .sessions) (f .sessions .forms))
-      (all-cons _ _ (four-studios (countsForm c) (f .counts)) all-nil))))))))),
+      (all-cons _ _ (f .library .sixth)
+      (all-cons _ _ (f .log .chains)
+      (all-cons _ _ (to-one (sessionForm c) 80 16 (m .sessions) (f .sessions .forms)) all-nil))))))),
 )
 
 -- what a studio's counts say, where it is in use
@@ -121,27 +114,28 @@ pub record Counts (c : Control) (i : ℕ) : Type 0 where
   pub order : nth (c .applied) i ≤ nth (c .sent) i
   pub known : nth (c .sent) i ≤ c .commits
   pub near : nth (c .sent) i - nth (c .applied) i ≤ 32
+  pub kept : c .retired ≤ nth (c .applied) i
 
 module _ (c : Control) (i : ℕ) where
   countTests : List Bool
-  countTests = leb (nth (c .applied) i) (nth (c .sent) i) ∷ leb (nth (c .sent) i) (c .commits) ∷ leb (nth (c .sent) i - nth (c .applied) i) 32 ∷ []
+  countTests = leb (nth (c .applied) i) (nth (c .sent) i) ∷ leb (nth (c .sent) i) (c .commits) ∷ leb (nth (c .sent) i - nth (c .applied) i) 32 ∷ leb (c .retired) (nth (c .applied) i) ∷ []
 
   pub counts-of : i ≤ c .studios → countsForm c i ≡ true → Counts c i
   unfolding countsForm countTests
   counts-of l f =
       let g : all countTests ≡ true = rw (le-leb i (c .studios) l) at f in
-      record { order = leb-true _ _ (all-at 0 countTests g); known = leb-true _ _ (all-at 1 countTests g); near = leb-true _ _ (all-at 2 countTests g) }
+      record { order = leb-true _ _ (all-at 0 countTests g); known = leb-true _ _ (all-at 1 countTests g); near = leb-true _ _ (all-at 2 countTests g); kept = leb-true _ _ (all-at 3 countTests g) }
 
   pub of-counts : i ≤ c .studios → Counts c i → countsForm c i ≡ true
   unfolding countsForm
-  of-counts l f = rw (le-leb i (c .studios) l) (all-cons _ _ (le-leb _ _ (f .order)) (all-cons _ _ (le-leb _ _ (f .known)) (all-cons _ _ (le-leb _ _ (f .near)) all-nil)))
+  of-counts l f = rw (le-leb i (c .studios) l) (all-cons _ _ (le-leb _ _ (f .order)) (all-cons _ _ (le-leb _ _ (f .known)) (all-cons _ _ (le-leb _ _ (f .near)) (all-cons _ _ (le-leb _ _ (f .kept)) all-nil))))
 
   -- one commit more
-  pub counts-more : (k : ℕ) → countsForm c i ≡ true → countsForm (committed c k) i ≡ true
+  pub counts-more : (k next : ℕ) → countsForm c i ≡ true → countsForm (committed c k next) i ≡ true
   unfolding countsForm committed countTests
-  counts-more k f = go (leb i (c .studios)) refl
+  counts-more k next f = go (leb i (c .studios)) refl
     where
-      go : (b : Bool) → leb i (c .studios) ≡ b → countsForm (committed c k) i ≡ true
+      go : (b : Bool) → leb i (c .studios) ≡ b → countsForm (committed c k next) i ≡ true
       go true e =
           let h : all countTests ≡ true = rw e at f in
           let l : nth (c .sent) i ≤ c .commits = leb-true _ _ (all-at 1 countTests h) in
@@ -169,10 +163,22 @@ module _ (c : Control) (i : ℕ) where
   pub applied-known : countsForm c i ≡ true → nth (c .applied) i ≤ c .commits
   applied-known f = let (o, k) = counts-known f in omega arith
 
+-- a studio that is not in use: another control with its counts, and as many studios
+pub none-kept : (c d : Control) (i : ℕ) → c .studios < i → d .studios ≡ c .studios → d .sent ≡ c .sent → d .applied ≡ c .applied → countsForm c i ≡ true → countsForm d i ≡ true
+unfolding countsForm
+none-kept c d i l s t a f = rw (s, t, a, lt-leb i (c .studios) l) (rw (lt-leb i (c .studios) l) at f)
+
 -- at most four studios; a session's studio is one of them, or 0
 module _ (c : Control) (m : Memory) (f : Formed c m) where
   pub few : c .studios ≤ 4
   few = within-high 1 4 (c .studios) (f .control .studios)
+
+  -- what is retired was applied by studio 1, and so was committed
+  pub retired-known : c .retired ≤ c .commits
+  retired-known =
+      let s = within-low 1 4 (c .studios) (f .control .studios) in
+      let n = counts-of c 1 s (f .counts 1 (omega arith) (omega arith)) in
+      omega (arith, n .order, n .known, n .kept)
 
   pub studio-known : (s : ℕ) → length (c .«session_studios») ≡ 16 → s ≤ 16 → studioOf c s ≤ c .studios
   unfolding studioOf

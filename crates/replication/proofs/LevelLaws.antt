@@ -12,10 +12,10 @@ use borrow.Author.Tests.{eq-eqb, ne-eqb}
 use Rattle.carts.specs.Bytes.{every, pairwise}
 use Rattle.carts.proofs.TestLaws.{pairwise-eq, pairwise-refl}
 use Rattle.replication.specs.Memory.{copyAt, nth}
-use Rattle.replication.specs.Log.{upFrom}
+use Rattle.log.specs.Log.{upFrom}
 use Rattle.replication.specs.Values.{isLevel, areLevel}
 use Rattle.replication.specs.declared.control.Control.{Control}
-use Rattle.replication.proofs.Placement.{upFrom-every, every-upFrom}
+use Rattle.log.proofs.OnceLaws.{upFrom-every, every-upFrom}
 
 -- a studio: it has applied another number, or its copy is compared
 module _ (library copy : List ℕ) (n applied i : ℕ) where

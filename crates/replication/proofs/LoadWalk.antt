@@ -13,14 +13,15 @@ use Rattle.carts.specs.Operation.{meetsAll, actAll}
 use Rattle.carts.specs.Transaction.{Transaction, replay, metFrom}
 use Rattle.carts.proofs.TestLaws.{and-left, and-right, and-both, within-low, within-high, every-map, pairwise-eq, pairwise-refl}
 use Rattle.carts.proofs.ScanLaws.{every-implied}
-use Rattle.replication.specs.Memory.{copyAt, recordAt, nth}
-use Rattle.replication.specs.Log.{nextTransaction, recordsOf, transactionAt, handedIn, transactionsFrom, logRecords}
-use Rattle.replication.specs.Values.{usable, areLevel, wholeFrom}
+use Rattle.replication.specs.Memory.{copyAt, nth}
+use Rattle.log.specs.Log.{recordAt, nextTransaction, recordsOf, transactionAt, handedIn, transactionsFrom, logRecords}
+use Rattle.log.specs.Values.{usable}
+use Rattle.replication.specs.Values.{areLevel, wholeFrom}
 use Rattle.replication.specs.declared.control.Control.{Control}
 use Rattle.replication.proofs.LevelLaws.{level-at, at-level}
-use Rattle.replication.proofs.Occurrences.{every-first, every-last}
-use Rattle.replication.proofs.TransactionLaws.{handed-meetsAll, handed-actAll}
-use Rattle.replication.proofs.WriteLaws.{length-record}
+use Rattle.log.proofs.ListLaws.{every-first, every-last}
+use Rattle.log.proofs.TransactionLaws.{handed-meetsAll, handed-actAll}
+use Rattle.log.proofs.WriteLaws.{length-record}
 
 -- no transaction leaves a copy as it is
 pub replay-none : (copy : List ℕ) (log : List Transaction) → copy ≡ replay copy (take 0 log)

@@ -152,10 +152,10 @@ module _ (c : Control) (m : Memory) where
       go false b e = absurd (omega arith)
 
 -- the three lengths
-pub lengths-are : (m : Memory) → lengthsForm m ≡ true → (length (m .library) ≡ 51200) × ((length (m .log) ≡ 40960) × (length (m .sessions) ≡ 1280))
+pub lengths-are : (m : Memory) → lengthsForm m ≡ true → (length (m .library) ≡ 61440) × ((length (m .log) ≡ 40960) × (length (m .sessions) ≡ 1280))
 unfolding lengthsForm
 lengths-are m e =
-    let sizes : List Bool = eqb (length (m .library)) 51200 ∷ eqb (length (m .log)) 40960 ∷ eqb (length (m .sessions)) 1280 ∷ [] in
+    let sizes : List Bool = eqb (length (m .library)) 61440 ∷ eqb (length (m .log)) 40960 ∷ eqb (length (m .sessions)) 1280 ∷ [] in
     (eqb-true _ _ (all-at 0 sizes e), (eqb-true _ _ (all-at 1 sizes e), eqb-true _ _ (all-at 2 sizes e)))
 
 -- row 3 of a session

@@ -13,7 +13,6 @@ use Rattle.replication.proofs.RowLaws.{unless-stopped, unless-accepted}
 use Rattle.replication.proofs.DecideLaws.{KnownStudio, accepted}
 use Rattle.replication.proofs.Accepted.{send-passed}
 use Rattle.replication.proofs.Formed.{Formed, Counts, counts-of, few}
-use Rattle.replication.proofs.Placement.{few-commits}
 
 -- rows 9 and 10
 module _ (sent applied commits : ℕ) where
@@ -42,13 +41,12 @@ module _ (c : Control) (m : Memory) (i v : ℕ) (e : v ≡ sendStop c m i) where
   unfolding send
   send-refused n = rw e (unless-stopped _ _ _ (λ z. n (e ∙ z)))
 
-  pub send-known : v ≡ 0 → ((1 ≤ i) × (i ≤ 4)) × (nth (c .sent) i ≤ 512)
+  pub send-known : v ≡ 0 → ((1 ≤ i) × (i ≤ 4)) × (nth (c .sent) i ≤ 65535)
   unfolding sendStop
   send-known z =
       let a = accepted c m _ (sym e ∙ z) in
       let k = studio-counts c m i (a .0) (send-passed (c .studios) i (nth (c .sent) i) (nth (c .applied) i) (c .commits) (a .1) .who) in
-      let l = few-commits c m (a .0) in
-      (k .0, omega (arith, k .1 .known))
+      (k .0, omega (arith, k .1 .known, a .0 .control .few))
 
   pub send-accepted : v ≡ 0 → (n : ℕ) → n ≡ nth (c .sent) i + 1 → (next : Control) → next ≡ withSent c i n → after (done n) next m [] ≡ send c m i
   unfolding send

@@ -17,7 +17,6 @@ use Rattle.replication.specs.declared.control.Control.{Control}
 use Rattle.replication.specs.declared.session.Session.{Session}
 use Rattle.replication.proofs.DecideLaws.{KnownSession}
 use Rattle.replication.proofs.Formed.{Formed, few, applied-known}
-use Rattle.replication.proofs.Placement.{few-commits}
 use Rattle.replication.proofs.RequestLaws.{waiting-is, needed-is}
 use Rattle.replication.proofs.OutputLaws.{value-waiting}
 
@@ -35,7 +34,7 @@ session-placed c m s studio f w = (f .sessions .size, (w .low, w .high))
 
 -- the same, and the studio that it reads from
 pub record Caller (c : Control) (m : Memory) (s : ℕ) : Type 0 where
-  pub library : length (m .library) ≡ 51200
+  pub library : length (m .library) ≡ 61440
   pub place : (length (m .sessions) ≡ 1280) × ((1 ≤ s) × (s ≤ 16))
   pub studio : (1 ≤ studioOf c s) × (studioOf c s ≤ 4)
   pub state : nth (c .applied) (studioOf c s) < 65536
@@ -61,7 +60,7 @@ caller c m s f w =
     let low : 1 ≤ i = omega arith in
     let high : i ≤ 4 = omega arith in
     let applied : nth (c .applied) i ≤ c .commits = applied-known c i (f .counts i low high) in
-    let commits : c .commits ≤ 512 = few-commits c m f in
+    let commits : c .commits ≤ 65535 = f .control .few in
     record { library = f .library .size; place = session-placed c m s (studioOf c s) f w; studio = (low, high); state = omega arith; commits = omega arith }
 
 -- a read of its form, with room for what it asks

@@ -10,7 +10,7 @@ use Rattle.carts.specs.Bytes.{zeros, within, all, every}
 use Rattle.carts.proofs.TestLaws.{all-fails}
 use Rattle.replication.specs.Answer.{refused, done}
 use Rattle.replication.specs.Memory.{Memory, memory, lengthsForm}
-use Rattle.replication.specs.Log.{freshLog}
+use Rattle.log.specs.Writes.{freshLog}
 use Rattle.replication.specs.Rows.{stopped, lengthsRow, setupRows, setupStop}
 use Rattle.replication.specs.Calls.{after, controlOf, freshMemory, setup}
 use Rattle.replication.specs.declared.control.Control.{Control}
@@ -38,20 +38,19 @@ module _ (m : Memory) (studios : ℕ) (bytes : List ℕ) where
 
   -- the whole call
   module _ (v : ℕ) (e : v ≡ setupStop m studios bytes) where
-    pub setup-refused : (v ≡ 0 → ⊥) → (next : Control) → next ≡ controlOf 0 (zeros 16) → after (refused v) next m [] ≡ setup m studios bytes
+    pub setup-refused : (v ≡ 0 → ⊥) → (next : Control) → next ≡ controlOf 0 (zeros 16) 0 0 → after (refused v) next m [] ≡ setup m studios bytes
     unfolding setup
     setup-refused n next q = rw (q, e) (unless-stopped _ _ _ (λ z. n (e ∙ z)))
 
     pub setup-known : v ≡ 0 → (lengthsForm m ≡ true) × (length bytes ≡ 16)
     setup-known z = let p = setup-passed m studios bytes (sym e ∙ z) in (p .lengths, p .count)
 
-    pub setup-accepted : v ≡ 0 → (next : Control) (library log sessions : List ℕ) → next ≡ controlOf studios bytes
-        → library ≡ zeros (length (m .library)) → log ≡ zeros (length (m .log)) → sessions ≡ zeros (length (m .sessions))
+    pub setup-accepted : v ≡ 0 → (next : Control) (library log sessions : List ℕ) → next ≡ controlOf studios bytes 1 512
+        → library ≡ zeros (length (m .library)) → log ≡ freshLog → sessions ≡ zeros (length (m .sessions))
         → after (done 0) next (memory library log sessions) [] ≡ setup m studios bytes
-    unfolding setup freshMemory freshLog
+    unfolding setup freshMemory
     setup-accepted z next library log sessions q a b c =
         let l = lengths-are m (setup-known z .0) in
-        let la : library ≡ zeros 51200 = a ∙ ap zeros (l .0) in
-        let lb : log ≡ zeros 40960 = b ∙ ap zeros (l .1 .0) in
+        let la : library ≡ zeros 61440 = a ∙ ap zeros (l .0) in
         let lc : sessions ≡ zeros 1280 = c ∙ ap zeros (l .1 .1) in
-        rw (q, la, lb, lc) (unless-accepted _ _ _ (sym e ∙ z))
+        rw (q, la, b, lc) (unless-accepted _ _ _ (sym e ∙ z))

@@ -23,6 +23,8 @@ pub data Call : Type 0 where
   move : ℕ → ℕ → Call
   -- 02, S-8, "a load call": nothing but control and memory
   load : Call
+  -- 02, S-9, "a retire call": nothing but control and memory
+  retire : Call
 
 -- a call of a list, and what it left
 pub record Turn (A : Type 0) : Type 0 where

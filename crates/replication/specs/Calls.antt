@@ -9,11 +9,13 @@ use lib.Dec.{leb, eqb}
 use Rattle.carts.specs.Bytes.{zeros, over}
 use Rattle.carts.specs.Operation.{operationsOf, actAll}
 use Rattle.replication.specs.Answer.{Answer, refused, done, waits, answered}
-use Rattle.replication.specs.Memory.{Memory, memory, librarySize, sessionsSize, sessionSize, sessionCount, studioCount, copyAt, withCopy, sessionAt, withSession, sequenceOf, withSequence, withNumber, nth, studioOf}
-use Rattle.replication.specs.Log.{transactionAfter, freshLog, appended}
+use Rattle.replication.specs.Memory.{Memory, memory, librarySize, sixth, sessionsSize, sessionSize, sessionCount, studioCount, copyAt, withCopy, sessionAt, withSession, sequenceOf, withSequence, withNumber, nth, studioOf}
+use Rattle.log.specs.Log.{recordCount, recordsOf, transactionAt, nextTransaction, follow, back}
+use Rattle.log.specs.Writes.{freshLog, appended, released}
+use Rattle.replication.specs.Log.{logCount, transactionAfter}
 use Rattle.replication.specs.Message.{messageIn}
 use Rattle.replication.specs.Request.{Request, requestOf, needed, foundIn, shownFrom}
-use Rattle.replication.specs.Rows.{unless, setupStop, commitStop, sendStop, refreshStop, readStop, collectStop, writeStop, moveStop, loadStop}
+use Rattle.replication.specs.Rows.{unless, setupStop, commitStop, sendStop, refreshStop, readStop, collectStop, writeStop, moveStop, loadStop, retireStop}
 use Rattle.replication.specs.Call as Call
 use Rattle.replication.specs.declared.control.Control.{Control}
 
@@ -37,26 +39,47 @@ withLibrary m library = memory library (m .log) (m .sessions)
 abbrev pub withSessions : Memory → List ℕ → Memory
 withSessions m sessions = memory (m .library) (m .log) sessions
 
--- "S; each session's studio; records used; commits; for each studio sent and applied"
-abbrev pub control : ℕ → List ℕ → ℕ → ℕ → List ℕ → List ℕ → Control
-control S places used commits sent applied = record { studios = S; «session_studios» = places; used = used; commits = commits; sent = sent; applied = applied }
+-- "S; each session's studio; records used; commits; for each studio sent and applied"; S-9: "Control gains the count retired, the oldest transaction's
+-- first record, and the free chain's first and last record (0 for none)"
+abbrev pub control : ℕ → List ℕ → ℕ → ℕ → List ℕ → List ℕ → ℕ → ℕ → ℕ → ℕ → Control
+control S places used commits sent applied retired oldest first last = record {
+  studios = S;
+  «session_studios» = places;
+  used = used;
+  commits = commits;
+  sent = sent;
+  applied = applied;
+  retired = retired;
+  oldest = oldest;
+  «free_first» = first;
+  «free_last» = last;
+}
 
--- control with every count zero
-unfoldable pub controlOf : ℕ → List ℕ → Control
-controlOf studios sessions = control studios sessions 0 0 (zeros studioCount) (zeros studioCount)
+-- control with other counts of the studios
+abbrev pub withCounts : Control → List ℕ → List ℕ → Control
+withCounts c sent applied = control (c .studios) (c .«session_studios») (c .used) (c .commits) sent applied (c .retired) (c .oldest) (c .«free_first») (c .«free_last»)
 
--- "all memory zero"
+-- control with another log: used, commits, retired, oldest, and the free chain
+abbrev pub withLog : Control → ℕ → ℕ → ℕ → ℕ → ℕ → ℕ → Control
+withLog c used commits retired oldest first last = control (c .studios) (c .«session_studios») used commits (c .sent) (c .applied) retired oldest first last
+
+-- control with every count zero, and a free chain
+unfoldable pub controlOf : ℕ → List ℕ → ℕ → ℕ → Control
+controlOf studios sessions first last = control studios sessions 0 0 (zeros studioCount) (zeros studioCount) 0 0 first last
+
+-- "all memory zero"; S-9: "after setup the free chain is 1 to 512 in order"
 unfoldable pub freshMemory : Memory
 freshMemory = memory (zeros librarySize) freshLog (zeros sessionsSize)
 
--- "Setup (S and 16 studio bytes): all memory zero, counts zero. When refused it hands back an all-zero control."
+-- "Setup (S and 16 studio bytes): all memory zero, counts zero. When refused it hands back an all-zero control." Of the log S-9 says what it is.
 unfoldable pub setup : Memory → ℕ → List ℕ → After
 setup m studios bytes =
-    unless (setupStop m studios bytes) (refusal (controlOf 0 (zeros sessionCount)) m []) (after (done 0) (controlOf studios bytes) freshMemory [])
+    unless (setupStop m studios bytes) (refusal (controlOf 0 (zeros sessionCount) 0 0) m []) (after (done 0) (controlOf studios bytes 1 recordCount) freshMemory [])
 
--- control after a commit of n operations
-unfoldable pub committed : Control → ℕ → Control
-committed c n = control (c .studios) (c .«session_studios») (c .used + n) (c .commits + 1) (c .sent) (c .applied)
+-- control after a commit of n operations: S-9, "Commit takes records from the front of the free chain", the rest of which begins at `next`
+unfoldable pub committed : Control → ℕ → ℕ → Control
+committed c n next =
+    withLog c (c .used + n) (c .commits + 1) (c .retired) (cond (eqb (logCount c) 0) (c .«free_first») (c .oldest)) next (cond (eqb next 0) 0 (c .«free_last»))
 
 -- 02, S-3, "told that the cart is taken": "A commit refused with 8 now raises the session's number to commits": the sessions, by the number of
 -- the row that stops the commit
@@ -75,7 +98,9 @@ commit c m s bytes =
     let n = c .commits + 1 in
     let library = withCopy (m .library) 0 (actAll (copyAt (m .library) 0) ops) in
     let sessions = withNumber (m .sessions) s n in
-    unless (commitStop c m s bytes) (refusedCommit c m s) (after (done n) (committed c (length ops)) (memory library (appended c (m .log) ops) sessions) [])
+    let log = appended (logCount c) (m .log) (c .oldest) (c .«free_first») ops in
+    let next = follow (length ops) (m .log) (c .«free_first») in
+    unless (commitStop c m s bytes) (refusedCommit c m s) (after (done n) (committed c (length ops) next) (memory library log sessions) [])
 
 -- 02, S-1, "a preview of commit": "For every input it returns the number or refusal that commit would. It changes nothing that was lent or
 -- passed."
@@ -84,7 +109,7 @@ preview c m s bytes = after (commit c m s bytes .answer) c m []
 
 -- "Send (studio): sent rises by one. Returns it."
 unfoldable pub withSent : Control → ℕ → ℕ → Control
-withSent c i n = control (c .studios) (c .«session_studios») (c .used) (c .commits) (set (c .sent) (i - 1) n) (c .applied)
+withSent c i n = withCounts c (set (c .sent) (i - 1) n) (c .applied)
 
 unfoldable pub send : Control → Memory → ℕ → After
 send c m i =
@@ -93,7 +118,7 @@ send c m i =
 
 -- "Refresh (studio): transaction applied + 1 acts on that studio's copy; applied rises by one. Returns it."
 unfoldable pub withApplied : Control → ℕ → ℕ → Control
-withApplied c i n = control (c .studios) (c .«session_studios») (c .used) (c .commits) (c .sent) (set (c .applied) (i - 1) n)
+withApplied c i n = withCounts c (c .sent) (set (c .applied) (i - 1) n)
 
 unfoldable pub refresh : Control → Memory → ℕ → After
 refresh c m i =
@@ -165,7 +190,7 @@ write c m n out =
 
 -- 02, S-7, "a call that moves a session to another studio": its studio in control; no lent byte
 unfoldable pub withStudio : Control → ℕ → ℕ → Control
-withStudio c s i = control (c .studios) (set (c .«session_studios») (s - 1) i) (c .used) (c .commits) (c .sent) (c .applied)
+withStudio c s i = control (c .studios) (set (c .«session_studios») (s - 1) i) (c .used) (c .commits) (c .sent) (c .applied) (c .retired) (c .oldest) (c .«free_first») (c .«free_last»)
 
 -- ".. returns that studio"
 unfoldable pub move : Control → Memory → ℕ → ℕ → After
@@ -174,6 +199,19 @@ move c m s i = unless (moveStop c m s i) (refusal c m []) (after (done i) (withS
 -- 02, S-8, "a load call that tests it and returns commits": it changes nothing that was lent or passed
 unfoldable pub load : Control → Memory → After
 load c m = unless (loadStop c m) (refusal c m []) (after (done (c .commits)) c m [])
+
+-- control after a retire: S-9, "its records join a chain of free records", and the next transaction is the oldest
+unfoldable pub retiredControl : Control → List ℕ → Control
+retiredControl c log =
+    let own = recordsOf log (c .oldest) in
+    withLog c (c .used - length own) (c .commits) (c .retired + 1) (nextTransaction log (c .oldest)) (cond (eqb (c .«free_first») 0) (c .oldest) (c .«free_first»)) (back 0 own)
+
+-- 02, S-9, "a retire call, returning the count retired: the oldest transaction .. acts on a sixth copy .., and its records join a chain of free records"
+unfoldable pub retire : Control → Memory → After
+retire c m =
+    let copy = actAll (copyAt (m .library) sixth) (transactionAt (m .log) (c .oldest)) in
+    let left = memory (withCopy (m .library) sixth copy) (released (m .log) (c .oldest) (c .«free_last»)) (m .sessions) in
+    unless (retireStop c m) (refusal c m []) (after (done (c .retired + 1)) (retiredControl c (m .log)) left [])
 
 -- each call, the reading calls and collect by a rule
 unfoldable pub callBy : Rule → Control → Memory → Call.Call → After
@@ -187,6 +225,7 @@ callBy rule c m (Call.forward s request out) = forwardBy rule c m s request out
 callBy rule c m (Call.write n out) = write c m n out
 callBy rule c m (Call.move s i) = move c m s i
 callBy rule c m Call.load = load c m
+callBy rule c m Call.retire = retire c m
 
 -- a list of calls by a rule, each given what the call before it left and handed back
 abbrev pub runBy : Rule → After → List Call.Call → List (Call.Turn After)

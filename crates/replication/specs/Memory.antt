@@ -7,6 +7,7 @@ use lib.ListN.{length, getD}
 use lib.Dec.{eqb}
 use Rattle.carts.specs.Bytes.{part, over, u16, u16Bytes, all}
 use Rattle.carts.specs.Cart.{copySize, numberAt}
+use Rattle.log.specs.Log.{logSize}
 use Rattle.replication.specs.declared.control.Control.{Control}
 
 pub record Memory : Type 0 where
@@ -17,26 +18,20 @@ pub record Memory : Type 0 where
 abbrev pub memory : List ℕ → List ℕ → List ℕ → Memory
 memory library log sessions = record { library = library; log = log; sessions = sessions }
 
--- "Library memory, 51,200 bytes: five copies of 10,240"
+-- "Library memory": the head end's copy and the studios', "copies of 10,240"; by 02, S-9, "a sixth copy placed last in library memory (now
+-- 61,440 bytes)"
 abbrev pub copyCount : ℕ
 copyCount = 5
 
+abbrev pub sixth : ℕ
+sixth = 5
+
 abbrev pub librarySize : ℕ
-librarySize = 51200
+librarySize = 61440
 
--- "Log memory, 40,960 bytes: 512 records of 80 bytes"
-abbrev pub recordSize : ℕ
-recordSize = 80
-
-abbrev pub recordCount : ℕ
-recordCount = 512
-
-abbrev pub logSize : ℕ
-logSize = 40960
-
--- "transactions of 1 to 8 operations"
-abbrev pub mostOperations : ℕ
-mostOperations = 8
+-- S-9: "Commit numbers run to 65,535"
+abbrev pub mostCommits : ℕ
+mostCommits = 65535
 
 -- "Session memory, 1,280 bytes: 16 sessions of 80 bytes, counted from 1"
 abbrev pub sessionSize : ℕ
@@ -64,19 +59,12 @@ window = 32
 unfoldable pub lengthsForm : Memory → Bool
 lengthsForm m = all (eqb (length (m .library)) librarySize ∷ eqb (length (m .log)) logSize ∷ eqb (length (m .sessions)) sessionsSize ∷ [])
 
--- "five copies .., first the head end's, then studios 1 to 4": copy 0 is the head end's (primary), copy i studio i's (replica)
+-- "first the head end's, then studios 1 to 4": copy 0 is the head end's (primary), copy i studio i's (replica); S-9: copy 5 is the sixth
 unfoldable pub copyAt : List ℕ → ℕ → List ℕ
 copyAt library i = part library (copySize * i) copySize
 
 unfoldable pub withCopy : List ℕ → ℕ → List ℕ → List ℕ
 withCopy library i copy = over library (copySize * i) copySize copy
-
--- "record r, counted from 1, begins at byte 80(r − 1)"
-unfoldable pub recordAt : List ℕ → ℕ → List ℕ
-recordAt log r = part log (recordSize * (r - 1)) recordSize
-
-unfoldable pub withRecord : List ℕ → ℕ → List ℕ → List ℕ
-withRecord log r x = over log (recordSize * (r - 1)) recordSize x
 
 -- session s, counted from 1
 unfoldable pub sessionAt : List ℕ → ℕ → List ℕ

@@ -4,7 +4,8 @@ use Prim.Native.Nat.{ℕ, _-_}
 use lib.ListN.{length}
 use Rattle.carts.specs.Bytes.{u16Bytes}
 use Rattle.carts.specs.Transaction.{Transaction}
-use Rattle.replication.specs.Log.{handedIn, transactionAfter}
+use Rattle.log.specs.Log.{handedIn}
+use Rattle.replication.specs.Log.{transactionAfter}
 use Rattle.replication.specs.declared.control.Control.{Control}
 
 -- operations one after the other

@@ -1,21 +1,19 @@
--- What the code's parts give, by the definitions: a session's value; a record's links; one transaction of the chain; what a reading call goes by; what
--- load compares on its walk.
+-- What the code's parts give, by the definitions: a session's value; what a reading call goes by; what load compares on its walk.
 use mathlib.Core.Bool.{Bool, true, false, cond, _&&_}
 use mathlib.Core.List.{List, [], _∷_}
 use Prim.Native.Nat.{ℕ, zero, suc, _+_, _*_}
 use lib.ListN.{length}
 use lib.Dec.{leb, eqb}
-use Rattle.carts.specs.Bytes.{byte, u16, within, all, every, pairwise}
-use Rattle.carts.specs.Cart.{cartSize, cartCount}
+use Rattle.carts.specs.Bytes.{byte, every, pairwise}
+use Rattle.carts.specs.Cart.{cartSize}
 use Rattle.carts.specs.Operation.{meetsAll, actAll}
-use Rattle.replication.specs.Log.{nextOperation, nextTransaction, recordsOf, transactionAt, ownForm, upFrom}
-use Rattle.replication.specs.Memory.{Memory, recordCount, copyAt, recordAt, sessionAt, sequenceOf, nth, studioOf}
+use Rattle.log.specs.Log.{nextTransaction, transactionAt, upFrom}
+use Rattle.replication.specs.Memory.{Memory, copyAt, sessionAt, sequenceOf, nth, studioOf}
 use Rattle.replication.specs.Request.{Request}
 use Rattle.replication.specs.Calls.{After, numberAfter, answerFrom}
 use Rattle.replication.specs.declared.session.Session.{Session}
 use Rattle.replication.specs.declared.session.Waiting.{Waiting}
 use Rattle.replication.specs.declared.session.Waiting.the-variants.{Nothing, Numbers, Title}
-use Rattle.replication.specs.declared.record.Record.{Record}
 use Rattle.replication.specs.declared.block.Due.{Due}
 use Rattle.replication.specs.declared.source.Source.{Source}
 use Rattle.replication.specs.declared.control.Control.{Control}
@@ -36,25 +34,6 @@ abbrev pub neededBy : Waiting → ℕ
 neededBy Nothing = 0
 neededBy (Numbers n) = cartSize * n
 neededBy (Title n) = cartSize
-
--- a record's links
-abbrev pub linksOf : List ℕ → ℕ → Record
-linksOf log r = record { «next_operation» = nextOperation log r; «next_transaction» = nextTransaction log r }
-
--- how many records the transaction at record r has; 0 where they are not of a transaction's form, or not r, r + 1, .., before record `end`
-unfoldable pub spanOf : List ℕ → ℕ → ℕ → ℕ
-spanOf log r end =
-    let own = recordsOf log r in
-    cond (all (ownForm log own ∷ pairwise eqb own (upFrom r (length own)) ∷ leb (r + length own) end ∷ [])) (length own) 0
-
--- a record of the log whose operation can act on a copy: its index and its cart's number are in range
-unfoldable pub usable : List ℕ → ℕ → Bool
-usable log r = all (within 1 recordCount r ∷ within 1 cartCount (u16 (recordAt log r) 2) ∷ [])
-
--- the n records that a walk from record r reads are records of the log
-unfoldable pub walkable : ℕ → List ℕ → ℕ → Bool
-walkable zero log r = true
-walkable (suc n) log r = let rest = walkable n log (nextTransaction log r) in within 1 recordCount r && rest
 
 -- what an accepted read goes by: the session's number, its studio, and what that has applied
 abbrev pub dueOf : Control → List ℕ → ℕ → Due

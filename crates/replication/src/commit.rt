@@ -1,20 +1,21 @@
 // Commit: a transaction acts on the head end's copy and is appended to the log.
 use crate::answer::CountAnswer;
 use crate::answer::CountResult;
-use crate::append;
 use crate::control::Control;
-use crate::record::Record;
 use crate::rows;
 use crate::session;
 use crate::session::Session;
 use carts::cart::Cart;
 use carts::operation;
+use log::append;
+use log::record::Record;
 ghost use mathlib.Core.Path.{_≡_};
 ghost use mathlib.Core.List.{[]};
 ghost use Prim.Native.Nat.{_<_, _≤_};
 ghost use lib.ListN.{length};
 ghost use Rattle.replication.specs.Answer.{countAnswer};
-ghost use Rattle.replication.specs.Memory.{memory, recordCount, sessionsSize, sessionCount, sessionAt};
+ghost use Rattle.replication.specs.Memory.{memory, sessionsSize, sessionCount, sessionAt};
+ghost use Rattle.log.specs.Log.{recordCount};
 ghost use Rattle.carts.specs.Cart.{copySize};
 ghost use Rattle.replication.specs.Request.{requestOf, isWaiting};
 ghost use Rattle.replication.specs.Rows.{stopped, sizeForm, operationRows, commitStop};
@@ -29,9 +30,9 @@ fn is_size(operations: &[u8]) -> bool
 }
 
 // Rows 5, 6, 16, 7 and 8: the number of the row that stops a commit of these operations, or 0.
-fn stopped_by_operations(used: u32, primary: &[u8], operations: &[u8]) -> u32
+fn stopped_by_operations(used: u32, commits: u32, primary: &[u8], operations: &[u8]) -> u32
     requires { ⌜ (used ≤ recordCount) × (length (now primary) ≡ copySize) ⌝ }
-    ensures { λ r. ⌜ r ≡ stopped (operationRows used (now (primary .entry)) (now (operations .entry))) ⌝ }
+    ensures { λ r. ⌜ r ≡ stopped (operationRows used commits (now (primary .entry)) (now (operations .entry))) ⌝ }
 {
     if !is_size(operations) {
         return 5;
@@ -43,7 +44,7 @@ fn stopped_by_operations(used: u32, primary: &[u8], operations: &[u8]) -> u32
         return 16;
     }
     let n = (operations.len() / Cart::SIZE) as u32;
-    if Record::COUNT < used + n {
+    if (Record::COUNT < used + n) | (Control::COMMITS_MOST <= commits) {
         return 7;
     }
     if !operation::meets_all(primary, operations) {
@@ -78,7 +79,12 @@ pub fn decide_commit(
     if has_waiting(sessions, session) {
         return 4;
     }
-    stopped_by_operations(control.used, &library[0..Cart::COPY_SIZE], operations)
+    stopped_by_operations(
+        control.used,
+        control.commits,
+        &library[0..Cart::COPY_SIZE],
+        operations,
+    )
 }
 
 // What a commit that a row stops leaves of the sessions: by row 8, its session's number is commits.
@@ -92,7 +98,7 @@ fn tell_session(sessions: &mut [u8], session: u32, commits: u32, stopped: u32)
     session::put_number(sessions, session, commits);
 }
 
-// Document 01's commit, with document 02's row 16 (S-2) and what its refusal 8 leaves (S-3).
+// Document 01's commit, with document 02's row 16 (S-2), what its refusal 8 leaves (S-3) and the free chain (S-9).
 pub fn commit(
     control: Control,
     library: &mut [u8],
@@ -112,12 +118,18 @@ pub fn commit(
             control,
         };
     }
-    let next = control.committed((operations.len() / Cart::SIZE) as u32);
     operation::apply_all(&mut library[0..Cart::COPY_SIZE], operations);
-    append::append_transaction(control, log, operations);
-    session::put_number(sessions, session, next.commits);
+    let next = append::append_transaction(
+        log,
+        control.log_count(),
+        control.oldest,
+        control.free_first,
+        operations,
+    );
+    let left = control.committed((operations.len() / Cart::SIZE) as u32, next);
+    session::put_number(sessions, session, left.commits);
     CountResult {
-        answer: CountAnswer::Number(next.commits),
-        control: next,
+        answer: CountAnswer::Number(left.commits),
+        control: left,
     }
 }

@@ -1,13 +1,16 @@
 // Control: the counts that a caller passes by value and is handed back.
+use log::free::Freed;
 ghost use mathlib.Core.Path.{_≡_};
-ghost use Prim.Native.Nat.{_+_, _≤_};
+ghost use mathlib.Core.Bool.{cond};
+ghost use Prim.Native.Nat.{_+_, _-_, _≤_};
 ghost use Rattle.carts.specs.Bytes.{every};
-ghost use lib.Dec.{leb};
+ghost use lib.Dec.{leb, eqb};
 ghost use lib.ListN.{length};
-ghost use Rattle.replication.specs.Memory.{recordCount, sessionCount, studioCount, studioOf, nth};
-ghost use Rattle.replication.specs.Log.{firstRecord};
+ghost use Rattle.log.specs.Log.{recordCount};
+ghost use Rattle.replication.specs.Memory.{sessionCount, studioCount, mostCommits, studioOf, nth};
+ghost use Rattle.replication.specs.Log.{logCount};
 ghost use Rattle.replication.specs.Layout.{countsForm};
-ghost use Rattle.replication.specs.Calls.{controlOf, committed, withSent, withApplied, withStudio};
+ghost use Rattle.replication.specs.Calls.{controlOf, committed, withLog, withSent, withApplied, withStudio};
 
 // Sizes are document 01's. Any value may stand in any field: each has its answer.
 #[repr(C)]
@@ -18,6 +21,10 @@ pub struct Control {
     pub commits: u32,
     pub sent: [u32; 4],
     pub applied: [u32; 4],
+    pub retired: u32,
+    pub oldest: u32,
+    pub free_first: u32,
+    pub free_last: u32,
 }
 
 impl Control {
@@ -26,15 +33,20 @@ impl Control {
     // The head end's copy and the studios'.
     pub const COPIES: u32 = 5;
 
-    pub const LIBRARY_SIZE: usize = 51200;
+    // The copy of the retired transactions, placed last.
+    pub const SIXTH_AT: usize = 51200;
+
+    pub const LIBRARY_SIZE: usize = 61440;
+
+    pub const COMMITS_MOST: u32 = 65535;
 
     pub const SESSIONS: u32 = 16;
 
     pub const WINDOW: u32 = 32;
 
-    // Control of a fresh system: every count is zero.
-    pub fn new(studios: u32, sessions: [u32; 16]) -> Control
-        ensures { λ r. ⌜ r ≡ controlOf studios sessions ⌝ }
+    // Control of a fresh system, with its free chain: every count is zero.
+    pub fn new(studios: u32, sessions: [u32; 16], free_first: u32, free_last: u32) -> Control
+        ensures { λ r. ⌜ r ≡ controlOf studios sessions «free_first» «free_last» ⌝ }
     {
         Control {
             studios,
@@ -43,6 +55,10 @@ impl Control {
             commits: 0,
             sent: [0; 4],
             applied: [0; 4],
+            retired: 0,
+            oldest: 0,
+            free_first,
+            free_last,
         }
     }
 
@@ -55,14 +71,12 @@ impl Control {
         self.session_studios[j]
     }
 
-    // The first record of the first transaction; 0 where there is none.
-    pub fn first_record(self) -> u32
-        ensures { λ r. ⌜ r ≡ firstRecord self ⌝ }
+    // The transactions in the log.
+    pub fn log_count(self) -> u32
+        requires { ⌜ self .retired ≤ self .commits ⌝ }
+        ensures { λ r. ⌜ r ≡ logCount self ⌝ }
     {
-        if self.commits == 0 {
-            return 0;
-        }
-        1
+        self.commits - self.retired
     }
 
     // Each session's studio is one of the system's, or 0.
@@ -104,7 +118,7 @@ impl Control {
         if sent < applied {
             return false;
         }
-        (sent <= self.commits) & (sent - applied <= Control::WINDOW)
+        (sent <= self.commits) & (sent - applied <= Control::WINDOW) & (self.retired <= applied)
     }
 
     // Control with another number sent to studio i.
@@ -140,15 +154,47 @@ impl Control {
         next
     }
 
-    // Control after a commit of n operations.
-    pub fn committed(self, n: u32) -> Control
-        requires { ⌜ (self .used + n ≤ recordCount) × (self .commits ≤ recordCount) ⌝ }
-        ensures { λ r. ⌜ r ≡ committed self n ⌝ }
+    // The first record of the oldest transaction after a commit: the first free record where there was none.
+    fn oldest_then(self) -> u32
+        requires { ⌜ self .retired ≤ self .commits ⌝ }
+        ensures { λ r. ⌜ r ≡ cond (eqb (logCount self) 0) (self .«free_first») (self .oldest) ⌝ }
     {
-        let mut next = self;
-        next.used = self.used + n;
-        next.commits = self.commits + 1;
-        next
+        if self.commits == self.retired {
+            return self.free_first;
+        }
+        self.oldest
+    }
+
+    // Control after a commit of n operations; `next` is the first record that is still free, 0 for none.
+    pub fn committed(self, n: u32, next: u32) -> Control
+        requires { ⌜ ((self .used + n ≤ recordCount) × (self .commits + 1 ≤ mostCommits)) × (self .retired ≤ self .commits) ⌝ }
+        ensures { λ r. ⌜ r ≡ committed self n next ⌝ }
+    {
+        let mut left = self;
+        left.used = self.used + n;
+        left.commits = self.commits + 1;
+        left.oldest = self.oldest_then();
+        left.free_first = next;
+        left.free_last = if next == 0 { 0 } else { self.free_last };
+        left
+    }
+
+    // Control after the oldest transaction is retired; `next` is the first record of the one after it, and `freed` tells of its records.
+    pub fn after_retire(self, next: u32, freed: Freed) -> Control
+        requires { ⌜ (freed .count ≤ self .used) × (self .retired + 1 ≤ mostCommits) ⌝ }
+        ensures { λ r. ⌜ r ≡ withLog self (self .used - freed .count) (self .commits) (self .retired + 1) next (cond (eqb (self .«free_first») 0) (self .oldest) (self .«free_first»)) (freed .last) ⌝ }
+    {
+        let mut left = self;
+        left.used = self.used - freed.count;
+        left.retired = self.retired + 1;
+        left.oldest = next;
+        left.free_first = if self.free_first == 0 {
+            self.oldest
+        } else {
+            self.free_first
+        };
+        left.free_last = freed.last;
+        left
     }
 }
 

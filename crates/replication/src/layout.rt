@@ -1,23 +1,19 @@
 // The test of control and the three memories: one pass over all their bytes.
-use crate::chain;
 use crate::control::Control;
-use crate::record;
-use crate::record::Record;
 use crate::session;
 use crate::session::Session;
 use carts::bytes;
 use carts::cart;
 use carts::cart::Cart;
-use carts::operation;
+use log::chain;
 ghost use mathlib.Core.Path.{_≡_};
-ghost use Prim.Native.Nat.{_≤_};
 ghost use lib.ListN.{length};
 ghost use mathlib.Core.List.{[], _∷_};
 ghost use Rattle.carts.specs.Bytes.{every, eachPart};
-ghost use Rattle.replication.specs.Memory.{memory, librarySize, copyCount, recordSize, recordCount, logSize, sessionSize, sessionsSize, sessionCount};
+ghost use Rattle.replication.specs.Memory.{memory, librarySize, copyCount, sessionSize, sessionsSize, sessionCount};
+ghost use Rattle.log.specs.Log.{logSize};
 ghost use Rattle.carts.specs.Cart.{copySize};
-ghost use Rattle.carts.specs.Operation.{operationFields};
-ghost use Rattle.replication.specs.Layout.{replicaForm, sessionForm, countsForm, ofLayout};
+ghost use Rattle.replication.specs.Layout.{replicaForm, sixthForm, sessionForm, countsForm, ofLayout};
 
 // Copy i of a system of so many studios is of its form: carts, or zeros above the last studio.
 fn is_replica(copy: &[u8], i: u32, studios: u32) -> bool
@@ -30,7 +26,18 @@ fn is_replica(copy: &[u8], i: u32, studios: u32) -> bool
     bytes::all_zero(copy)
 }
 
-// The five copies.
+// The sixth copy is of its form: carts, or zeros while nothing is retired.
+fn is_sixth(copy: &[u8], retired: u32) -> bool
+    requires { ⌜ length (now copy) ≡ copySize ⌝ }
+    ensures { λ r. ⌜ r ≡ sixthForm retired (now (copy .entry)) ⌝ }
+{
+    if retired == 0 {
+        return bytes::all_zero(copy);
+    }
+    cart::is_copy(copy)
+}
+
+// The copies of the head end and the studios.
 fn are_replicas(library: &[u8], studios: u32) -> bool
     requires { ⌜ length (now library) ≡ librarySize ⌝ }
     ensures { λ r. ⌜ r ≡ eachPart (replicaForm studios) copySize copyCount 0 (now (library .entry)) ⌝ }
@@ -42,20 +49,6 @@ fn are_replicas(library: &[u8], studios: u32) -> bool
         let end = start + Cart::COPY_SIZE;
         ok &= is_replica(&library[start..end], i, studios);
         i += 1;
-    }
-    ok
-}
-
-// The first `used` records hold operations.
-fn are_records(log: &[u8], used: u32) -> bool
-    requires { ⌜ (length (now log) ≡ logSize) × (used ≤ recordCount) ⌝ }
-    ensures { λ r. ⌜ r ≡ eachPart (λ r. operationFields) recordSize used 1 (now (log .entry)) ⌝ }
-{
-    let mut ok = true;
-    let mut r: u32 = 0;
-    while r < used {
-        r += 1;
-        ok &= operation::has_fields(record::record_at(log, r));
     }
     ok
 }
@@ -89,31 +82,36 @@ pub fn is_layout(control: Control, library: &[u8], log: &[u8], sessions: &[u8]) 
     requires { ⌜ (length (now library) ≡ librarySize) × ((length (now log) ≡ logSize) × (length (now sessions) ≡ sessionsSize)) ⌝ }
     ensures { λ r. ⌜ r ≡ ofLayout control (memory (now (library .entry)) (now (log .entry)) (now (sessions .entry))) ⌝ }
 {
-    let used = control.used;
     if !bytes::is_within(1, Control::STUDIOS, control.studios) {
         return false;
     }
     if !control.has_studios() {
         return false;
     }
+    if Control::COMMITS_MOST < control.commits {
+        return false;
+    }
+    if !are_counts(control) {
+        return false;
+    }
     if !are_replicas(library, control.studios) {
         return false;
     }
-    if Record::COUNT < used {
+    if !is_sixth(
+        &library[Control::SIXTH_AT..Control::LIBRARY_SIZE],
+        control.retired,
+    ) {
         return false;
     }
-    if !are_records(log, used) {
+    if !chain::are_chains(
+        log,
+        control.log_count(),
+        control.used,
+        control.oldest,
+        control.free_first,
+        control.free_last,
+    ) {
         return false;
     }
-    let end = Record::SIZE * (used as usize);
-    if !bytes::all_zero(&log[end..]) {
-        return false;
-    }
-    if !chain::is_chain(control, log) {
-        return false;
-    }
-    if !are_sessions(control, sessions) {
-        return false;
-    }
-    are_counts(control)
+    are_sessions(control, sessions)
 }

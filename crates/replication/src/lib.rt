@@ -1,9 +1,6 @@
-// Log, sessions and studios of document 01: control, and what the calls answer.
+// Sessions and studios of document 01: control, and what the calls answer.
 pub mod answer;
-pub mod append;
 pub mod block;
-pub mod cell;
-pub mod chain;
 pub mod collect;
 pub mod commit;
 pub mod control;
@@ -14,12 +11,11 @@ pub mod move_session;
 pub mod output;
 pub mod preview;
 pub mod read;
-pub mod record;
 pub mod refresh;
+pub mod retire;
 pub mod rows;
 pub mod send;
 pub mod session;
 pub mod setup;
 pub mod source;
-pub mod transaction;
 pub mod walk;

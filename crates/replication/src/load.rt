@@ -2,11 +2,11 @@
 use crate::answer::CountAnswer;
 use crate::answer::CountResult;
 use crate::control::Control;
-use crate::record::Record;
 use crate::rows;
-use crate::transaction;
 use carts::bytes;
 use carts::cart::Cart;
+use log::record::Record;
+use log::transaction;
 ghost use mathlib.Core.Path.{_≡_};
 ghost use mathlib.Core.Bool.{true, _&&_};
 ghost use mathlib.Core.List.{[]};
@@ -15,11 +15,13 @@ ghost use lib.ListN.{length};
 ghost use Rattle.carts.specs.Bytes.{every};
 ghost use Rattle.carts.specs.Cart.{copySize};
 ghost use Rattle.replication.specs.Answer.{countAnswer};
-ghost use Rattle.replication.specs.Memory.{memory, librarySize, logSize, studioCount};
-ghost use Rattle.replication.specs.Log.{logRecords, firstRecord};
+ghost use Rattle.replication.specs.Memory.{memory, librarySize, studioCount};
+ghost use Rattle.log.specs.Log.{logSize, logRecords};
+ghost use Rattle.log.specs.Values.{usable, walkable};
+ghost use Rattle.replication.specs.Log.{logCount};
 ghost use Rattle.replication.specs.Rows.{loadStop};
 ghost use Rattle.replication.specs.Calls.{after, load};
-ghost use Rattle.replication.specs.Values.{usable, walkable, isLevel, areLevel, wholeFrom};
+ghost use Rattle.replication.specs.Values.{isLevel, areLevel, wholeFrom};
 
 // Studio i has this copy, if what it has applied is n.
 fn is_level(library: &[u8], copy: &[u8], n: u32, applied: u32, i: u32) -> bool
@@ -54,14 +56,14 @@ fn are_level(control: Control, library: &[u8], copy: &[u8], n: u32) -> bool
 // compared when as many have acted as it has applied, the head end's at the end.
 fn are_made(control: Control, library: &[u8], log: &[u8], copy: &mut [u8]) -> bool
     requires { ⌜ (length (now library) ≡ librarySize) × ((length (now log) ≡ logSize) × ((length (now copy) ≡ copySize) × (control .studios ≤ studioCount))) ⌝ }
-    requires { ⌜ (walkable (control .commits) (now log) (firstRecord control) ≡ true) × (every (usable (now log)) (logRecords (control .commits) (now log) (firstRecord control)) ≡ true) ⌝ }
-    ensures { λ v. ⌜ v ≡ (areLevel control (now (library .entry)) (now (copy .entry)) 0
-        && wholeFrom control (now (library .entry)) (now (log .entry)) (control .commits) 0 (firstRecord control) (now (copy .entry))) ⌝ }
+    requires { ⌜ (walkable (logCount control) (now log) (control .oldest) ≡ true) × (every (usable (now log)) (logRecords (logCount control) (now log) (control .oldest)) ≡ true) ⌝ }
+    ensures { λ v. ⌜ v ≡ (areLevel control (now (library .entry)) (now (copy .entry)) (control .retired)
+        && wholeFrom control (now (library .entry)) (now (log .entry)) (logCount control) (control .retired) (control .oldest) (now (copy .entry))) ⌝ }
 {
     let commits = control.commits;
-    let mut ok = are_level(control, library, copy, 0);
-    let mut r = control.first_record();
-    let mut n: u32 = 0;
+    let mut n = control.retired;
+    let mut ok = are_level(control, library, copy, n);
+    let mut r = control.oldest;
     while n < commits {
         ok &= transaction::try_transaction(copy, log, r);
         let links = Record::at(log, r);
@@ -72,7 +74,7 @@ fn are_made(control: Control, library: &[u8], log: &[u8], copy: &mut [u8]) -> bo
     ok & bytes::are_equal(&library[0..Cart::COPY_SIZE], copy)
 }
 
-// The number of the row that stops a load, or 0. The copy on the stack begins as 128 empty carts.
+// The number of the row that stops a load, or 0. The copy on the stack begins as the sixth (S-9).
 pub fn decide_load(control: Control, library: &[u8], log: &[u8], sessions: &[u8]) -> u32
     ensures { λ r. ⌜ r ≡ loadStop control (memory (now (library .entry)) (now (log .entry)) (now (sessions .entry))) ⌝ }
 {
@@ -81,6 +83,10 @@ pub fn decide_load(control: Control, library: &[u8], log: &[u8], sessions: &[u8]
         return stopped;
     }
     let mut copy = [0u8; Cart::COPY_SIZE];
+    bytes::copy_all(
+        &mut copy,
+        &library[Control::SIXTH_AT..Control::LIBRARY_SIZE],
+    );
     if !are_made(control, library, log, &mut copy) {
         return 19;
     }

@@ -1,8 +1,8 @@
 // Where a call is stopped: the rows on memory, which all calls but setup begin with, and the rows on who calls.
 use crate::control::Control;
 use crate::layout;
-use crate::record::Record;
 use crate::session::Session;
+use log::record::Record;
 ghost use mathlib.Core.Path.{_≡_};
 ghost use mathlib.Core.List.{[], _∷_, _++_};
 ghost use Rattle.replication.specs.Memory.{memory, lengthsForm, studioOf};

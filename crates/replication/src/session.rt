@@ -1,8 +1,8 @@
 // Sessions and requests: 80 bytes each, 16 sessions, counted from 1.
-use crate::cell;
 use carts::bytes;
 use carts::cart;
 use carts::cart::Cart;
+use log::cell;
 ghost use mathlib.Core.Path.{_≡_};
 ghost use Prim.Native.Nat.{_<_, _≤_};
 ghost use lib.ListN.{length};

@@ -4,6 +4,8 @@ use crate::answer::SetupResult;
 use crate::control::Control;
 use crate::rows;
 use carts::bytes;
+use log::fresh;
+use log::record::Record;
 ghost use mathlib.Core.Path.{_≡_};
 ghost use mathlib.Core.List.{[]};
 ghost use lib.ListN.{length};
@@ -60,7 +62,7 @@ pub fn decide_setup(library: &[u8], log: &[u8], sessions: &[u8], studios: u32, p
     0
 }
 
-// Document 01's setup: all memory zero, counts zero; a refused one hands back the zero control.
+// Document 01's setup: copies and sessions zero, every record free (S-9), counts zero; a refused one hands back the zero control.
 pub fn setup(
     library: &mut [u8],
     log: &mut [u8],
@@ -75,14 +77,14 @@ pub fn setup(
     if stopped != 0 {
         return SetupResult {
             answer: SetupAnswer::Refused(stopped),
-            control: Control::new(0, [0; 16]),
+            control: Control::new(0, [0; 16], 0, 0),
         };
     }
     bytes::clear(library);
-    bytes::clear(log);
+    fresh::make_fresh(log);
     bytes::clear(sessions);
     SetupResult {
         answer: SetupAnswer::Ready,
-        control: Control::new(studios, numbers_of(places)),
+        control: Control::new(studios, numbers_of(places), 1, Record::COUNT),
     }
 }

@@ -7,6 +7,7 @@ use Rattle.replication.proofs.RowLaws.{session-numbered}
 use Rattle.replication.proofs.DecideLaws.{by-first, first-formed, first-who, known-session}
 use Rattle.replication.proofs.SessionLaws.{session-placed}
 use Rattle.replication.proofs.CommitLaws.{read-waits, operations-decide}
+use Rattle.replication.proofs.LogLaws.{used-few}
 use borrow.Author.Needs.{needs}
 use Rattle.replication.proofs.commit.decide_commit.Statement.{statement}
 use Rattle.replication.proofs.commit.decide_commit.Tie as tie
@@ -44,7 +45,7 @@ stopped-by-operations-requires : tie.Need-stopped-by-operations-requires
 stopped-by-operations-requires c κs = let d = c .before .before .before in
     let f = formed-here d in
     let k = f .library .size in
-    (f .log .used, length-part (start (d .before) .args .library .now) 0 10240 (omega arith))
+    (used-few _ _ f, length-part (start (d .before) .args .library .now) 0 10240 (omega arith))
 
 returns-3 : tie.Need-returns-3
 unfolding copyAt

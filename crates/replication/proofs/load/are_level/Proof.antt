@@ -5,9 +5,9 @@ use native.Mathlib.Omega.{arith}
 use lib.ListN.{getD}
 use Rattle.carts.specs.Bytes.{every}
 use Rattle.carts.proofs.ScanLaws.{test-more, test-end}
-use Rattle.replication.specs.Log.{upFrom}
+use Rattle.log.specs.Log.{upFrom}
 use Rattle.replication.specs.Values.{isLevel, areLevel}
-use Rattle.replication.proofs.Placement.{up-next, up-end}
+use Rattle.log.proofs.UpFromLaws.{up-next, up-end}
 use Rattle.replication.proofs.LevelLaws.{levelAt, level-studios}
 use Rattle.replication.proofs.load.are_level.Statement.{statement}
 use Rattle.replication.proofs.load.are_level.Tie as tie

@@ -2,52 +2,51 @@
 use mathlib.Core.Path.{_≡_, refl, sym, ap, _∙_}
 use mathlib.Core.Bool.{Bool, true, _&&_}
 use Prim.Native.Nat.{ℕ, _≤_, _+_, _-_}
-use native.Mathlib.Nat.{sub-zero}
 use native.Mathlib.Omega.{arith}
 use mathlib.Core.List.{List}
 use lib.ListN.{length}
 use lib.Seq.{length-take-le}
 use borrow.Author.Needs.{needs}
 use Rattle.carts.specs.Bytes.{every}
-use Rattle.replication.specs.Log.{logRecords, firstRecord}
-use Rattle.replication.specs.Values.{usable, walkable, areLevel, wholeFrom}
-use Rattle.replication.specs.declared.record.Record.{Record}
+use Rattle.log.specs.Log.{logRecords}
+use Rattle.log.specs.Values.{usable, walkable}
+use Rattle.log.specs.declared.record.Record.{Record}
+use Rattle.replication.specs.Log.{logCount}
+use Rattle.replication.specs.Values.{areLevel, wholeFrom}
 use Rattle.carts.proofs.ScanLaws.{test-more, test-end}
-use Rattle.replication.proofs.WalkLaws.{walk-here, walk-later}
+use Rattle.log.proofs.WalkLaws.{walk-here, walk-later}
 use Rattle.replication.proofs.LoadWalk.{usable-own, usable-rest, whole-next, whole-end}
 use Rattle.replication.proofs.load.are_made.Statement.{statement}
 use Rattle.replication.proofs.load.are_made.Tie as tie
 
 abbrev Inv-loop : tie.InvT-loop
-Inv-loop control library log copy₀ commits ok₀ r₀ n₀ copy ok r n =
-    (n ≤ commits) × (length copy ≡ 10240) × (walkable (commits - n) log r ≡ true) × (every (usable log) (logRecords (commits - n) log r) ≡ true)
-    × ((areLevel control library copy₀ 0 && wholeFrom control library log commits 0 (firstRecord control) copy₀) ≡ (ok && wholeFrom control library log (commits - n) n r copy))
+Inv-loop control library log copy₀ commits n₀ ok₀ r₀ copy n ok r =
+    (length copy ≡ 10240) × (walkable (commits - n) log r ≡ true) × (every (usable log) (logRecords (commits - n) log r) ≡ true)
+    × ((areLevel control library copy₀ (control .retired) && wholeFrom control library log (logCount control) (control .retired) (control .oldest) copy₀) ≡ (ok && wholeFrom control library log (commits - n) n r copy))
 
 abbrev μ-loop : tie.MeasureT-loop
-μ-loop control library log copy₀ commits ok₀ r₀ n₀ copy ok r n = commits - n
+μ-loop control library log copy₀ commits n₀ ok₀ r₀ copy n ok r = commits - n
 
 abbrev start : tie.At-loop Inv-loop μ-loop → tie.Start Inv-loop μ-loop
-start t = t .before .before .before .before .before .before .before
+start t = t .before .before .before .before .before .before
 
 are-level-requires : tie.Need-are-level-requires Inv-loop μ-loop
 are-level-requires c κs = search needs
 
-first-record-requires : tie.Need-first-record-requires Inv-loop μ-loop
-first-record-requires c κs = search needs
-
 loop-holds : tie.Need-loop-holds Inv-loop μ-loop
-loop-holds c = let l = c .before in
-    let p = l .before .before .before .before .before .pre in
-    rw (sub-zero, c .first-record .ensures) (omega arith, p .0 .1 .1 .0, p .1 .0, p .1 .1, rw (l .are-level .ensures))
+unfolding logCount
+loop-holds c =
+    let p = c .before .before .before .before .before .pre in
+    (p .0 .1 .1 .0, p .1 .0, p .1 .1, rw (c .are-level .ensures))
 
 try-transaction-requires : tie.Need-try-transaction-requires Inv-loop μ-loop
 try-transaction-requires c κs = let t = c .before .before in
     let p = start t .pre .0 in
-    (t .loop .inv .1, (p .1 .0, usable-own _ _ _ (omega arith) (t .loop .inv .3)))
+    (t .loop .inv .0, (p .1 .0, usable-own _ _ _ (omega arith) (t .loop .inv .2)))
 
 at-requires : tie.Need-at-requires Inv-loop μ-loop
 at-requires c κs = let t = c .before .before .before .before .before in
-    (start t .pre .0 .1 .0, walk-here _ _ (t .loop .r) (λ z. omega arith) (t .loop .inv .2))
+    (start t .pre .0 .1 .0, walk-here _ _ (t .loop .r) (λ z. omega arith) (t .loop .inv .1))
 
 add-n : tie.Need-add-n Inv-loop μ-loop
 add-n c = omega arith
@@ -56,7 +55,7 @@ are-level-requires-2 : tie.Need-are-level-requires-2 Inv-loop μ-loop
 are-level-requires-2 c κs = let y = c .before .before .before .before in
     let t = y .before .before .before in
     let p = start t .pre .0 in
-    (p .0, (y .try-transaction .kept .0 ∙ t .loop .inv .1, p .1 .1 .1))
+    (p .0, (y .try-transaction .kept .0 ∙ t .loop .inv .0, p .1 .1 .1))
 
 loop-less : tie.Need-loop-less Inv-loop μ-loop
 loop-less c = omega arith
@@ -71,12 +70,11 @@ loop-again c = let a = c .before .before in
     let less : g .control .commits - (t .loop .n + 1) ≡ k - 1 = omega arith in
     let next = ap (λ (x : Record). x .«next_transaction») (a .at .ensures .0) in
     let e = y .try-transaction .ensures in (
-      omega arith,
-      y .try-transaction .kept .0 ∙ t .loop .inv .1,
-      rw less (walk-later k (g .log .now) (t .loop .r) h (t .loop .inv .2) _ (a .at .ensures .0)),
-      rw (less, next) (usable-rest (g .log .now) k (t .loop .r) (omega arith) (t .loop .inv .3)),
+      y .try-transaction .kept .0 ∙ t .loop .inv .0,
+      rw less (walk-later k (g .log .now) (t .loop .r) h (t .loop .inv .1) _ (a .at .ensures .0)),
+      rw (less, next) (usable-rest (g .log .now) k (t .loop .r) (omega arith) (t .loop .inv .2)),
       rw (less, next, e .1) (test-more (t .loop .ok && y .try-transaction .result) _ _
-          (test-more (t .loop .ok) _ _ (t .loop .inv .4) (whole-next (g .log .now) k (t .loop .r) (omega arith) (g .control) (g .library .now) (t .loop .n) (t .loop .copy)) (ap (λ (b : Bool). t .loop .ok && b) (e .0))) refl
+          (test-more (t .loop .ok) _ _ (t .loop .inv .3) (whole-next (g .log .now) k (t .loop .r) (omega arith) (g .control) (g .library .now) (t .loop .n) (t .loop .copy)) (ap (λ (b : Bool). t .loop .ok && b) (e .0))) refl
           (ap (λ (b : Bool). (t .loop .ok && y .try-transaction .result) && b) (c .are-level2 .ensures ∙ ap (λ (z : List ℕ). areLevel (g .control) (g .library .now) z (t .loop .n + 1)) (e .1)))),
     )
 
@@ -91,7 +89,7 @@ part-are-equal-end c = omega arith
 
 are-equal-requires : tie.Need-are-equal-requires Inv-loop μ-loop
 are-equal-requires c κs = let t = c .before .before .before in
-    length-take-le 10240 (start t .args .library .now) (omega (arith, start t .pre .0 .0)) ∙ sym (t .loop .inv .1)
+    length-take-le 10240 (start t .args .library .now) (omega (arith, start t .pre .0 .0)) ∙ sym (t .loop .inv .0)
 
 same-length : tie.Need-same-length Inv-loop μ-loop
 same-length c = omega arith
@@ -99,7 +97,7 @@ same-length c = omega arith
 returns : tie.Need-returns Inv-loop μ-loop
 returns c = let t = c .before .before .before .before in
     let g = start t .args in
-    sym (t .loop .inv .4 ∙ ap (λ (b : Bool). t .loop .ok && b) (whole-end (g .control) (g .library .now) (g .log .now) _ (t .loop .n) (t .loop .r) (t .loop .copy) (omega arith) ∙ sym (c .are-equal .ensures)))
+    sym (t .loop .inv .3 ∙ ap (λ (b : Bool). t .loop .ok && b) (whole-end (g .control) (g .library .now) (g .log .now) _ (t .loop .n) (t .loop .r) (t .loop .copy) (omega arith) ∙ sym (c .are-equal .ensures)))
 
 pub are-made-spec : {M : Type 1} → statement M
 are-made-spec =
@@ -108,7 +106,6 @@ are-made-spec =
     Inv-loop
     μ-loop
     are-level-requires
-    first-record-requires
     loop-holds
     try-transaction-requires
     at-requires

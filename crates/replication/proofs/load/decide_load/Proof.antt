@@ -1,14 +1,20 @@
-use mathlib.Core.Path.{_≡_, refl, sym, _∙_}
+use mathlib.Core.Path.{_≡_, sym, ap, _∙_}
+use mathlib.Core.Bool.{_&&_}
+use mathlib.Core.List.{List}
+use Prim.Native.Nat.{ℕ}
+use lib.ListN.{length}
 use native.Mathlib.Omega.{arith}
+use Rattle.carts.proofs.PartLaws.{length-part}
 use borrow.Author.Needs.{needs}
 use borrow.Author.Tests.{not-true, not-false}
-use Rattle.carts.specs.Bytes.{zeros}
-use Rattle.replication.specs.Memory.{memory}
+use Rattle.replication.specs.Memory.{memory, copyAt}
+use Rattle.replication.specs.Log.{logCount}
+use Rattle.replication.specs.Values.{areLevel, wholeFrom}
 use Rattle.replication.specs.Rows.{memoryRows, loadStop}
 use Rattle.replication.proofs.RowLaws.{stops-first}
 use Rattle.replication.proofs.DecideLaws.{memory-formed}
 use Rattle.replication.proofs.Formed.{Formed, few}
-use Rattle.replication.proofs.Placement.{log-walkable, log-usable}
+use Rattle.replication.proofs.LogLaws.{log-walkable, log-usable}
 use Rattle.replication.proofs.LoadLaws.{not-whole, all-whole}
 use Rattle.replication.proofs.load.decide_load.Statement.{statement}
 use Rattle.replication.proofs.load.decide_load.Tie as tie
@@ -20,26 +26,57 @@ returns : tie.Need-returns
 unfolding loadStop
 returns c = stops-first (memoryRows _ _) _ _ (c .before .stopped-by-memory .ensures) (c .if1 .taken)
 
-slice-aggregate-are-made : tie.Need-slice-aggregate-are-made
-slice-aggregate-are-made c = search needs
-
 -- memory is of the layout
 known : (c : tie.Else1) → let g = c .before .before .before .before .before .args in Formed (g .control) (memory (g .library .now) (g .log .now) (g .sessions .now))
 known c = memory-formed _ _ _ (c .before .stopped-by-memory .ensures) (c .if1 .left)
 
+-- the copy is as long as a copy
+long : (c : tie.After-copy-all) → length (c .copy-all .last .0) ≡ 10240
+long c = let e = c .before .before .before in
+    ap length (c .copy-all .ensures) ∙ length-part (e .before .before .before .before .before .args .library .now) 51200 10240 (omega (arith, known e .library .size))
+
+slice-aggregate-copy-all : tie.Need-slice-aggregate-copy-all
+slice-aggregate-copy-all c = search needs
+
+sub-copy-all : tie.Need-sub-copy-all
+sub-copy-all c = search needs
+
+part-copy-all-start : tie.Need-part-copy-all-start
+part-copy-all-start c = search needs
+
+part-copy-all-end : tie.Need-part-copy-all-end
+part-copy-all-end c = let f = known (c .before) in omega (arith, f .library .size)
+
+copy-all-requires : tie.Need-copy-all-requires
+copy-all-requires c κs = let e = c .before .before in let f = known e in sym (length-part (e .before .before .before .before .before .args .library .now) 51200 10240 (omega (arith, f .library .size)))
+
+slice-aggregate-are-made : tie.Need-slice-aggregate-are-made
+slice-aggregate-are-made c = let a = c .before .before in sym (long a)
+
 are-made-requires : tie.Need-are-made-requires
-are-made-requires c κs = let f = known (c .before) in
-    ((f .library .size, (f .log .size, (refl, few _ _ f))), (log-walkable _ _ f _ (omega arith), log-usable _ _ f))
+are-made-requires c κs = let a = c .before .before in
+    let e = a .before .before .before in
+    let f = known e in
+    ((f .library .size, (f .log .size, (long a, few _ _ f))), (log-walkable _ _ f _ (omega arith), log-usable _ _ f))
+
+-- the walk begins with the sixth copy
+walked : (c : tie.After-are-made) → let g = c .before .before .before .before .before .before .before .before .before .before .before .args in let base = copyAt (g .library .now) 5 in
+    (areLevel (g .control) (g .library .now) base (g .control .retired) && wholeFrom (g .control) (g .library .now) (g .log .now) (logCount (g .control)) (g .control .retired) (g .control .oldest) base)
+    ≡ c .are-made .result
+unfolding copyAt
+walked c = let g = c .before .before .before .before .before .before .before .before .before .before .before .args in
+    sym (c .are-made .ensures ∙ ap (λ (x : List ℕ). areLevel (g .control) (g .library .now) x (g .control .retired)
+    && wholeFrom (g .control) (g .library .now) (g .log .now) (logCount (g .control)) (g .control .retired) (g .control .oldest) x) (c .before .before .before .copy-all .ensures))
 
 returns-2 : tie.Need-returns-2
-unfolding zeros
-returns-2 c = let e = c .before .before .before .before in
-    not-whole _ _ (known e) _ (e .before .stopped-by-memory .ensures) (e .if1 .left) (sym (c .before .before .are-made .ensures) ∙ not-true (c .before .before .are-made .result) (c .if2 .taken))
+returns-2 c = let a = c .before .before in
+    let e = a .before .before .before .before .before .before in
+    not-whole _ _ (known e) _ (e .before .stopped-by-memory .ensures) (e .if1 .left) (walked a ∙ not-true (a .are-made .result) (c .if2 .taken))
 
 returns-3 : tie.Need-returns-3
-unfolding zeros
-returns-3 c = let e = c .before .before .before .before in
-    all-whole _ _ (known e) _ (e .before .stopped-by-memory .ensures) (e .if1 .left) (sym (c .before .before .are-made .ensures) ∙ not-false (c .before .before .are-made .result) (c .if2 .left))
+returns-3 c = let a = c .before .before in
+    let e = a .before .before .before .before .before .before in
+    all-whole _ _ (known e) _ (e .before .stopped-by-memory .ensures) (e .if1 .left) (walked a ∙ not-false (a .are-made .result) (c .if2 .left))
 
 pub decide-load-spec : {M : Type 1} → statement M
 decide-load-spec =
@@ -47,6 +84,11 @@ decide-load-spec =
     (tie.spec
     stopped-by-memory-requires
     returns
+    slice-aggregate-copy-all
+    sub-copy-all
+    part-copy-all-start
+    part-copy-all-end
+    copy-all-requires
     slice-aggregate-are-made
     are-made-requires
     returns-2

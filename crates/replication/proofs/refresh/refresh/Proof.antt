@@ -27,7 +27,7 @@ applied-by-requires : tie.Need-applied-by-requires
 applied-by-requires c κs = let k = known c in (k .low, k .high)
 
 transaction-after-requires : tie.Need-transaction-after-requires
-transaction-after-requires c κs = let k = known (c .before) in (k .log, rw (c .applied-by .ensures) (k .walks))
+transaction-after-requires c κs = let k = known (c .before) in ((k .log, rw (c .applied-by .ensures) (k .kept)), rw (c .applied-by .ensures) (k .walks))
 
 mul-start : tie.Need-mul-start
 mul-start c = search needs
@@ -70,7 +70,7 @@ returns-2 c = let t = c .before .before .before in
     let e = a .before in
     let g = start (e .before) .args in
     refresh-accepted _ _ _ _ (e .before .decide-refresh .ensures) (e .if1 .left) _ (ap (λ (n : ℕ). n + 1) (a .applied-by .ensures)) _ (c .with-applied .ensures) _
-    (library-after (g .library .now) (g .log .now) (g .studio) _ _ _ _ _ (t .apply-transaction .ensures) (w .transaction-after .ensures) (a .applied-by .ensures))
+    (library-after (g .library .now) (g .log .now) (g .studio) _ _ _ _ _ _ (t .apply-transaction .ensures) (w .transaction-after .ensures) (a .applied-by .ensures))
 
 pub refresh-spec : {M : Type 1} → statement M
 refresh-spec =

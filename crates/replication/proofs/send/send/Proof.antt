@@ -13,7 +13,7 @@ decide-send-requires c κs = search needs
 returns : tie.Need-returns
 returns c = send-refused _ _ _ _ (c .before .decide-send .ensures) (c .if1 .taken)
 
-known : (c : tie.Else1) → let g = c .before .before .before .before .before .args in ((1 ≤ g .studio) × (g .studio ≤ 4)) × (nth (g .control .sent) (g .studio) ≤ 512)
+known : (c : tie.Else1) → let g = c .before .before .before .before .before .args in ((1 ≤ g .studio) × (g .studio ≤ 4)) × (nth (g .control .sent) (g .studio) ≤ 65535)
 known c = send-known _ _ _ _ (c .before .decide-send .ensures) (c .if1 .left)
 
 sent-to-requires : tie.Need-sent-to-requires

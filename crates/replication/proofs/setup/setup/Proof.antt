@@ -4,6 +4,7 @@ use mathlib.Core.List.{List}
 use Prim.Native.Nat.{ℕ}
 use mathlib.Core.Path.{ap, _∙_}
 use Rattle.replication.proofs.SetupLaws.{setup-refused, setup-known, setup-accepted}
+use Rattle.replication.proofs.RowLaws.{lengths-are}
 use borrow.Author.Needs.{needs}
 use Rattle.replication.proofs.setup.setup.Statement.{statement}
 use Rattle.replication.proofs.setup.setup.Tie as tie
@@ -30,16 +31,16 @@ returns c = setup-refused _ _ _ _ (c .before .before .decide-setup .ensures) (c 
 clear-requires : tie.Need-clear-requires
 clear-requires c κs = search needs
 
+make-fresh-requires : tie.Need-make-fresh-requires
+make-fresh-requires c κs = let e = c .before .before .before .before .before in lengths-are _ (setup-known _ _ _ _ (e .before .decide-setup .ensures) (e .if1 .left) .0) .1 .0
+
 clear-requires-2 : tie.Need-clear-requires-2
 clear-requires-2 c κs = search needs
-
-clear-requires-3 : tie.Need-clear-requires-3
-clear-requires-3 c κs = search needs
 
 abbrev start : tie.After-decide-setup → tie.Start
 start c = c .before .before .before .before .before .before .before .before
 
-abbrev decided : tie.After-clear3 → tie.Else1
+abbrev decided : tie.After-clear2 → tie.Else1
 decided c = c .before .before .before .before .before .before .before .before .before .before
 
 numbers-of-requires : tie.Need-numbers-of-requires
@@ -63,8 +64,8 @@ returns-2 c = let z = c .before .before .before .before in
     let x = y .before .before .before .before in
     let e = decided z in
     setup-accepted _ _ _ _ (e .before .decide-setup .ensures) (e .if1 .left) _ _ _ _
-    (c .new2 .ensures ∙ ap (λ (l : List ℕ). controlOf (start (e .before) .args .studios) l) (c .before .numbers-of .ensures))
-    (x .clear .ensures) (y .clear2 .ensures) (z .clear3 .ensures)
+    (c .new2 .ensures ∙ ap (λ (l : List ℕ). controlOf (start (e .before) .args .studios) l 1 512) (c .before .numbers-of .ensures))
+    (x .clear .ensures) (y .make-fresh .ensures) (z .clear2 .ensures)
 
 pub setup-spec : {M : Type 1} → statement M
 setup-spec =
@@ -77,8 +78,8 @@ setup-spec =
     same-length-3
     returns
     clear-requires
+    make-fresh-requires
     clear-requires-2
-    clear-requires-3
     numbers-of-requires
     new-requires-2
     same-length-4

@@ -19,9 +19,9 @@ returns-2 c = let e = c .before in
     counts-fewer (a .before .before .args .self) (a .before .before .args .i) _ _ (a .before .sent-to .ensures) (a .applied-by .ensures) (e .if1 .left) (c .if2 .taken)
 
 returns-3 : tie.Need-returns-3
-returns-3 c = let e = c .before .before in
+returns-3 c = let e = c .before .before .before in
     let a = e .before .before in
-    counts-are (a .before .before .args .self) (a .before .before .args .i) _ _ (a .before .sent-to .ensures) (a .applied-by .ensures) (e .if1 .left) (c .before .if2 .left)
+    counts-are (a .before .before .args .self) (a .before .before .args .i) _ _ (a .before .sent-to .ensures) (a .applied-by .ensures) (e .if1 .left) (c .before .before .if2 .left)
 
 pub has-counts-spec : {M : Type 1} → statement M
 has-counts-spec =
