@@ -56,7 +56,7 @@ extern "C" {
 /* The version of this interface: functions, structs, numbers and layout of memory. sulyobak_control and sulyobak_answer may change
  * with it, so a header and a library go together (compare the macro with sulyobak_version() at the program's start), and control is stored
  * together with the version that wrote it. docs/FORMAT.md says which versions have the same control and layout. */
-#define SULYOBAK_VERSION 8
+#define SULYOBAK_VERSION 9
 
 /* Stack that a call keeps within, in bytes: SULYOBAK_LOAD_STACK_MOST for sulyobak_load, which works out each copy in one of its own on the
  * stack (SULYOBAK_COPY_SIZE, 10,240 bytes), SULYOBAK_STACK_MOST for every other call. Measured on a full system, not proved: examples/run
@@ -65,7 +65,7 @@ extern "C" {
 #define SULYOBAK_LOAD_STACK_MOST 14336
 
 /* Sizes of the memories that a caller lends, in bytes: exactly these. */
-#define SULYOBAK_LIBRARY_SIZE 51200 /* five copies of 128 carts: the head end's, then those of studios 1 to 4 */
+#define SULYOBAK_LIBRARY_SIZE 61440 /* six copies of 128 carts: the head end's, studios 1 to 4, what is retired */
 #define SULYOBAK_LOG_SIZE 40960     /* 512 records */
 #define SULYOBAK_SESSIONS_SIZE 1280 /* 16 sessions */
 
@@ -85,7 +85,8 @@ extern "C" {
 #define SULYOBAK_TITLE_MOST 64  /* letters of a title: it is kept whole, or the commit is refused */
 #define SULYOBAK_OPERATIONS 8   /* operations in one commit */
 #define SULYOBAK_NUMBERS 32     /* cart numbers in one read or forward */
-#define SULYOBAK_RECORDS 512    /* operations in the log */
+#define SULYOBAK_RECORDS 512    /* operations in the log; retired ones make room (sulyobak_retire) */
+#define SULYOBAK_COMMITS 65535  /* transactions ever committed */
 #define SULYOBAK_WINDOW 32      /* transactions sent to a studio and not yet applied there */
 
 /*
@@ -124,10 +125,14 @@ extern "C" {
 typedef struct {
     uint32_t studios;             /* how many studios, 1 to 4 */
     uint32_t session_studios[16]; /* the studio at which each session is; 0 for a session that is not in use */
-    uint32_t used;                /* records of the log that hold operations, up to 512 */
-    uint32_t commits;             /* transactions committed */
+    uint32_t used;                /* records of the log that hold operations, up to 512; the others are free */
+    uint32_t commits;             /* transactions committed, retired ones included, up to 65,535 */
     uint32_t sent[4];             /* for each studio, how many transactions were sent to it */
     uint32_t applied[4];          /* for each studio, how many of these its copy has taken */
+    uint32_t retired;             /* transactions retired: the first ones, no longer in the log; the sixth copy is what they made */
+    uint32_t oldest;              /* first record of the oldest transaction that is in the log; 0 for none */
+    uint32_t free_first;          /* first record of the chain of free ones; 0 for none */
+    uint32_t free_last;           /* last record of that chain; 0 for none */
 } sulyobak_control;
 
 /* What a call answers. Words that have no meaning for the kind are 0. */
@@ -149,8 +154,8 @@ typedef struct {
 /* Kinds of answer. */
 #define SULYOBAK_REFUSED 0  /* value says why; nothing was done, no byte was changed (but a session's number, by a commit refused by 8) */
 #define SULYOBAK_DONE 1     /* done; value: the commit's number (of a preview the one it would have), sent, applied, the studio moved to, a
-                             * message's length, the number of a message that a van applied, or the commits of a load; 0 for setup and
-                             * layout */
+                             * message's length, the number of a message that a van applied, the commits of a load, or the count
+                             * retired; 0 for setup and layout */
 #define SULYOBAK_ANSWERED 2 /* the read or forward is answered; value: transactions that the copy had taken; found; carts are in output */
 #define SULYOBAK_WAITS 3    /* the read is kept in the session; value: the number that the studio's copy has to reach first */
 #define SULYOBAK_HELD 4     /* the van holds this message's transaction already; nothing was changed */
@@ -162,7 +167,8 @@ typedef struct {
 #define SULYOBAK_READ_WAITING 4     /* The session has a read waiting: collect it first. */
 #define SULYOBAK_BAD_SIZE 5         /* A commit takes 1 to 8 operations: 80 to 640 bytes, in steps of 80. */
 #define SULYOBAK_BAD_OPERATION 6    /* An operation is out of form, for example with a title that is empty or too long. */
-#define SULYOBAK_LOG_FULL 7         /* The log has no room for the operations. */
+#define SULYOBAK_LOG_FULL 7         /* The log has fewer free records than there are operations (retire makes room), or 65,535 transactions
+                                     * were committed. */
 #define SULYOBAK_WRONG_STATE 8      /* A new cart is there already, or the cart to retitle, re-cut or withdraw is empty. */
 #define SULYOBAK_ALL_SENT 9         /* Every committed transaction was sent to this studio. */
 #define SULYOBAK_WINDOW_FULL 10     /* 32 transactions were sent to this studio and not yet applied: refresh it first. */
@@ -177,17 +183,19 @@ typedef struct {
 #define SULYOBAK_MESSAGE_AHEAD 18   /* The message's number is above applied + 1: one before it has not been applied yet. */
 #define SULYOBAK_NOT_WHOLE 19       /* A copy is not what the log makes, or a logged operation met its cart in the wrong state: damaged, or
                                      * not saved together. */
+#define SULYOBAK_NOT_RETIRABLE 20   /* A studio has not applied the oldest transaction of the log yet, or the log has none. */
+#define SULYOBAK_RETIRED 21         /* van_write: the transaction is retired, and no longer in the log. */
 
 /* The version of the linked library: SULYOBAK_VERSION of the header that it was made with. */
 uint32_t sulyobak_version(void);
 
 /* Every call but sulyobak_van_receive is lent the three memories. They must be of the sizes above; the engine tests the lengths passed.
  * What a call does not change it takes as const.
- *   library, library_len     SULYOBAK_LIBRARY_SIZE bytes: changed by setup, commit, refresh
- *   log, log_len             SULYOBAK_LOG_SIZE bytes: changed by setup, commit
+ *   library, library_len     SULYOBAK_LIBRARY_SIZE bytes: changed by setup, commit, refresh, retire
+ *   log, log_len             SULYOBAK_LOG_SIZE bytes: changed by setup, commit, retire
  *   sessions, sessions_len   SULYOBAK_SESSIONS_SIZE bytes: changed by setup, commit, read, collect, forward */
 
-/* Sets up a fresh system: all memory zero, every cart empty, all counts zero.
+/* Sets up a fresh system: every cart empty, nothing waiting, every record of the log free, in order from 1 to 512, all counts zero.
  *   studios               how many studios, 1 to 4
  *   session_studios       16 bytes: the studio of each session, 1 to studios, or 0 for a session that is not in use
  *   session_studios_len   16
@@ -201,6 +209,8 @@ sulyobak_answer sulyobak_setup(uint8_t *library, size_t library_len, uint8_t *lo
  *   session                       whose commit this is, 1 to 16; the session's later reads wait until its studio has taken this commit
  *   operations, operations_len    1 to 8 operations of 80 bytes, one after the other
  * Answers done (value: the commit's number, from 1), or refused 1, 2, 3, 4, 5, 6, 16, 7, 8 (in this order).
+ * The operations take the first free records of the log: 7 tells that there are fewer than operations, or that 65,535 transactions were
+ * committed.
  * Refused by 8, the session has been told of the library at the head end: its number becomes control.commits (bytes 2 and 3 of its 80
  * bytes, no other byte, and control comes back as it was passed), so its later reads wait until its studio has taken everything that
  * was committed by then: none of them shows a copy from before the refusal. Every other refusal changes no byte. */
@@ -292,27 +302,39 @@ sulyobak_answer sulyobak_layout(const uint8_t *library, size_t library_len, cons
                                 const uint8_t *sessions, size_t sessions_len, sulyobak_control control);
 
 /* Loads a system that was saved: tests memory and control as they were read back. Changes no memory and hands control back as it was
- * passed. Beyond the layout it works out from the log what its transactions make, from 128 empty carts, one after the other: the head end's
- * copy must be what all of them make (control.commits), the copy of each studio, 1 to control.studios, what the first ones make, as many as
- * control.applied has for it, and each operation in the log must have met its cart in the right state when it acted. What a list of calls
+ * passed. Beyond the layout it works out from the log what its transactions make, from the sixth copy, one after the other: the head end's
+ * copy must be what all of them make (control.commits), the copy of each studio, 1 to control.studios, what the first ones make, up to the
+ * number that control.applied has for it, and each operation in the log must have met its cart in the right state when it acted. What a list of calls
  * leaves, from a fresh or a loaded system, is always accepted, so a restart is safe at any moment. From what is accepted every list of
- * calls is answered as from a fresh system: as by one single library, which took the log's transactions first.
+ * calls is answered as from a fresh system: as by one single library, which began as the sixth copy, with the retired transactions played, and
+ * took the log's transactions first.
  *   control   as it was saved
  * WHAT A TORN SAVE GIVES. A library, a log and a control of different moments are refused by 2 or 19 wherever a copy then differs from what
  * log and control make of it. What cannot be told, and is accepted: sessions of another moment (a number too low shows its session an
  * earlier copy: save them with the rest); in control, counts of sent and studios of sessions from another moment; a byte of the log that no
- * copy depends on any more, as a title that was replaced later; and a whole system of an earlier moment. Copies of studios above
+ * copy depends on any more, as a title that was replaced later; a sixth copy that is not what the retired transactions made, where all the
+ * other copies fit it; and a whole system of an earlier moment. Copies of studios above
  * control.studios, and sessions, are tested by the layout alone.
  * Answers done (value: control.commits), or refused 1, 2, 19. Nobody is obliged to load: the other calls go by the layout alone. */
 sulyobak_answer sulyobak_load(const uint8_t *library, size_t library_len, const uint8_t *log, size_t log_len,
                               const uint8_t *sessions, size_t sessions_len, sulyobak_control control);
 
+/* Retires the oldest transaction of the log, once every studio, 1 to control.studios, has applied it: it acts on the sixth copy, and its
+ * records join the end of the free ones, so that later commits find room. Commit numbers, the other copies and the sessions stay as they
+ * are. Call it at any moment, for example until it is refused by 20: a system whose studios keep up never fills its log, until 65,535
+ * transactions were committed. A retired transaction can no longer be written for a van (21).
+ *   control   as the last call handed it back
+ * Answers done (value: how many are retired by now, control.retired), or refused 1, 2, 20. */
+sulyobak_answer sulyobak_retire(uint8_t *library, size_t library_len, uint8_t *log, size_t log_len,
+                                const uint8_t *sessions, size_t sessions_len, sulyobak_control control);
+
 /* Writes the message of a committed transaction, for a van. Changes no memory and hands control back as it was passed. The same number
- * gives the same message for as long as the log stands, whatever is called in between: write it again where it was lost.
+ * gives the same message until the transaction is retired, whatever is called in between: write it again where it was lost. A van that lags
+ * behind what is retired can only be given a fresh start: keep transactions that a van may still need.
  *   control              as the last call handed it back
- *   number               of the transaction, 1 to control.commits; it need not have been sent to any studio
+ *   number               of the transaction, control.retired + 1 to control.commits; it need not have been sent to any studio
  *   output, output_len   where the message is written, from its start. Bytes after it are left alone.
- * Answers done (value: the message's length), or refused 1, 2, 17. */
+ * Answers done (value: the message's length), or refused 1, 2, 21, 17 (in this order). */
 sulyobak_answer sulyobak_van_write(const uint8_t *library, size_t library_len, const uint8_t *log, size_t log_len,
                                    const uint8_t *sessions, size_t sessions_len, sulyobak_control control, uint32_t number,
                                    uint8_t *output, size_t output_len);

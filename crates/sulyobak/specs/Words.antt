@@ -12,13 +12,13 @@ use Rattle.sulyobak.specs.declared.words.Words.{Words}
 
 -- the version of these words, and of the memory's layout: SULYOBAK_VERSION of include/sulyobak.h
 abbrev pub version : ℕ
-version = 8
+version = 9
 
 abbrev pub words : ℕ → ℕ → ℕ → Control → Words
 words kind value found c = record { kind = kind; value = value; found = found; control = c }
 
 -- 0 refused: the row's number; 1 done: the commit's number (of a preview the one that it would have), sent, applied, a message's
--- length, the studio moved to, or the commits of a load (0 for setup); 2 answered: the state, with found; 3 waits: the session's number
+-- length, the studio moved to, the commits of a load, or the count retired (0 for setup); 2 answered: the state, with found; 3 waits: the session's number
 abbrev pub wordsOf : Answer → Control → Words
 wordsOf (refused n) c = words 0 n 0 c
 wordsOf (done n) c = words 1 n 0 c

@@ -11,6 +11,7 @@ use replication::move_session;
 use replication::preview;
 use replication::read;
 use replication::refresh;
+use replication::retire;
 use replication::rows;
 use replication::send;
 use replication::setup;
@@ -19,7 +20,7 @@ use van::write;
 ghost use mathlib.Core.Path.{_≡_};
 ghost use mathlib.Core.List.{[]};
 ghost use Rattle.replication.specs.Memory.{memory};
-ghost use Rattle.replication.specs.Calls.{setup, commit, preview, send, refresh, read, collect, forward, write, move, load};
+ghost use Rattle.replication.specs.Calls.{setup, commit, preview, send, refresh, read, collect, forward, write, move, load, retire};
 ghost use Rattle.van.specs.Receive.{van, receive};
 ghost use Rattle.sulyobak.specs.Words.{left, leftBy, layoutWords, version};
 ghost use Rattle.sulyobak.specs.VanWords.{vanLeft, vanLeftBy};
@@ -207,6 +208,20 @@ pub extern "C" fn sulyobak_load(
         ≡ leftBy (load control (memory (now (library .entry)) (now (log .entry)) (now (sessions .entry)))) ⌝ }
 {
     Words::of_count(load::load(control, library, log, sessions))
+}
+
+// Retire: the oldest transaction of the log acts on the sixth copy, and its records become free.
+#[no_mangle]
+pub extern "C" fn sulyobak_retire(
+    library: &mut [u8],
+    log: &mut [u8],
+    sessions: &[u8],
+    control: Control,
+) -> Words
+    ensures { λ r. ⌜ left r (memory (now (library .exit)) (now (log .exit)) (now (sessions .entry))) []
+        ≡ leftBy (retire control (memory (now (library .entry)) (now (log .entry)) (now (sessions .entry)))) ⌝ }
+{
+    Words::of_count(retire::retire(control, library, log, sessions))
 }
 
 // The message of a committed transaction, for a van. Memory is only read.

@@ -19,7 +19,7 @@ pub struct Words {
 }
 
 impl Words {
-    pub const VERSION: u32 = 8;
+    pub const VERSION: u32 = 9;
 
     pub const REFUSED: u32 = 0;
 
@@ -53,7 +53,7 @@ impl Words {
         }
     }
 
-    // The answer of commit, preview, send, refresh, the van's writer, move and load.
+    // The answer of commit, preview, send, refresh, the van's writer, move, load and retire.
     pub fn of_count(result: CountResult) -> Words
         ensures { λ r. ⌜ r ≡ wordsOf (countAnswer (result .answer)) (result .control) ⌝ }
     {

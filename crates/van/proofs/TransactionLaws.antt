@@ -8,12 +8,11 @@ use native.Mathlib.Nat.{sub-zero}
 use lib.ListN.{length, take, drop, take-append-drop}
 use Rattle.carts.specs.Bytes.{zeros, over, every}
 use Rattle.carts.proofs.PartLaws.{length-part, over-whole}
-use Rattle.replication.specs.Memory.{recordAt}
-use Rattle.replication.specs.Log.{nextOperation, chain, handedIn}
+use Rattle.log.specs.Log.{recordAt, nextOperation, chain, handedIn}
 use Rattle.replication.specs.Message.{joined}
-use Rattle.replication.specs.Values.{usable}
-use Rattle.replication.proofs.Chains.{chain-cons, chain-zero}
-use Rattle.replication.proofs.TransactionLaws.{Usable, usable-here, usable-later}
+use Rattle.log.specs.Values.{usable}
+use Rattle.log.proofs.ChainLaws.{chain-cons, chain-zero}
+use Rattle.log.proofs.TransactionLaws.{Usable, usable-here, usable-later}
 use Rattle.replication.proofs.OutputLaws.{part-more}
 
 -- a record that is copied, and its links cleared

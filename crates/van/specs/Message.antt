@@ -8,7 +8,7 @@ use Rattle.carts.specs.Bytes.{byte, u16, within, all, every}
 use Rattle.carts.specs.Cart.{cartSize}
 use Rattle.carts.specs.Operation.{operationForm, operationsOf}
 use Rattle.carts.specs.Transaction.{Transaction}
-use Rattle.replication.specs.Memory.{mostOperations}
+use Rattle.log.specs.Log.{mostOperations}
 
 -- "transaction number (u16, ..), operation count (one byte, ..), a zero byte, then the operations": where they begin
 abbrev pub headSize : ℕ

@@ -2,7 +2,7 @@
 use carts::bytes;
 use carts::cart::Cart;
 use carts::operation;
-use replication::record::Record;
+use log::record::Record;
 ghost use mathlib.Core.Path.{_≡_};
 ghost use mathlib.Core.List.{[], _∷_, _++_};
 ghost use Prim.Native.Nat.{_<_, _≤_};

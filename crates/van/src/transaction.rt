@@ -1,8 +1,8 @@
 // A transaction of the log, for a message: how many operations it has, and its operations as they were handed in.
 use carts::bytes;
 use carts::cart::Cart;
-use replication::record;
-use replication::record::Record;
+use log::record;
+use log::record::Record;
 ghost use mathlib.Core.Path.{_≡_};
 ghost use mathlib.Core.Bool.{true};
 ghost use mathlib.Core.List.{map};
@@ -10,10 +10,9 @@ ghost use Prim.Native.Nat.{_*_};
 ghost use lib.ListN.{length};
 ghost use Rattle.carts.specs.Bytes.{every};
 ghost use Rattle.carts.specs.Cart.{cartSize};
-ghost use Rattle.replication.specs.Memory.{logSize, recordSize};
-ghost use Rattle.replication.specs.Log.{recordsOf, transactionAt, handedIn};
+ghost use Rattle.log.specs.Log.{logSize, recordSize, recordsOf, transactionAt, handedIn};
 ghost use Rattle.replication.specs.Message.{joined};
-ghost use Rattle.replication.specs.Values.{usable};
+ghost use Rattle.log.specs.Values.{usable};
 
 // How many operations the transaction whose first record is `first` has.
 pub fn count_operations(log: &[u8], first: u32) -> u32

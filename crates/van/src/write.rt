@@ -17,7 +17,7 @@ ghost use Rattle.replication.specs.Memory.{memory};
 ghost use Rattle.replication.specs.Rows.{row, stopped, memoryRows};
 ghost use Rattle.replication.specs.Calls.{after, write};
 
-// Rows 1 and 2, and of row 17 what it says of the number: the number of the row that stops the writer, or 0.
+// Rows 1, 2 and 21, and of row 17 what it says of the number: the number of the row that stops the writer, or 0.
 fn stopped_by_number(
     control: Control,
     library: &[u8],
@@ -26,11 +26,14 @@ fn stopped_by_number(
     number: u32,
 ) -> u32
     ensures { λ r. ⌜ r ≡ stopped (memoryRows control (memory (now (library .entry)) (now (log .entry)) (now (sessions .entry)))
-        ++ (row 17 (not (within 1 (control .commits) number)) ∷ [])) ⌝ }
+        ++ (row 21 (within 1 (control .retired) number) ∷ row 17 (not (within 1 (control .commits) number)) ∷ [])) ⌝ }
 {
     let by_memory = rows::stopped_by_memory(control, library, log, sessions);
     if by_memory != 0 {
         return by_memory;
+    }
+    if bytes::is_within(1, control.retired, number) {
+        return 21;
     }
     if !bytes::is_within(1, control.commits, number) {
         return 17;
@@ -38,7 +41,7 @@ fn stopped_by_number(
     0
 }
 
-// Document 02's writer (S-6): the message of transaction `number` at output's start. Memory is only read.
+// Document 02's writer (S-6, with row 21 of S-9): the message of transaction `number` at output's start. Memory is only read.
 pub fn write(
     control: Control,
     library: &[u8],

@@ -5,9 +5,9 @@ use Prim.Native.Nat.{_+_, _-_, _≤_}
 use native.Mathlib.Omega.{arith}
 use lib.ListN.{length}
 use Rattle.carts.specs.Bytes.{every}
-use Rattle.replication.specs.Log.{recordsOf}
-use Rattle.replication.specs.Values.{usable}
-use Rattle.replication.specs.declared.record.Record.{Record}
+use Rattle.log.specs.Log.{recordsOf}
+use Rattle.log.specs.Values.{usable}
+use Rattle.log.specs.declared.record.Record.{Record}
 use Rattle.van.proofs.TransactionLaws.{Left, counted, counted-all, next-length, here, later}
 use Rattle.van.proofs.transaction.count_operations.Statement.{statement}
 use Rattle.van.proofs.transaction.count_operations.Tie as tie

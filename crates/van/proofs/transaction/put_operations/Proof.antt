@@ -7,12 +7,12 @@ use native.Mathlib.Omega.{arith}
 use borrow.Rule.Slice.PartMut.{same-len-mid}
 use lib.ListN.{length}
 use Rattle.carts.specs.Bytes.{over, every}
-use Rattle.replication.specs.Log.{recordsOf, transactionAt, handedIn}
+use Rattle.log.specs.Log.{recordsOf, transactionAt, handedIn}
 use Rattle.replication.specs.Message.{joined}
-use Rattle.replication.specs.Values.{usable}
-use Rattle.replication.specs.declared.record.Record.{Record}
+use Rattle.log.specs.Values.{usable}
+use Rattle.log.specs.declared.record.Record.{Record}
 use Rattle.replication.proofs.LayoutLaws.{length-lent}
-use Rattle.replication.proofs.TransactionLaws.{Usable}
+use Rattle.log.proofs.TransactionLaws.{Usable}
 use Rattle.van.proofs.TransactionLaws.{Left, Texts, some-left, less-left, here, later, all-left, whole-parts, some-of, put-start, put-more, put-end}
 use Rattle.van.proofs.transaction.put_operations.Statement.{statement}
 use Rattle.van.proofs.transaction.put_operations.Tie as tie

@@ -26,7 +26,7 @@ sub-transaction-after : tie.Need-sub-transaction-after
 sub-transaction-after c = known c .low
 
 transaction-after-requires : tie.Need-transaction-after-requires
-transaction-after-requires c κs = let k = known c in (k .log, k .walks)
+transaction-after-requires c κs = let k = known c in ((k .log, k .kept), k .walks)
 
 count-operations-requires : tie.Need-count-operations-requires
 count-operations-requires c κs = let k = known (c .before) in (k .log, rw (c .transaction-after .ensures) (k .acts))
