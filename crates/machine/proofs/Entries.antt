@@ -8,7 +8,7 @@ use lib.ListN.{length, take}
 use borrow.Author.Tests.{ne-eqb}
 use Rattle.carts.specs.Bytes.{over}
 use Rattle.carts.specs.Operation.{operationsOf, meetsAll, actAll}
-use Rattle.carts.specs.Transaction.{Transaction, L, recordsUsed}
+use Rattle.carts.specs.Transaction.{Transaction, L}
 use Rattle.carts.proofs.PartLaws.{part-over}
 use Rattle.replication.specs.Answer.{Answer}
 use Rattle.replication.specs.Request.{Request, requestOf, isWaiting, needed, foundIn, shownFrom}
@@ -17,7 +17,7 @@ use Rattle.replication.proofs.RowLaws.{unless-case}
 use Rattle.replication.proofs.ShownLaws.{Askable, length-shown, request-askable}
 use Rattle.replication.proofs.DecideLaws.{KnownSession}
 use Rattle.replication.proofs.Accepted.{commit-passed, CommitTold, commit-told, read-passed, collect-passed, move-passed}
-use Rattle.machine.specs.Machine.{Machine, Step, step, refusal, commits, sessionOf, told, commit, preview, send, refresh, answerFrom, block, wait, reading, read, collect, forward, write, move, load, call, run}
+use Rattle.machine.specs.Machine.{Machine, Step, step, refusal, commits, sessionOf, told, commit, preview, send, refresh, answerFrom, block, wait, reading, read, collect, forward, write, move, load, retire, call, run}
 use Rattle.machine.specs.Library.{operations, Reply, request, at, refused8, shown, library, serve}
 use Rattle.machine.specs.OneCopy.{Event, event, Counted, counted, entry, commitReplies, readReplies, readEntry, Kind, writes, reads, collects, neither, kindOf, entryOf, waitedAfter, entries}
 use Rattle.machine.proofs.Sort.{length-snoc}
@@ -25,9 +25,9 @@ use Rattle.machine.proofs.History.{History, ended, made, seen}
 use Rattle.machine.proofs.Updates.{put}
 use Rattle.machine.proofs.Cases.{refused-case, block-case, stateFor}
 use Rattle.machine.proofs.Libraries.{length-L}
-use Rattle.machine.proofs.Sound.{Sound, applied-commits}
+use Rattle.machine.proofs.Sound.{Sound, applied-commits, retired-applied}
 use Rattle.machine.proofs.Kept.{number-after, keeps}
-use Rattle.machine.proofs.Follows.{Follows, appended, other-counts, shown-to, stored-for, left-so}
+use Rattle.machine.proofs.Follows.{Follows, appended, other-counts, more-retired, shown-to, stored-for, left-so}
 
 -- the events of a list on the plain machine, and with the commits that each call left
 abbrev pub plainEvent : Call.Turn Step → Event
@@ -72,7 +72,11 @@ module _ (H : List Call.Call) (go-on : Goes H) (m : Machine) (copies : ℕ → L
 
   -- no session has been shown more than is committed
   floor-known : (s : ℕ) → 1 ≤ s → floor s ≤ n
-  floor-known s u = omega (arith, f .floors s u, sound .number-le (s - 1))
+  floor-known s u = omega (arith, f .floors s u, sound .number-le (s - 1), sound .retired-commits)
+
+  -- nor more than its studio has applied, where the studio has reached its number: all that is retired it has applied
+  floor-reached : (s : ℕ) → KnownSession s (sessionOf m s .studio) → sessionOf m s .number ≤ stateFor m s → floor s ≤ stateFor m s
+  floor-reached s who u = omega (arith, f .floors s (who .low), retired-applied m sound s who)
 
   -- a commit refused with 8 is answered by the library of n commits, and its session has seen it
   when-told : (s : ℕ) (bytes : List ℕ) (k : ℕ) → k ≡ 8 → CommitTold s (sessionOf m s .studio) (L (m .log) n) bytes → Fits (writes s bytes) (refusal (told m s) [] k)
@@ -92,8 +96,8 @@ module _ (H : List Call.Call) (go-on : Goes H) (m : Machine) (copies : ℕ → L
   when-commit : (s : ℕ) (bytes : List ℕ) → Fits (writes s bytes) (commit m s bytes)
   unfolding commit entryOf commitReplies waitedAfter
   when-commit s bytes = unless-case (Fits (writes s bytes)) _ _ _ (λ k e. refused-case (Fits (writes s bytes)) m s _
-      (λ u. when-told s bytes _ u (commit-told _ _ _ _ _ _ (e ∙ u))) (when-stopped s bytes _)) (λ e kept.
-      let a = commit-passed s (sessionOf m s .studio) (sessionOf m s .waiting) (recordsUsed (m .log)) (L (m .log) n) bytes e in
+      (λ u. when-told s bytes _ u (commit-told _ _ _ _ _ _ _ (e ∙ u))) (when-stopped s bytes _)) (λ e kept.
+      let a = commit-passed s (sessionOf m s .studio) (sessionOf m s .waiting) _ n (L (m .log) n) bytes e in
       let ops : Transaction = operationsOf bytes in
       let copies′ : ℕ → List ℕ = put copies (n + 1) (actAll (copies n) ops) in
       let meets : meetsAll (copies n) ops ≡ true = rw (f .libraries n (omega arith)) (a .meets) in
@@ -155,7 +159,7 @@ module _ (H : List Call.Call) (go-on : Goes H) (m : Machine) (copies : ℕ → L
       let a = read-passed s (sessionOf m s .studio) (sessionOf m s .waiting) bytes (length out) e in
       let asked = request-askable bytes (a .form) in
       block-case m s _ _ out (Fits (reads s bytes))
-      (λ u. read-shown s (a .who) (stateFor m s) _ (omega (arith, f .floors s (a .who .low))) (applied-commits m sound _) (omega (arith, number-after (sessionOf m s .number) (stateFor m s))) bytes out asked)
+      (λ u. read-shown s (a .who) (stateFor m s) _ (floor-reached s (a .who) u) (applied-commits m sound _) (omega (arith, number-after (sessionOf m s .number) (stateFor m s))) bytes out asked)
       (λ u. later (a .who) asked))
 
   when-read : (s : ℕ) (bytes out : List ℕ) → Fits (reads s bytes) (read m s bytes out)
@@ -176,7 +180,7 @@ module _ (H : List Call.Call) (go-on : Goes H) (m : Machine) (copies : ℕ → L
       let asked : waited s ≡ sessionOf m s .waiting = f .waits-for s (a .who .low) (a .waits) in
       subst (λ (q : Request). Fits (collects s) (block m s q (wait m s q out) out)) asked
       (block-case m s _ _ out (Fits (collects s))
-      (λ u. collect-shown s (a .who) (stateFor m s) _ (omega (arith, f .floors s (a .who .low))) (applied-commits m sound _) (omega (arith, number-after (sessionOf m s .number) (stateFor m s))) out (rw asked (sound .askable (s - 1))))
+      (λ u. collect-shown s (a .who) (stateFor m s) _ (floor-reached s (a .who) u) (applied-commits m sound _) (omega (arith, number-after (sessionOf m s .number) (stateFor m s))) out (rw asked (sound .askable (s - 1))))
       (λ u. collect-waits s (a .who) out)))
 
   when-write : (j : ℕ) (out : List ℕ) → Fits neither (write m j out)
@@ -195,6 +199,11 @@ module _ (H : List Call.Call) (go-on : Goes H) (m : Machine) (copies : ℕ → L
   unfolding load entryOf waitedAfter
   when-load = unless-case (Fits neither) _ _ _ (λ k e kept. nothing-new _ _) (λ e kept. nothing-new _ _)
 
+  when-retire : Fits neither (retire m)
+  unfolding retire entryOf waitedAfter
+  when-retire = unless-case (Fits neither) _ _ _ (λ k e kept. nothing-new _ _) (λ e kept.
+      go-on _ n copies floor waited (i + 1) refl kept (more-retired m copies floor waited f _ (omega arith)))
+
   goes : (x : Call.Call) → Fits (kindOf x) (call m x)
   unfolding call kindOf
   goes (Call.commit s bytes) = when-commit s bytes
@@ -207,6 +216,7 @@ module _ (H : List Call.Call) (go-on : Goes H) (m : Machine) (copies : ℕ → L
   goes (Call.write j out) = when-write j out
   goes (Call.move s j) = when-move s j
   goes Call.load = when-load
+  goes Call.retire = when-retire
 
 pub all-goes : (H : List Call.Call) → Goes H
 unfolding entries plainCounted Call.run

@@ -13,11 +13,11 @@ use Rattle.replication.specs.Call as Call
 use Rattle.replication.specs.Calls.{numberAfter}
 use Rattle.replication.proofs.RowLaws.{unless-case}
 use Rattle.replication.proofs.ShownLaws.{Askable, request-askable}
-use Rattle.replication.proofs.Accepted.{commit-passed, send-passed, refresh-passed, read-passed}
-use Rattle.machine.specs.Machine.{Machine, Step, commits, sessionOf, commit, preview, send, refresh, answerFrom, block, wait, reading, read, collect, forward, write, move, load, call, afterCalls}
+use Rattle.replication.proofs.Accepted.{commit-passed, send-passed, refresh-passed, read-passed, move-passed, retire-passed}
+use Rattle.machine.specs.Machine.{Machine, Step, commits, kept, sessionOf, commit, preview, send, refresh, answerFrom, block, wait, reading, read, collect, forward, write, move, load, retire, call, afterCalls}
 use Rattle.machine.proofs.Sort.{length-snoc}
 use Rattle.machine.proofs.Cases.{refused-case, stateFor, block-case}
-use Rattle.machine.proofs.Sound.{Sound, applied-commits, with-session, with-transaction, with-sent, with-applied}
+use Rattle.machine.proofs.Sound.{Sound, applied-commits, with-session, with-transaction, with-sent, with-applied, with-retired}
 
 -- an answered read leaves the greater of the old number and the state that it showed
 pub number-after : (n k : ℕ) → numberAfter n k ≡ max n k
@@ -30,11 +30,11 @@ module _ (m : Machine) (f : Sound m) where
 
   keeps-commit : (s : ℕ) (bytes : List ℕ) → Keeps (commit m s bytes)
   unfolding commit
-  keeps-commit s bytes = unless-case Keeps _ _ _ (λ k e. refused-case Keeps m s _ (λ u. with-session m f s _ (omega (arith, f .number-le (s - 1), applied-commits m f (sessionOf m s .studio - 1))) (f .askable (s - 1))) (λ u. f)) (λ e.
-      let a = commit-passed s (sessionOf m s .studio) (sessionOf m s .waiting) (recordsUsed (m .log)) (L (m .log) (commits m)) bytes e in
+  keeps-commit s bytes = unless-case Keeps _ _ _ (λ k e. refused-case Keeps m s _ (λ u. with-session m f s _ (omega (arith, f .number-le (s - 1), applied-commits m f (sessionOf m s .studio - 1))) (f .placed (s - 1)) (f .askable (s - 1))) (λ u. f)) (λ e.
+      let a = commit-passed s (sessionOf m s .studio) (sessionOf m s .waiting) (recordsUsed (kept m)) (commits m) (L (m .log) (commits m)) bytes e in
       with-session _ (with-transaction m f (operationsOf bytes) (operations-of bytes (a .form))) s _
       (rw (length-snoc (m .log) (operationsOf bytes)) (omega (arith, f .number-le (s - 1))))
-      (f .askable (s - 1)))
+      (f .placed (s - 1)) (f .askable (s - 1)))
 
   keeps-preview : (s : ℕ) (bytes : List ℕ) → Keeps (preview m s bytes)
   unfolding preview
@@ -50,16 +50,16 @@ module _ (m : Machine) (f : Sound m) where
   unfolding refresh
   keeps-refresh i = unless-case Keeps _ _ _ (λ k e. f) (λ e.
       let a = refresh-passed (m .studios) i (nth (m .sent) i) (nth (m .applied) i) e in
-      with-applied m f i _ (omega (arith, f .applied-le (i - 1), a .behind)))
+      with-applied m f i _ (omega arith) (omega (arith, f .applied-le (i - 1), a .behind)))
 
   -- an answered read that leaves no number above commits, one that waits, and the choice between them
   keeps-answer : (state n : ℕ) (q : Request) (s : ℕ) (out : List ℕ) → n ≤ commits m → Keeps (answerFrom state n q m s out)
   unfolding answerFrom
-  keeps-answer state n q s out u = with-session m f s _ u tt
+  keeps-answer state n q s out u = with-session m f s _ u (f .placed (s - 1)) tt
 
   keeps-wait : (q : Request) (s : ℕ) (out : List ℕ) → Askable q → Keeps (wait m s q out)
   unfolding wait
-  keeps-wait q s out a = with-session m f s _ (f .number-le (s - 1)) a
+  keeps-wait q s out a = with-session m f s _ (f .number-le (s - 1)) (f .placed (s - 1)) a
 
   keeps-block : (s : ℕ) (q : Request) (behind : Step) (out : List ℕ) → Keeps behind → Keeps (block m s q behind out)
   keeps-block s q behind out h = block-case m s q behind out Keeps (λ u. keeps-answer _ _ q s out
@@ -88,11 +88,20 @@ module _ (m : Machine) (f : Sound m) where
 
   keeps-move : (s i : ℕ) → Keeps (move m s i)
   unfolding move
-  keeps-move s i = unless-case Keeps _ _ _ (λ k e. f) (λ e. with-session m f s _ (f .number-le (s - 1)) (f .askable (s - 1)))
+  keeps-move s i = unless-case Keeps _ _ _ (λ k e. f) (λ e.
+      let a = move-passed s (sessionOf m s .studio) (sessionOf m s .waiting) (m .studios) i e in
+      with-session m f s _ (f .number-le (s - 1)) (a .there .high) (f .askable (s - 1)))
 
   keeps-load : Keeps (load m)
   unfolding load
   keeps-load = unless-case Keeps _ _ _ (λ k e. f) (λ e. f)
+
+  -- no studio still needs what is retired
+  keeps-retire : Keeps (retire m)
+  unfolding retire
+  keeps-retire = unless-case Keeps _ _ _ (λ k e. f) (λ e.
+      let a = retire-passed _ _ _ _ e in
+      with-retired m f _ (λ i l g. omega (arith, a .unneeded i l g)) (omega (arith, a .some)))
 
   pub keeps : (x : Call.Call) → Sound (call m x .next)
   unfolding call
@@ -106,6 +115,7 @@ module _ (m : Machine) (f : Sound m) where
   keeps (Call.write n out) = keeps-write n out
   keeps (Call.move s i) = keeps-move s i
   keeps Call.load = keeps-load
+  keeps Call.retire = keeps-retire
 
 -- what every call keeps, every list keeps
 pub after-keeps : (P : Machine → Type 0) → ((m : Machine) → P m → (x : Call.Call) → P (call m x .next)) → (H : List Call.Call) (r : Step) → P (r .next) → P (afterCalls r H .next)

@@ -25,4 +25,7 @@ pub mod Taken
 pub mod Forwarded
 pub mod Moved
 pub mod Restarted
+pub mod Retired
+pub mod Needed
+pub mod NotFull
 pub mod Spaces

@@ -1,11 +1,11 @@
--- L(n): its length, and the library of a log that grows and of one transaction more.
-use Prim.Native.Nat.{ℕ, zero, suc, _+_, _≤_, _<_}
+-- L(n): its length, and the library of a part of a log, of a log that grows and of one transaction more.
+use Prim.Native.Nat.{ℕ, zero, suc, _+_, _-_, _≤_, _<_}
 use native.Mathlib.Omega.{arith}
 use native.Mathlib.Numerals.{add-one}
-use mathlib.Core.Path.{_≡_, refl, ap, _∙_}
+use mathlib.Core.Path.{_≡_, refl, sym, ap, _∙_}
 use mathlib.Core.List.{List, [], _∷_, _++_}
-use lib.ListN.{length, take, getD}
-use lib.Seq.{take-append-le, take-suc, getD-append-seam}
+use lib.ListN.{length, take, drop, getD, take-append-drop}
+use lib.Seq.{take-append-le, take-length, take-take, take-suc, getD-append-seam, take-nil}
 use Rattle.carts.specs.Bytes.{zeros}
 use Rattle.carts.specs.Cart.{copySize}
 use Rattle.carts.specs.Operation.{actAll}
@@ -25,15 +25,36 @@ pub length-L : (log : List Transaction) (n : ℕ) → All Operations log → len
 unfolding L
 length-L log n f = length-replay (zeros copySize) log n f (length-zeros copySize)
 
-replay-snoc : (copy : List ℕ) (log : List Transaction) (t : Transaction) → replay copy (log ++ (t ∷ [])) ≡ actAll (replay copy log) t
+replay-append : (copy : List ℕ) (log more : List Transaction) → replay copy (log ++ more) ≡ replay (replay copy log) more
 unfolding replay
-replay-snoc copy [] t = refl
-replay-snoc copy (x ∷ log) t = replay-snoc (actAll copy x) log t
+replay-append copy [] more = refl
+replay-append copy (x ∷ log) more = replay-append (actAll copy x) log more
+
+-- the first n transactions make the libraries up to L(n), and the others, acting on L(n), the last
+pub L-first : (log : List Transaction) (n k : ℕ) → k ≤ n → L (take n log) k ≡ L log k
+unfolding L
+L-first log n k u = ap (replay (zeros copySize)) (take-take k n log u)
+
+pub L-rest : (log : List Transaction) (n : ℕ) → replay (L log n) (drop n log) ≡ L log (length log)
+unfolding L
+L-rest log n = sym (replay-append (zeros copySize) (take n log) (drop n log)) ∙ ap (replay (zeros copySize)) (take-append-drop n log ∙ sym (take-length log))
+
+-- L(n) goes on from L(r)
+take-split : (r n : ℕ) (log : List Transaction) → r ≤ n → take n log ≡ take r log ++ take (n - r) (drop r log)
+take-split zero n log l = let e : n ≡ n - 0 = omega arith in ap (λ (k : ℕ). take k log) e
+take-split (suc r) zero log l = absurd (omega arith)
+take-split (suc r) (suc n) [] l = sym (take-nil (suc n - suc r))
+take-split (suc r) (suc n) (t ∷ log) l = let e : n - r ≡ suc n - suc r = omega arith in
+    ap (λ (z : List Transaction). t ∷ z) (take-split r n log (omega arith) ∙ ap (λ (k : ℕ). take r log ++ take k (drop r log)) e)
+
+pub L-from : (log : List Transaction) (r n : ℕ) → r ≤ n → L log n ≡ replay (L log r) (take (n - r) (drop r log))
+unfolding L
+L-from log r n l = ap (replay (zeros copySize)) (take-split r n log l) ∙ replay-append (zeros copySize) (take r log) (take (n - r) (drop r log))
 
 -- transaction n + 1 acts on L(n)
 pub L-next : (log : List Transaction) (n : ℕ) → n < length log → L log (n + 1) ≡ actAll (L log n) (getD log n [])
-unfolding L
-L-next log n u = rw (add-one n, take-suc log n []) (replay-snoc (zeros copySize) (take n log) (getD log n []))
+unfolding L replay
+L-next log n u = rw (add-one n, take-suc log n []) (replay-append (zeros copySize) (take n log) (getD log n [] ∷ []))
 
 -- a commit leaves what was there
 pub L-before : (log : List Transaction) (t : Transaction) (n : ℕ) → n ≤ length log → L (log ++ (t ∷ [])) n ≡ L log n

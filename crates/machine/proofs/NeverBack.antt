@@ -8,7 +8,7 @@ use Rattle.replication.specs.Answer.{answered}
 use Rattle.replication.specs.Request.{Request, nothing}
 use Rattle.replication.specs.Call as Call
 use Rattle.replication.proofs.RowLaws.{unless-case}
-use Rattle.machine.specs.Machine.{Machine, Session, session, Step, sessionOf, withSession, commit, preview, send, refresh, answerFrom, block, wait, read, collect, forward, write, move, load, call, afterCalls}
+use Rattle.machine.specs.Machine.{Machine, Session, session, Step, sessionOf, withSession, commit, preview, send, refresh, answerFrom, block, wait, read, collect, forward, write, move, load, retire, call, afterCalls}
 use Rattle.machine.specs.Asked.{asker}
 use Rattle.machine.proofs.Updates.{set-either}
 use Rattle.machine.proofs.Cases.{refused-case, stateFor, block-case}
@@ -44,7 +44,7 @@ module _ (m : Machine) (f : Sound m) (s v : ℕ) (h : Reached s v m) where
   wait-reaches t q out = renumbered t _ _ _ (omega arith)
 
   call-reaches : (x : Call.Call) → Still (call m x)
-  unfolding call preview send refresh read collect forward write move load answerFrom
+  unfolding call preview send refresh read collect forward write move load retire answerFrom
   call-reaches (Call.commit t bytes) = commit-reaches t bytes
   call-reaches (Call.preview t bytes) = h
   call-reaches (Call.send i) = unless-case Still _ _ _ (λ k e. h) (λ e. h)
@@ -55,6 +55,7 @@ module _ (m : Machine) (f : Sound m) (s v : ℕ) (h : Reached s v m) where
   call-reaches (Call.write n out) = unless-case Still _ _ _ (λ k e. h) (λ e. h)
   call-reaches (Call.move t i) = unless-case Still _ _ _ (λ k e. h) (λ e. renumbered t i _ _ (omega arith))
   call-reaches Call.load = unless-case Still _ _ _ (λ k e. h) (λ e. h)
+  call-reaches Call.retire = unless-case Still _ _ _ (λ k e. h) (λ e. h)
 
 -- a read, forward or collect of that session, after any list of calls, is answered from no earlier state
 pub later-shown : (r : Step) → Sound (r .next) → (s v : ℕ) → Reached s v (r .next) → (H : List Call.Call) (x : Call.Call) (k found : ℕ) → asker x ≡ s

@@ -3,7 +3,8 @@ use mathlib.Core.Path.{_≡_, refl}
 use mathlib.Core.List.{List, [], _∷_, _++_}
 use lib.ListN.{length}
 use Rattle.replication.specs.Answer.{done}
-use Rattle.machine.specs.Machine.{Step, sessionOf, load, afterCalls}
+use Rattle.replication.specs.Call.{Call}
+use Rattle.machine.specs.Machine.{Step, kept, sessionOf, load, afterCalls}
 use Rattle.machine.specs.OneCopy.{Entry, entries, loaded, ofSession}
 use Rattle.machine.specs.Table.{callsOf}
 use Rattle.machine.specs.Restarted.{morning, afternoon}
@@ -29,10 +30,16 @@ pub restarted : plainHistory again (callsOf afternoon) ≡ afternoon
 unfolding again computed morning afternoon
 restarted = refl
 
--- the entries of the second list: the two loaded transactions at the places 0 and 1, then the list's own
+-- the entries of a list that begins with what r left: the transactions that are not retired, then the list's own
+abbrev pub entriesAfter : Step → List Call → List Entry
+entriesAfter r H =
+    let m = r .next in
+    loaded 0 (m .retired) (kept m) ++ entries (length (kept m)) (λ s. sessionOf m s .waiting) (plainCounted r H)
+
+-- of the second list: the two loaded transactions have the places 0 and 1
 unfoldable pub afternoonEntries : List Entry
 unfolding again entriesOf loaded morning afternoon
-afternoonEntries = loaded 0 0 (again .next .log) ++ entries (length (again .next .log)) (λ s. sessionOf (again .next) s .waiting) (plainCounted again (callsOf afternoon))
+afternoonEntries = entriesAfter again (callsOf afternoon)
 
 -- in the order the read at 2 stands before the first loaded transaction, and the collect at 5 between the two
 pub restart-order : placesOf (sort rank afternoonEntries) ≡ 2 ∷ 0 ∷ 5 ∷ 1 ∷ 7 ∷ 9 ∷ []

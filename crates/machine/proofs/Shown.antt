@@ -19,7 +19,7 @@ use Rattle.replication.proofs.RowLaws.{unless-case}
 use Rattle.replication.proofs.ShownLaws.{Askable, request-askable}
 use Rattle.replication.proofs.DecideLaws.{KnownSession}
 use Rattle.replication.proofs.Accepted.{read-passed, collect-passed}
-use Rattle.machine.specs.Machine.{Machine, session, Step, step, commits, sessionOf, withSession, refusedCommit, commit, preview, send, refresh, answerFrom, block, wait, read, collect, forward, write, move, load, call}
+use Rattle.machine.specs.Machine.{Machine, session, Step, step, commits, sessionOf, withSession, refusedCommit, commit, preview, send, refresh, answerFrom, block, wait, read, collect, forward, write, move, load, retire, call}
 use Rattle.machine.specs.OneCopy.{kindOf}
 use Rattle.machine.specs.Asked.{askedBy, asked, askerBy, asker}
 use Rattle.machine.proofs.Cases.{stateFor, block-case}
@@ -76,7 +76,7 @@ module _ (m : Machine) (f : Sound m) (k found : ℕ) where
     waits-on = block-shows _ holds-back
 
   pub call-shows : (x : Call.Call) → Shows x (call m x)
-  unfolding call commit refusedCommit preview send refresh read collect forward write move load askedBy askerBy kindOf
+  unfolding call commit refusedCommit preview send refresh read collect forward write move load retire askedBy askerBy kindOf
   call-shows (Call.commit s bytes) = unless-case (Shows (Call.commit s bytes)) _ _ _ (λ n e. refuses) (λ e. counts)
   call-shows (Call.preview s bytes) = unless-case (λ (r : Step). r .answer ≡ answered k found → Shown m (Call.preview s bytes) k found (step (r .answer) m [])) _ _ _ (λ n e. refuses) (λ e. counts)
   call-shows (Call.send i) = unless-case (Shows (Call.send i)) _ _ _ (λ n e. refuses) (λ e. counts)
@@ -94,6 +94,7 @@ module _ (m : Machine) (f : Sound m) (k found : ℕ) where
   call-shows (Call.write n out) = unless-case (Shows (Call.write n out)) _ _ _ (λ n e. refuses) (λ e. counts)
   call-shows (Call.move s i) = unless-case (Shows (Call.move s i)) _ _ _ (λ n e. refuses) (λ e. counts)
   call-shows Call.load = unless-case (Shows Call.load) _ _ _ (λ n e. refuses) (λ e. counts)
+  call-shows Call.retire = unless-case (Shows Call.retire) _ _ _ (λ n e. refuses) (λ e. counts)
 
 -- place i of a read by numbers
 pub numbers-shown : (copy : List ℕ) (cs rest : List ℕ) (i : ℕ) → length copy ≡ copySize → every (within 1 128) cs ≡ true → i < length cs

@@ -93,14 +93,14 @@ stored-kept = refl
 
 -- a call appends no transaction that row 16 stops
 call-unspaced : (m : Machine) → All UnspacedOperations (m .log) → (x : Call) → All UnspacedOperations (call m x .next .log)
-call-unspaced m h = log-case (All UnspacedOperations) m h (λ s bytes a. all-snoc UnspacedOperations (m .log) (operationsOf bytes) h (a .unspaced))
+call-unspaced m h = log-case (λ n. All UnspacedOperations) m h (λ s bytes a. all-snoc UnspacedOperations (m .log) (operationsOf bytes) h (a .unspaced)) (λ a. h)
 
 pub after-unspaced : (H : List Call) (r : Step) → All UnspacedOperations (r .next .log) → All UnspacedOperations (afterCalls r H .next .log)
 after-unspaced = after-keeps (λ m. All UnspacedOperations (m .log)) call-unspaced
 
 pub setup-unspaced : (studios : ℕ) (bytes : List ℕ) → setup studios bytes .answer ≡ done 0 → All UnspacedOperations (setup studios bytes .next .log)
 unfolding fresh
-setup-unspaced studios bytes accepted = setup-case (λ (r : Step). All UnspacedOperations (r .next .log)) studios bytes accepted (λ _. tt)
+setup-unspaced studios bytes accepted = setup-case (λ (r : Step). All UnspacedOperations (r .next .log)) studios bytes accepted (λ _ _. tt)
 
 -- so no library has a cart with such a title
 replay-unspaced : (copy : List ℕ) (log : List Transaction) (n : ℕ) → length copy ≡ copySize → All Operations log → All UnspacedOperations log → UnspacedCopy copy → UnspacedCopy (replay copy (take n log))

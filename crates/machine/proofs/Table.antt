@@ -5,12 +5,13 @@ use lib.ListN.{take}
 use Rattle.carts.specs.Bytes.{zeros, u16, u32, u16s, u16Bytes, within, all, every, any, allZero, pairwise, parts}
 use Rattle.carts.specs.Cart.{cartAt, printable, titleForm, hasTitle, noTitle, hasAudio, noAudio, held}
 use Rattle.carts.specs.Operation.{operationFields, operationForm, spaced, operationsOf, made, retitled, recut, meetsCart, effect, actedOn, meets, act, meetsAll, actAll}
-use Rattle.carts.specs.Transaction.{replay, L, metFrom, metAll, recordsUsed}
+use Rattle.carts.specs.Transaction.{replay, L, metFrom, recordsUsed}
 use Rattle.carts.specs.Title.{shownByNumbers, foundByNumbers, sameLetter, titled, titledFrom, titledIn, theOne}
+use Rattle.log.specs.Log.{upFrom}
 use Rattle.replication.specs.Log.{noRoom}
 use Rattle.replication.specs.Message.{joined, messageOf}
 use Rattle.replication.specs.Request.{numbersIn, requestOf, numbersForm, requestFields, requestForm, isWaiting, needed, foundIn, shownFrom}
-use Rattle.replication.specs.Rows.{stopped, unless, setupRows, sessionRow, studioRow, sizeForm, commitRows, sendRows, refreshRows, readRows, collectRows, writeRows, moveRows, loadRows}
+use Rattle.replication.specs.Rows.{stopped, unless, setupRows, sessionRow, studioRow, sizeForm, commitRows, sendRows, refreshRows, readRows, collectRows, writeRows, moveRows, loadRows, retireRows}
 use Rattle.replication.specs.Calls.{numberAfter}
 use Rattle.machine.specs.Machine as Machine
 use Rattle.machine.specs.Machine.{afterCalls}
@@ -30,7 +31,7 @@ started = refl
 
 -- a list's history from that start; whoever unfolds this unfolds all that the plain machine computes a history with
 unfoldable pub computed : List Call → List Event
-unfolding zeros u16 u32 u16s u16Bytes within all every any allZero pairwise parts cartAt printable titleForm hasTitle noTitle hasAudio noAudio held operationFields operationForm spaced operationsOf made retitled recut meetsCart effect actedOn meets act meetsAll actAll shownByNumbers foundByNumbers sameLetter titled titledFrom titledIn theOne topHourA noRoom numbersIn requestOf numbersForm requestFields requestForm isWaiting needed foundIn shownFrom stopped unless setupRows sessionRow studioRow sizeForm commitRows sendRows refreshRows readRows collectRows writeRows moveRows loadRows joined messageOf numberAfter replay L metFrom metAll recordsUsed Machine.fresh Machine.setup Machine.refusedCommit Machine.commit Machine.preview Machine.send Machine.refresh Machine.answerFrom Machine.block Machine.wait Machine.read Machine.collect Machine.forward Machine.write Machine.move Machine.load Machine.call run final plainHistory start A buffer holding studioBytes payload new withdraw7 cartRead seven
+unfolding zeros u16 u32 u16s u16Bytes within all every any allZero pairwise parts cartAt printable titleForm hasTitle noTitle hasAudio noAudio held operationFields operationForm spaced operationsOf made retitled recut meetsCart effect actedOn meets act meetsAll actAll shownByNumbers foundByNumbers sameLetter titled titledFrom titledIn theOne topHourA noRoom numbersIn requestOf numbersForm requestFields requestForm isWaiting needed foundIn shownFrom stopped unless setupRows sessionRow studioRow sizeForm commitRows sendRows refreshRows readRows collectRows writeRows moveRows loadRows retireRows upFrom joined messageOf numberAfter replay L metFrom recordsUsed Machine.fresh Machine.setup Machine.refusedCommit Machine.commit Machine.preview Machine.send Machine.refresh Machine.answerFrom Machine.block Machine.wait Machine.read Machine.collect Machine.forward Machine.write Machine.move Machine.load Machine.retire Machine.call run final plainHistory start A buffer holding studioBytes payload new withdraw7 cartRead seven
 computed H = plainHistory start H
 
 pub table : Table (plainHistory start) (afterCalls start (callsOf cases2to10) .next .log)
@@ -68,6 +69,11 @@ lagging =
 pub applied-shown : plainHistory start (callsOf lagging) ≡ lagging
 unfolding computed lagging
 applied-shown = refl
+
+-- cases 2 to 10 retire nothing
+pub none-retired : afterCalls start (callsOf cases2to10) .next .retired ≡ 0
+unfolding computed cases2to10
+none-retired = refl
 
 -- previews: commit's number and refusals, also in a session whose read is waiting, and nothing of it is left
 unfoldable pub trying : List Event

@@ -24,7 +24,7 @@ use Rattle.replication.specs.Call as Call
 use Rattle.replication.proofs.RowLaws.{unless-case}
 use Rattle.replication.proofs.ShownLaws.{Askable}
 use Rattle.replication.proofs.Accepted.{commit-passed}
-use Rattle.machine.specs.Machine.{Machine, Step, commits, sessionOf, refusedCommit, commit, call}
+use Rattle.machine.specs.Machine.{Machine, Step, commits, kept, sessionOf, refusedCommit, commit, call}
 use Rattle.machine.specs.Asked.{asked}
 use Rattle.machine.specs.Titles.{titleIn, spares, Writes}
 use Rattle.machine.proofs.Sort.{All, all-getD, length-snoc}
@@ -88,7 +88,7 @@ pub commit-writes : (m : Machine) → Sound m → (s : ℕ) (bytes op : List ℕ
 unfolding commit refusedCommit
 commit-writes m f s bytes op n w accepted = unless-case (λ (r : Step). r .answer ≡ done n → Written op n (r .next .log)) _ _ _
     (λ k _ q. let z : _≡_ {A = ℕ} 0 1 = cc in absurd (omega arith))
-    (λ p q. let a = commit-passed s (sessionOf m s .studio) (sessionOf m s .waiting) (recordsUsed (m .log)) (L (m .log) (commits m)) bytes p in
+    (λ p q. let a = commit-passed s (sessionOf m s .studio) (sessionOf m s .waiting) (recordsUsed (kept m)) (commits m) (L (m .log) (commits m)) bytes p in
     let last : n ≡ commits m + 1 = cc in
     let t = title-written bytes op w (L (m .log) (commits m)) (length-L (m .log) (commits m) (f .formed)) (operations-of bytes (a .form)) (a .meets) in
     record {

@@ -19,7 +19,7 @@ use Rattle.machine.proofs.NeverBack.{Reached, later-shown}
 -- a commit refused with 8 leaves its session's number at commits
 told-reached : (m : Machine) → Sound m → (s : ℕ) (bytes : List ℕ) → commit m s bytes .answer ≡ refused 8 → Reached s (commits m) (commit m s bytes .next)
 unfolding commit
-told-reached m f s bytes = unless-case Tells _ _ _ (λ k e. refused-case Tells m s _ (λ u _. raised (commit-told _ _ _ _ _ _ (e ∙ u) .who)) (λ u a. absurd (u cc)))
+told-reached m f s bytes = unless-case Tells _ _ _ (λ k e. refused-case Tells m s _ (λ u _. raised (commit-told _ _ _ _ _ _ _ (e ∙ u) .who)) (λ u a. absurd (u cc)))
     (λ e a. let z : _≡_ {A = ℕ} 0 1 = cc in absurd (omega arith))
   where
     Tells : Step → Type 0

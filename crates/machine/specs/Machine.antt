@@ -2,7 +2,7 @@
 use mathlib.Core.Bool.{true, cond}
 use mathlib.Core.List.{List, [], _∷_, _++_, map}
 use Prim.Native.Nat.{ℕ, _+_, _-_}
-use lib.ListN.{length, getD, set}
+use lib.ListN.{length, drop, getD, set}
 use lib.Dec.{leb, eqb}
 use Rattle.carts.specs.Bytes.{zeros, over}
 use Rattle.carts.specs.Operation.{operationsOf}
@@ -11,7 +11,7 @@ use Rattle.replication.specs.Answer.{Answer, refused, done, waits, answered}
 use Rattle.replication.specs.Memory.{studioCount, sessionCount, nth}
 use Rattle.replication.specs.Request.{Request, nothing, requestOf, needed, foundIn, shownFrom}
 use Rattle.replication.specs.Message.{messageOf}
-use Rattle.replication.specs.Rows.{stopped, unless, setupRows, commitRows, sendRows, refreshRows, readRows, collectRows, writeRows, moveRows, loadRows}
+use Rattle.replication.specs.Rows.{stopped, unless, setupRows, commitRows, sendRows, refreshRows, readRows, collectRows, writeRows, moveRows, loadRows, retireRows}
 use Rattle.replication.specs.Call as Call
 use Rattle.replication.specs.Calls.{numberAfter}
 
@@ -24,36 +24,46 @@ pub record Session : Type 0 where
 abbrev pub session : ℕ → ℕ → Request → Session
 session i n q = record { studio = i; number = n; waiting = q }
 
--- "State: the list of committed transactions; per studio sent and applied; per session its number and its waiting read"
+-- "State: the list of committed transactions; per studio sent and applied; per session its number and its waiting read"; 02, S-9: "The list of committed
+-- transactions keeps retired ones", and the count of them
 pub record Machine : Type 0 where
   pub studios : ℕ
   pub log : List Transaction
+  pub retired : ℕ
   pub sent : List ℕ
   pub applied : List ℕ
   pub sessions : List Session
 
-abbrev pub machine : ℕ → List Transaction → List ℕ → List ℕ → List Session → Machine
-machine studios log sent applied sessions = record { studios = studios; log = log; sent = sent; applied = applied; sessions = sessions }
+abbrev pub machine : ℕ → List Transaction → ℕ → List ℕ → List ℕ → List Session → Machine
+machine studios log retired sent applied sessions = record { studios = studios; log = log; retired = retired; sent = sent; applied = applied; sessions = sessions }
 
--- commits; session s, counted from 1
+-- commits
 abbrev pub commits : Machine → ℕ
 commits m = length (m .log)
 
+-- the transactions that are not retired
+abbrev pub kept : Machine → List Transaction
+kept m = drop (m .retired) (m .log)
+
+-- session s, counted from 1
 abbrev pub sessionOf : Machine → ℕ → Session
 sessionOf m s = getD (m .sessions) (s - 1) (session 0 0 nothing)
 
--- the machine with another log, another sent or applied of studio i, another session s
+-- the machine with another log, another count retired, another sent or applied of studio i, another session s
 abbrev pub withLog : Machine → List Transaction → Machine
-withLog m log = machine (m .studios) log (m .sent) (m .applied) (m .sessions)
+withLog m log = machine (m .studios) log (m .retired) (m .sent) (m .applied) (m .sessions)
+
+abbrev pub withRetired : Machine → ℕ → Machine
+withRetired m n = machine (m .studios) (m .log) n (m .sent) (m .applied) (m .sessions)
 
 abbrev pub withSent : Machine → ℕ → ℕ → Machine
-withSent m i n = machine (m .studios) (m .log) (set (m .sent) (i - 1) n) (m .applied) (m .sessions)
+withSent m i n = machine (m .studios) (m .log) (m .retired) (set (m .sent) (i - 1) n) (m .applied) (m .sessions)
 
 abbrev pub withApplied : Machine → ℕ → ℕ → Machine
-withApplied m i n = machine (m .studios) (m .log) (m .sent) (set (m .applied) (i - 1) n) (m .sessions)
+withApplied m i n = machine (m .studios) (m .log) (m .retired) (m .sent) (set (m .applied) (i - 1) n) (m .sessions)
 
 abbrev pub withSession : Machine → ℕ → Session → Machine
-withSession m s x = machine (m .studios) (m .log) (m .sent) (m .applied) (set (m .sessions) (s - 1) x)
+withSession m s x = machine (m .studios) (m .log) (m .retired) (m .sent) (m .applied) (set (m .sessions) (s - 1) x)
 
 -- "the session's number becomes .."
 abbrev pub withNumber : Machine → ℕ → ℕ → Machine
@@ -73,7 +83,7 @@ refusal m out n = step (refused n) m out
 
 -- no transaction, counts zero
 unfoldable pub fresh : ℕ → List ℕ → Machine
-fresh studios bytes = machine studios [] (zeros studioCount) (zeros studioCount) (map (λ i. session i 0 nothing) bytes)
+fresh studios bytes = machine studios [] 0 (zeros studioCount) (zeros studioCount) (map (λ i. session i 0 nothing) bytes)
 
 -- "Setup (S and 16 studio bytes): .. counts zero. When refused it hands back an all-zero control": no studio, and every session unused.
 -- Row 1 is about memory, which the machine has not.
@@ -96,7 +106,7 @@ commit m s bytes =
     let x = sessionOf m s in
     let n = commits m + 1 in
     let left = withNumber (withLog m (m .log ++ (operationsOf bytes ∷ []))) s n in
-    unless (stopped (commitRows s (x .studio) (x .waiting) (recordsUsed (m .log)) (L (m .log) (commits m)) bytes)) (refusedCommit m s) (step (done n) left [])
+    unless (stopped (commitRows s (x .studio) (x .waiting) (recordsUsed (kept m)) (commits m) (L (m .log) (commits m)) bytes)) (refusedCommit m s) (step (done n) left [])
 
 -- 02, S-1, "a preview of commit": "For every input it returns the number or refusal that commit would. It changes nothing"
 unfoldable pub preview : Machine → ℕ → List ℕ → Step
@@ -158,7 +168,7 @@ forward m s request out = reading m s request (answerFrom (commits m) (commits m
 unfoldable pub write : Machine → ℕ → List ℕ → Step
 write m n out =
     let x = messageOf n (getD (m .log) (n - 1) []) in
-    unless (stopped (writeRows (commits m) n (length x) (length out))) (refusal m out) (step (done (length x)) m (over out 0 (length x) x))
+    unless (stopped (writeRows (m .retired) (commits m) n (length x) (length out))) (refusal m out) (step (done (length x)) m (over out 0 (length x) x))
 
 -- 02, S-7, "a call that moves a session to another studio, returns that studio"
 unfoldable pub move : Machine → ℕ → ℕ → Step
@@ -167,9 +177,15 @@ move m s i =
     unless (stopped (moveRows s (x .studio) (x .waiting) (m .studios) i)) (refusal m []) (step (done i) (withSession m s (session i (x .number) (x .waiting))) [])
 
 -- 02, S-8, "a load call that tests it and returns commits": the machine has no copies, so none differs from its L; "or a logged operation met its cart in the
--- wrong state"
+-- wrong state", of those that are not retired, from L(retired) on (S-9: "from the sixth")
 unfoldable pub load : Machine → Step
-load m = unless (stopped (loadRows true (m .log))) (refusal m []) (step (done (commits m)) m [])
+load m = unless (stopped (loadRows true (L (m .log) (m .retired)) (kept m))) (refusal m []) (step (done (commits m)) m [])
+
+-- 02, S-9, "a retire call, returning the count retired": the list of committed transactions stays as it is
+unfoldable pub retire : Machine → Step
+retire m =
+    let n = m .retired + 1 in
+    unless (stopped (retireRows (m .studios) (m .retired) (commits m) (m .applied))) (refusal m []) (step (done n) (withRetired m n) [])
 
 unfoldable pub call : Machine → Call.Call → Step
 call m (Call.commit s bytes) = commit m s bytes
@@ -182,6 +198,7 @@ call m (Call.forward s request out) = forward m s request out
 call m (Call.write n out) = write m n out
 call m (Call.move s i) = move m s i
 call m Call.load = load m
+call m Call.retire = retire m
 
 -- a list of calls, and what it leaves, as on bytes
 abbrev pub run : Step → List Call.Call → List (Call.Turn Step)

@@ -1,4 +1,4 @@
--- STATEMENT. Document 01, "The one-copy order", sentence by sentence, with document 02's S-3, S-4 and S-8: what demand 3 claims of the calls on bytes.
+-- STATEMENT. Document 01, "The one-copy order", sentence by sentence, with document 02's S-3, S-4, S-8 and S-9: what demand 3 claims of the calls on bytes.
 use mathlib.Core.Path.{_≡_}
 use mathlib.Core.Bool.{cond}
 use mathlib.Core.List.{List, [], _∷_, _++_, map, List·Permᴰ}
@@ -8,13 +8,13 @@ use lib.Dec.{eqb}
 use Rattle.carts.specs.Operation.{operationsOf}
 use Rattle.carts.specs.Transaction.{Transaction}
 use Rattle.replication.specs.Answer.{Answer, refused, done, waits, answered}
-use Rattle.replication.specs.Memory.{Memory, Arrays, sessionAt}
+use Rattle.replication.specs.Memory.{Memory, Arrays, sixth, copyAt, sessionAt}
 use Rattle.replication.specs.Log.{logged}
 use Rattle.replication.specs.Request.{Request, requestOf, isWaiting, needed}
-use Rattle.replication.specs.Call.{Call, Turn, commit, preview, send, refresh, read, collect, forward, write, move, load}
+use Rattle.replication.specs.Call.{Call, Turn, commit, preview, send, refresh, read, collect, forward, write, move, load, retire}
 use Rattle.replication.specs.Calls as Bytes
 use Rattle.replication.specs.declared.control.Control.{Control}
-use Rattle.machine.specs.Library.{Input, operations, request, Reply, number, at, refused8, shown, Library, emptyLibrary, play}
+use Rattle.machine.specs.Library.{Input, operations, request, Reply, number, at, refused8, shown, Library, library, emptyLibrary, play}
 
 -- a call of H, the answer that it gave, and its output "as they stood when its call ended"
 pub record Event : Type 0 where
@@ -82,7 +82,7 @@ pub data Kind : Type 0 where
 
 -- 02, S-1, of preview: "It has no entry in the one-copy order." S-4: "The single-library order has to cover lists that mix both reading calls": an answered
 -- forward is an entry as an answered read is. S-6: the van's writer answers neither a commit nor a read, so it has none; nor
--- has S-7's move, and "an entry's session is the one its call names", at whatever studio it was; nor S-8's load
+-- has S-7's move, and "an entry's session is the one its call names", at whatever studio it was; nor S-8's load, nor S-9's retire
 unfoldable pub kindOf : Call → Kind
 kindOf (commit s bytes) = writes s bytes
 kindOf (preview s bytes) = neither
@@ -94,6 +94,7 @@ kindOf (forward s bytes lent) = reads s bytes
 kindOf (write n lent) = neither
 kindOf (move s i) = neither
 kindOf load = neither
+kindOf retire = neither
 
 -- "An entry's session is the one its call names. A read answered by collect belongs to the collect: it stands where the collect stood in H,
 -- and its request is that of the session's latest read call before it that waited": `waited`
@@ -142,6 +143,10 @@ Demand3 =
     (H : List Call) (none : Request) →
     (order : List Entry) × OneCopy emptyLibrary (entries 0 (λ s. none) (countedHistory (Bytes.setup before studios bytes) H)) order
 
+-- 02, S-9: "Load works out its copies from the sixth, with which the single library then begins, the retired count already played"
+unfoldable pub loadedLibrary : Control → Memory → Library
+loadedLibrary c m = library (c .retired) (copyAt (m .library) sixth)
+
 -- 02, S-8: "the loaded log's transactions, which belong to no session, are the first commits of the one-copy order": from place i and count n on. Their session
 -- is 0, which no call can name (row 3).
 unfoldable pub loaded : ℕ → ℕ → List Transaction → List Entry
@@ -152,11 +157,11 @@ loaded i n (t ∷ ts) = entry i 0 (operations t) (number (n + 1)) ∷ loaded (i 
 unfoldable pub loadedRequest : Memory → Request → ℕ → Request
 loadedRequest m none s = let q = requestOf (sessionAt (m .sessions) s) in cond (isWaiting q) q none
 
--- the entries of a list H that begins with what r left: the log's transactions, then those of H, at the places after them
+-- the entries of a list H that begins with what r left: the log's transactions, numbered after the retired ones, then those of H, at the places after them
 unfoldable pub entriesFrom : Bytes.After → Request → List Call → List Entry
 entriesFrom r none H =
     let log = logged (r .control) (r .memory .log) in
-    loaded 0 0 log ++ entries (length log) (loadedRequest (r .memory) none) (countedHistory r H)
+    loaded 0 (r .control .retired) log ++ entries (length log) (loadedRequest (r .memory) none) (countedHistory r H)
 
 -- "Accepted memory": any control, with arrays as the code has them, and memory that load accepts
 pub record Loadable (c : Control) (m : Memory) : Type 0 where
@@ -164,9 +169,9 @@ pub record Loadable (c : Control) (m : Memory) : Type 0 where
   pub accepted : Bytes.load c m .answer ≡ done (c .commits)
 
 -- DEMAND 3 over loaded memory, S-8: "Accepted memory may then begin a list, and session order is owed over it as from a fresh system": any list H. The library begins
--- empty, with count 0, and is fed the log's transactions too.
+-- with the sixth copy and the count retired (S-9), and is fed the log's transactions too.
 abbrev pub Demand3Loaded : Type 0
 Demand3Loaded =
     (c : Control) (m : Memory) → Loadable c m →
     (H : List Call) (none : Request) →
-    (order : List Entry) × OneCopy emptyLibrary (entriesFrom (Bytes.load c m) none H) order
+    (order : List Entry) × OneCopy (loadedLibrary c m) (entriesFrom (Bytes.load c m) none H) order
