@@ -9,7 +9,7 @@ use native.Mathlib.Numerals.{add-one}
 use lib.ListN.{length}
 use lib.Dec.{leb}
 use borrow.Author.Tests.{leb-true, leb-false}
-use Rattle.replication.specs.Log.{upFrom}
+use Rattle.log.specs.Log.{upFrom}
 
 up-one : (r d : ℕ) → upFrom r (d + 1) ≡ r ∷ upFrom (r + 1) d
 unfolding upFrom

@@ -1,16 +1,19 @@
 -- STATEMENT. Document 02, S-6, sentence by sentence: what a van has after a list of messages from one log.
 use mathlib.Core.Path.{_≡_}
-use mathlib.Core.List.{List, _++_, map, List·Memᴰ, Sublistᴰ}
+use mathlib.Core.List.{List, [], _∷_, _++_, map, List·Memᴰ, Sublistᴰ}
 use Prim.Native.Nat.{ℕ, _+_, _≤_}
 use lib.ListN.{length, take}
+use Rattle.carts.specs.Operation.{operationsOf}
 use Rattle.carts.specs.Transaction.{Transaction, L}
-use Rattle.replication.specs.Answer.{done}
+use Rattle.replication.specs.Answer.{Answer, refused, done, waits, answered}
 use Rattle.replication.specs.Memory.{Memory}
-use Rattle.replication.specs.Log.{firstRecord, transactionsFrom, upFrom}
+use Rattle.replication.specs.Log.{logged}
+use Rattle.log.specs.Log.{upFrom}
 use Rattle.replication.specs.Call.{Call}
 use Rattle.replication.specs.Calls as Bytes
 use Rattle.replication.specs.Calls.{After, afterCalls}
 use Rattle.replication.specs.declared.control.Control.{Control}
+use Rattle.machine.specs.OneCopy.{Event, Kind, writes, reads, collects, neither, kindOf, history}
 use Rattle.van.specs.Receive.{Van, freshVan, receiveAll}
 
 -- a message: the number that the writer was given, and its bytes
@@ -18,9 +21,24 @@ pub record Message : Type 0 where
   pub number : ℕ
   pub bytes : List ℕ
 
--- the transactions in the log of a memory
-abbrev pub logOf : Control → Memory → List Transaction
-logOf c m = transactionsFrom (c .commits) (m .log) (firstRecord c)
+-- the transaction that a call adds to the log: that of an accepted commit
+unfoldable pub added : Kind → Answer → List Transaction
+added (writes s bytes) (done n) = operationsOf bytes ∷ []
+added (writes s bytes) (refused n) = []
+added (writes s bytes) (waits n) = []
+added (writes s bytes) (answered state found) = []
+added (reads s bytes) a = []
+added (collects s) a = []
+added neither a = []
+
+-- the transactions that a list of calls adds, by its answers
+unfoldable pub addedIn : List Event → List Transaction
+addedIn [] = []
+addedIn (e ∷ es) = added (kindOf (e .call)) (e .answer) ++ addedIn es
+
+-- "one log": the transactions of the log that H begins with, which r left, and those that H adds; 02, S-9: whether or not they are retired in H
+unfoldable pub committedIn : After → List Call → List Transaction
+committedIn r H = logged (r .control) (r .memory .log) ++ addedIn (history r H)
 
 -- the writer, given control and memory and some output, wrote the message: it returned its length, and the message stands at output's start
 pub record Written (c : Control) (m : Memory) (x : Message) : Type 0 where

@@ -4,6 +4,7 @@ pub mod Arrays
 pub mod Transactions
 -- the calls, one by one
 pub mod Represented
+pub mod Retire
 pub mod Sessions
 pub mod Send
 pub mod Refresh
@@ -11,6 +12,7 @@ pub mod Read
 pub mod Commit
 pub mod Preview
 pub mod Write
+pub mod Made
 pub mod Move
 pub mod Load
 pub mod Setup

@@ -15,7 +15,7 @@ use Rattle.carts.specs.Transaction.{Transaction}
 use Rattle.carts.proofs.TestLaws.{and-left, and-right}
 use Rattle.replication.specs.Memory.{Memory, Arrays, sessionAt, sequenceOf, studioOf}
 use Rattle.replication.specs.Request.{nothing, requestOf}
-use Rattle.replication.specs.Log.{firstRecord}
+use Rattle.replication.specs.Log.{logCount}
 use Rattle.replication.specs.Layout.{sessionFormOf, sessionForm, countsForm}
 use Rattle.replication.specs.Rows.{Row, stopped, moveRows, moveStop}
 use Rattle.replication.specs.Calls as Bytes
@@ -77,11 +77,12 @@ module _ (c : Control) (m : Memory) (s i : ℕ) where
         go (no n) = rw (at-old q l n, same-commits) (f .sessions .forms q l g)
 
     moved-formed : Formed c m → Formed (withStudio c s i) m
-    unfolding withStudio firstRecord countsForm
+    unfolding withStudio logCount countsForm
     moved-formed f = record {
       control = record {
         studios = f .control .studios;
         places = every-set (λ j. leb j (c .studios)) (c .«session_studios») (s - 1) i (f .control .places) (le-leb i (c .studios) (p .there .high));
+        few = f .control .few;
       };
       library = f .library;
       log = f .log;
@@ -92,17 +93,22 @@ module _ (c : Control) (m : Memory) (s i : ℕ) where
     -- it stands for the machine with the session at that studio
     moved-represents : (log : List Transaction) (sessions : List Session) → Represents c m (machineOf c log sessions)
         → Represents (withStudio c s i) m (machineOf c log (set sessions (s - 1) (session i (sequenceOf (sessionAt (m .sessions) s)) (requestOf (sessionAt (m .sessions) s)))))
-    unfolding withStudio firstRecord
+    unfolding withStudio logCount
     moved-represents log sessions h = record {
       form = of-layout _ _ (moved-arrays a) (moved-formed (formed c m (h .form)));
       studios = refl;
+      old = h .old;
+      many = h .many;
+      whole = h .whole;
       log = h .log;
+      retired = refl;
       sent = refl;
       applied = refl;
       count = length-set sessions (s - 1) _ ∙ h .count;
       sessions = λ q l g. there q l g (ℕ-discrete q s);
       primary = h .primary;
       replicas = h .replicas;
+      base = h .base;
     }
       where
         v : Session

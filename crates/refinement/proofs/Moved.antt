@@ -60,7 +60,7 @@ module _ (c : Control) (m : Memory) (k found : ℕ) where
         (λ _. answer-raises _ _ _ refl) (λ _. later)
 
   pub call-raises : (x : Call) → Raised (asker x) (Bytes.call c m x)
-  unfolding Bytes.callBy Bytes.commit Bytes.refusedCommit Bytes.preview Bytes.send Bytes.refresh Bytes.readBy Bytes.collectBy Bytes.forwardBy Bytes.write Bytes.move Bytes.load readStop collectStop askerBy kindOf
+  unfolding Bytes.callBy Bytes.commit Bytes.refusedCommit Bytes.preview Bytes.send Bytes.refresh Bytes.readBy Bytes.collectBy Bytes.forwardBy Bytes.write Bytes.move Bytes.load Bytes.retire readStop collectStop askerBy kindOf
   call-raises (Call.commit s bytes) = unless-case (Raised 0) _ _ _ (λ n e. refuses) (λ e. counts)
   call-raises (Call.preview s bytes) = unless-case (λ (r : After). Raised 0 (after (r .answer) c m [])) _ _ _ (λ n e. refuses) (λ e. counts)
   call-raises (Call.send i) = unless-case (Raised 0) _ _ _ (λ n e. refuses) (λ e. counts)
@@ -81,6 +81,7 @@ module _ (c : Control) (m : Memory) (k found : ℕ) where
   call-raises (Call.write n out) = unless-case (Raised 0) _ _ _ (λ n e. refuses) (λ e. counts)
   call-raises (Call.move s i) = unless-case (Raised 0) _ _ _ (λ n e. refuses) (λ e. counts)
   call-raises Call.load = unless-case (Raised 0) _ _ _ (λ n e. refuses) (λ e. counts)
+  call-raises Call.retire = unless-case (Raised 0) _ _ _ (λ n e. refuses) (λ e. counts)
 
 -- where the session is then
 there : (c : Control) (m : Memory) (s i : ℕ) → Arrays c → moveStop c m s i ≡ 0 → nth (withStudio c s i .applied) (studioOf (withStudio c s i) s) ≡ nth (c .applied) i

@@ -10,8 +10,9 @@ use Rattle.carts.specs.Bytes.{zeros}
 use Rattle.carts.specs.Transaction.{Transaction}
 use Rattle.carts.proofs.ZeroLaws.{length-zeros, part-zeros}
 use Rattle.replication.specs.Answer.{done}
-use Rattle.replication.specs.Memory.{Memory, sessionAt}
-use Rattle.replication.specs.Log.{transactionsFrom}
+use Rattle.replication.specs.Memory.{Memory, copyAt, sessionAt}
+use Rattle.log.specs.Log.{transactionsFrom}
+use Rattle.replication.specs.Log.{logCount}
 use Rattle.replication.specs.Request.{Request, nothing, requestOf, isWaiting}
 use Rattle.replication.specs.Rows.{setupStop}
 use Rattle.replication.specs.Call.{Call, run}
@@ -21,13 +22,14 @@ use Rattle.replication.specs.declared.control.Control.{Control}
 use Rattle.replication.proofs.RowLaws.{unless-case}
 use Rattle.machine.specs.Machine as Plain
 use Rattle.machine.specs.Machine.{Step, sessionOf}
-use Rattle.machine.specs.Library.{emptyLibrary}
-use Rattle.machine.specs.OneCopy.{Entry, OneCopy, entries, countedHistory, loaded, loadedRequest, entriesFrom, Loadable}
+use Rattle.machine.specs.Library.{library, emptyLibrary}
+use Rattle.machine.specs.OneCopy.{Entry, OneCopy, entries, countedHistory, loaded, loadedRequest, loadedLibrary, entriesFrom, Loadable}
 use Rattle.machine.proofs.Follows.{WaitsFor}
 use Rattle.machine.proofs.MetLaws.{Met, after-met}
 use Rattle.machine.proofs.OneCopyOrder.{one-copy-from}
 use Rattle.refinement.specs.Represents.{Simulates}
 use Rattle.refinement.proofs.Sessions.{session-of, empty-request}
+use Rattle.refinement.proofs.Represented.{kept-log}
 use Rattle.refinement.proofs.Simulation.{simulates-after, same-counted}
 use Rattle.refinement.proofs.Standing.{represents-sound, stands-load}
 
@@ -37,10 +39,10 @@ module _ (r : After) (p : Step) (there : Simulates r p) (met : Met (p .next)) wh
   unfolding loadedRequest
   loaded-waits none s l = rw (session-of _ _ _ (there .next) s) (λ w. rw w)
 
-  pub ordered-from : (H : List Call) (none : Request) → (order : List Entry) × OneCopy emptyLibrary (entriesFrom r none H) order
-  unfolding entriesFrom
+  pub ordered-from : (H : List Call) (none : Request) → (order : List Entry) × OneCopy (loadedLibrary (r .control) (r .memory)) (entriesFrom r none H) order
+  unfolding entriesFrom loadedLibrary
   ordered-from H none =
-      rw (same-counted H r p there, ← there .next .log)
+      rw (same-counted H r p there, ← kept-log _ _ _ (there .next), there .next .base, ← there .next .retired)
       (one-copy-from p (loadedRequest (r .memory) none) H (represents-sound _ _ _ (there .next)) met (loaded-waits none))
 
   -- a restart at any moment
@@ -49,7 +51,7 @@ module _ (r : After) (p : Step) (there : Simulates r p) (met : Met (p .next)) wh
       let last = simulates-after H r p there in
       record {
         arrays = last .next .form .arrays;
-        accepted = stands-load _ _ (record { state = _; represents = last .next; met = after-met H p met });
+        accepted = stands-load _ _ (record { state = _; represents = last .next; met = after-met H p (represents-sound _ _ _ (there .next)) met });
       }
 
 -- the entries of a list go by the control and memory that it begins with
@@ -73,10 +75,10 @@ fresh-request s = go (decLe s 16)
         let past : length (zeros 1280) ≤ 80 * (s - 1) = let n = length-zeros 1280 in omega arith in
         rw (drop-of-length-le (zeros 1280) past) no-bytes
 
-fresh-entries : (studios : ℕ) (bytes : List ℕ) (none : Request) (H : List Call) → let r = after (done 0) (controlOf studios bytes) freshMemory [] in
+fresh-entries : (studios : ℕ) (bytes : List ℕ) (none : Request) (H : List Call) → let r = after (done 0) (controlOf studios bytes 1 512) freshMemory [] in
     entriesFrom r none H ≡ entries 0 (λ s. none) (countedHistory r H)
-unfolding entriesFrom loaded loadedRequest controlOf freshMemory transactionsFrom isWaiting
-fresh-entries studios bytes none H = ap (λ (w : ℕ → Request). entries 0 w (countedHistory (after (done 0) (controlOf studios bytes) freshMemory []) H)) (fun-ext (λ s. rw (fresh-request s)))
+unfolding entriesFrom loaded loadedRequest controlOf freshMemory transactionsFrom logCount isWaiting
+fresh-entries studios bytes none H = ap (λ (w : ℕ → Request). entries 0 w (countedHistory (after (done 0) (controlOf studios bytes 1 512) freshMemory []) H)) (fun-ext (λ s. rw (fresh-request s)))
 
 pub setup-entries : (before : Memory) (studios : ℕ) (bytes : List ℕ) → Bytes.setup before studios bytes .answer ≡ done 0 → (none : Request) (H : List Call)
     → entriesFrom (Bytes.setup before studios bytes) none H ≡ entries 0 (λ s. none) (countedHistory (Bytes.setup before studios bytes) H)
@@ -84,3 +86,14 @@ unfolding Bytes.setup
 setup-entries before studios bytes accepted none H =
     unless-case (λ (r : After). r .answer ≡ done 0 → entriesFrom r none H ≡ entries 0 (λ s. none) (countedHistory r H)) (setupStop before studios bytes) _ _
     (λ k e a. let z : _≡_ {A = ℕ} 0 1 = cc in absurd (omega arith)) (λ e a. fresh-entries studios bytes none H) accepted
+
+-- and the library begins empty
+fresh-library : (studios : ℕ) (bytes : List ℕ) → loadedLibrary (controlOf studios bytes 1 512) freshMemory ≡ emptyLibrary
+unfolding loadedLibrary emptyLibrary controlOf freshMemory copyAt
+fresh-library studios bytes = ap (library 0) (part-zeros 61440 51200 10240 (omega arith))
+
+pub setup-library : (before : Memory) (studios : ℕ) (bytes : List ℕ) → Bytes.setup before studios bytes .answer ≡ done 0
+    → let r = Bytes.setup before studios bytes in loadedLibrary (r .control) (r .memory) ≡ emptyLibrary
+unfolding Bytes.setup
+setup-library before studios bytes = unless-case (λ (r : After). r .answer ≡ done 0 → loadedLibrary (r .control) (r .memory) ≡ emptyLibrary) (setupStop before studios bytes) _ _
+    (λ k e a. let z : _≡_ {A = ℕ} 0 1 = cc in absurd (omega arith)) (λ e a. fresh-library studios bytes)

@@ -13,23 +13,24 @@ use Rattle.carts.specs.Transaction.{Transaction, L}
 use Rattle.carts.proofs.OperationLaws.{Operations}
 use Rattle.carts.proofs.KeepLaws.{Copy, actAll-copy}
 use Rattle.replication.specs.Memory.{Memory, Arrays, copyAt, withCopy, nth, studioOf}
-use Rattle.replication.specs.Log.{firstRecord, transactionAt, transactionAfter, handedIn, transactionsFrom, walk}
+use Rattle.replication.specs.Log.{logCount, transactionAfter}
+use Rattle.log.specs.Log.{transactionAt, handedIn, transactionsFrom, walk}
 use Rattle.replication.specs.Layout.{replicaForm, sessionForm, countsForm}
 use Rattle.replication.specs.Rows.{Row, stopped, refreshRows, refreshStop}
 use Rattle.replication.specs.Calls as Bytes
 use Rattle.replication.specs.Calls.{After, withApplied, withLibrary}
 use Rattle.replication.specs.declared.control.Control.{Control}
 use Rattle.replication.proofs.CopyLaws.{length-copyAt, length-withCopy, copy-same, copy-other}
-use Rattle.replication.proofs.Placement.{transaction-operations}
+use Rattle.replication.proofs.LogLaws.{transaction-operations}
 use Rattle.replication.proofs.Formed.{Formed, Counts, counts-of, of-counts, few, studio-copy, copy-in-use}
 use Rattle.replication.proofs.RowLaws.{memory-passes, unless-case, unless-both}
 use Rattle.replication.proofs.Accepted.{RefreshAccepted, refresh-passed}
-use Rattle.replication.proofs.TransactionLaws.{length-transactions, transactions-at, handed-actAll}
+use Rattle.log.proofs.TransactionLaws.{length-transactions, transactions-at, handed-actAll}
 use Rattle.machine.specs.Machine as Plain
-use Rattle.machine.specs.Machine.{Session}
+use Rattle.machine.specs.Machine.{Session, Machine}
 use Rattle.machine.proofs.Libraries.{L-next}
 use Rattle.refinement.specs.Represents.{OfLayout, Represents, Simulates}
-use Rattle.refinement.proofs.Represented.{machineOf}
+use Rattle.refinement.proofs.Represented.{machineOf, log-length, log-at}
 use Rattle.refinement.proofs.Arrays.{arrays, formed, of-layout}
 
 -- the copy of studio i, and the library with it, after transaction applied + 1
@@ -48,6 +49,9 @@ module _ (c : Control) (m : Memory) (i : ℕ) where
     four : i ≤ 4
     four = let n = few c m f in let w = p .who in omega arith
 
+    five : i ≤ 5
+    five = let l = four in omega arith
+
     counted : Counts c i
     counted = counts-of c i (p .who .high) (f .counts i (p .who .low) four)
 
@@ -56,19 +60,19 @@ module _ (c : Control) (m : Memory) (i : ℕ) where
 
     operations : Operations (transactionAfter c (m .log) (nth (c .applied) i))
     unfolding transactionAfter
-    operations = transaction-operations c m f _ ready
+    operations = transaction-operations c m f _ (counted .kept) ready
 
     copy : Copy (refreshedCopy c m i)
     copy =
         actAll-copy _ _
-        (record { size = length-copyAt (m .library) (f .library .size) i four; form = copy-in-use (c .studios) i _ (p .who .high) (f .library .copies i four) })
+        (record { size = length-copyAt (m .library) (f .library .size) i five; form = copy-in-use (c .studios) i _ (p .who .high) (f .library .copies i four) })
         operations
 
     same-copy : copyAt (refreshed c m i .library) i ≡ refreshedCopy c m i
-    same-copy = copy-same (m .library) (f .library .size) i four _ (copy .size)
+    same-copy = copy-same (m .library) (f .library .size) i five _ (copy .size)
 
     other-copy : (j : ℕ) → j ≢ i → copyAt (refreshed c m i .library) j ≡ copyAt (m .library) j
-    other-copy = copy-other (m .library) (f .library .size) i four _ (copy .size)
+    other-copy = copy-other (m .library) (f .library .size) i five _ (copy .size)
 
     same-applied : nth (withApplied c i (nth (c .applied) i + 1) .applied) i ≡ nth (c .applied) i + 1
     unfolding withApplied
@@ -83,10 +87,10 @@ module _ (c : Control) (m : Memory) (i : ℕ) where
     refreshed-arrays = record { sessionStudios = a .sessionStudios; sent = a .sent; applied = length-set (c .applied) (i - 1) (nth (c .applied) i + 1) ∙ a .applied }
 
     refreshed-formed : Formed (withApplied c i (nth (c .applied) i + 1)) (refreshed c m i)
-    unfolding withApplied firstRecord sessionForm studioOf countsForm
+    unfolding withApplied logCount sessionForm studioOf countsForm
     refreshed-formed = record {
       control = f .control;
-      library = record { size = length-withCopy (m .library) (f .library .size) i four _ (copy .size); copies = λ j g. copies j g (ℕ-discrete j i) };
+      library = record { size = length-withCopy (m .library) (f .library .size) i five _ (copy .size); copies = λ j g. copies j g (ℕ-discrete j i); sixth = rw (other-copy 5 (let w = four in omega arith)) (f .library .sixth) };
       log = f .log;
       sessions = f .sessions;
       counts = λ j l g. count j l g (ℕ-discrete j i);
@@ -104,19 +108,20 @@ module _ (c : Control) (m : Memory) (i : ℕ) where
             let b : nth (c .sent) i - (nth (c .applied) i + 1) ≤ 32 = omega arith in
             rw e
             (of-counts (withApplied c i (nth (c .applied) i + 1)) i (p .who .high)
-            (record { order = rw same-applied o; known = k .known; near = rw same-applied b }))
+            (record { order = rw same-applied o; known = k .known; near = rw same-applied b; kept = rw same-applied (let l = k .kept in omega arith) }))
         count j l g (no ne) = rw (other-applied j l ne) (f .counts j l g)
 
     -- the copy stands for one transaction more
-    level : (log : List Transaction) → log ≡ transactionsFrom (c .commits) (m .log) (firstRecord c)
-        → copyAt (m .library) i ≡ L log (nth (c .applied) i) → refreshedCopy c m i ≡ L log (nth (c .applied) i + 1)
-    unfolding transactionAfter
-    level log e h =
+    level : (M : Machine) → Represents c m M → refreshedCopy c m i ≡ L (M .log) (nth (c .applied) i + 1)
+    unfolding transactionAfter logCount
+    level M h =
+        let log = M .log in
         let k = nth (c .applied) i in
-        let n : k < length log = rw (ap length e ∙ length-transactions (c .commits) (m .log) (firstRecord c)) ready in
-        let t : getD log k [] ≡ map handedIn (transactionAt (m .log) (walk k (m .log) (firstRecord c)))
-        = ap (λ (z : List Transaction). getD z k []) e ∙ transactions-at (c .commits) (m .log) (firstRecord c) k ready in
-        ap (λ (z : List ℕ). actAll z (transactionAfter c (m .log) k)) h
+        let l = counted .kept in
+        let n : k < length log = rw (log-length c m M h) ready in
+        let t : getD log k [] ≡ map handedIn (transactionAt (m .log) (walk (k - c .retired) (m .log) (c .oldest)))
+        = log-at c m M h k l ∙ transactions-at (c .commits - c .retired) (m .log) (c .oldest) (k - c .retired) (let r = ready in omega arith) in
+        ap (λ (z : List ℕ). actAll z (transactionAfter c (m .log) k)) (h .replicas i (p .who .low) four)
         ∙ sym (L-next log k n ∙ ap (actAll (L log k)) t ∙ handed-actAll (L log k) (transactionAfter c (m .log) k) (operations .sizes))
 
   pub refresh-keeps : OfLayout c m → OfLayout (Bytes.refresh c m i .control) (Bytes.refresh c m i .memory)
@@ -128,7 +133,7 @@ module _ (c : Control) (m : Memory) (i : ℕ) where
 
   pub refresh-simulates : (log : List Transaction) (sessions : List Session) → Represents c m (machineOf c log sessions)
       → Simulates (Bytes.refresh c m i) (Plain.refresh (machineOf c log sessions) i)
-  unfolding Bytes.refresh refreshStop Plain.refresh rows withApplied firstRecord studioOf
+  unfolding Bytes.refresh refreshStop Plain.refresh rows withApplied logCount studioOf
   refresh-simulates log sessions h =
       rw (memory-passes c m rows (h .form .lengths) (h .form .layout))
       (unless-both Simulates (stopped rows) _ _ _ _
@@ -143,15 +148,20 @@ module _ (c : Control) (m : Memory) (i : ℕ) where
       next a f p = record {
         form = of-layout _ _ (refreshed-arrays a f p) (refreshed-formed a f p);
         studios = refl;
+        old = h .old;
+        many = h .many;
+        whole = h .whole;
         log = h .log;
+        retired = refl;
         sent = refl;
         applied = refl;
         count = h .count;
         sessions = h .sessions;
         primary = other-copy a f p 0 (let w = p .who in omega arith) ∙ h .primary;
         replicas = λ j l g. replica j l g (ℕ-discrete j i);
+        base = other-copy a f p 5 (let w = four a f p in omega arith) ∙ h .base;
       }
         where
           replica : (j : ℕ) → 1 ≤ j → j ≤ 4 → Dec (j ≡ i) → copyAt (refreshed c m i .library) j ≡ L log (nth (withApplied c i n .applied) j)
-          replica j l g (yes e) = rw (e, same-applied a f p) (same-copy a f p ∙ level a f p log (h .log) (h .replicas i (p .who .low) (four a f p)))
+          replica j l g (yes e) = rw (e, same-applied a f p) (same-copy a f p ∙ level a f p (machineOf c log sessions) h)
           replica j l g (no ne) = rw (other-applied a f p j l ne) (other-copy a f p j ne ∙ h .replicas j l g)

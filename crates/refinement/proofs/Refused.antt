@@ -11,7 +11,7 @@ use Rattle.replication.specs.Answer.{Answer, refused, done, waits, answered}
 use Rattle.replication.specs.Memory.{Memory, sessionAt, sequenceOf, withNumber, nth, studioOf}
 use Rattle.replication.specs.Request.{Request}
 use Rattle.replication.specs.Rows.{unless}
-use Rattle.replication.specs.Call.{Call, commit, preview, send, refresh, read, collect, forward, write, move, load}
+use Rattle.replication.specs.Call.{Call, commit, preview, send, refresh, read, collect, forward, write, move, load, retire}
 use Rattle.replication.specs.Calls as Bytes
 use Rattle.replication.specs.Calls.{After, after, refusal, withSessions, controlOf, toldSessions}
 use Rattle.replication.specs.declared.control.Control.{Control}
@@ -57,7 +57,7 @@ module _ (n : ℕ) (c : Control) (m : Memory) where
 
   pub call-refused : (x : Call) → Bytes.call c m x .answer ≡ refused n → ((s : ℕ) (bytes : List ℕ) → x ≡ commit s bytes → n ≡ 8 → ⊥)
       → Bytes.call c m x ≡ refusal c m (lent x) n
-  unfolding Bytes.callBy Bytes.preview Bytes.send Bytes.refresh Bytes.readBy Bytes.collectBy Bytes.forwardBy Bytes.write Bytes.move Bytes.load Bytes.answerFrom lent
+  unfolding Bytes.callBy Bytes.preview Bytes.send Bytes.refresh Bytes.readBy Bytes.collectBy Bytes.forwardBy Bytes.write Bytes.move Bytes.load Bytes.retire Bytes.answerFrom lent
   call-refused (commit s bytes) a u = commit-refused s bytes a ∙ other-row s (u s bytes refl)
   call-refused (preview s bytes) a u = ap (λ (a : Answer). after a c m []) a
   call-refused (send i) a u = as-it-was [] _ _ (not-done n) a
@@ -68,6 +68,7 @@ module _ (n : ℕ) (c : Control) (m : Memory) where
   call-refused (write j out) a u = as-it-was out _ _ (not-done n) a
   call-refused (move s i) a u = as-it-was [] _ _ (not-done n) a
   call-refused load a u = as-it-was [] _ _ (not-done n) a
+  call-refused retire a u = as-it-was [] _ _ (not-done n) a
 
 -- by row 8
 pub told-leaves : (c : Control) (m : Memory) (s : ℕ) (bytes : List ℕ) → Bytes.commit c m s bytes .answer ≡ refused 8
@@ -76,6 +77,6 @@ unfolding Bytes.refusedCommit toldSessions
 told-leaves c m s bytes a = commit-refused 8 c m s bytes a
 
 pub setup-refused : (n : ℕ) (before : Memory) (studios : ℕ) (bytes : List ℕ) → Bytes.setup before studios bytes .answer ≡ refused n
-    → Bytes.setup before studios bytes ≡ refusal (controlOf 0 (zeros 16)) before [] n
+    → Bytes.setup before studios bytes ≡ refusal (controlOf 0 (zeros 16) 0 0) before [] n
 unfolding Bytes.setup
-setup-refused n before studios bytes = as-it-was n (controlOf 0 (zeros 16)) before [] _ _ (not-done n)
+setup-refused n before studios bytes = as-it-was n (controlOf 0 (zeros 16) 0 0) before [] _ _ (not-done n)

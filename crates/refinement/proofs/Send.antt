@@ -9,7 +9,7 @@ use lib.ListN.{getD, set, length-set}
 use lib.Seq.{getD-set-same, getD-set-other}
 use Rattle.carts.specs.Transaction.{Transaction}
 use Rattle.replication.specs.Memory.{Memory, Arrays, nth, studioOf}
-use Rattle.replication.specs.Log.{firstRecord}
+use Rattle.replication.specs.Log.{logCount}
 use Rattle.replication.specs.Layout.{sessionForm, countsForm}
 use Rattle.replication.specs.Rows.{Row, stopped, sendRows, sendStop}
 use Rattle.replication.specs.Calls as Bytes
@@ -35,7 +35,7 @@ module _ (c : Control) (m : Memory) (i : ℕ) where
 
   sent-formed : Arrays c → Formed c m → SendAccepted (c .studios) i (nth (c .sent) i) (nth (c .applied) i) (c .commits)
       → Formed (withSent c i (nth (c .sent) i + 1)) m
-  unfolding withSent firstRecord sessionForm studioOf countsForm
+  unfolding withSent logCount sessionForm studioOf countsForm
   sent-formed a f p = record {
     control = f .control;
     library = f .library;
@@ -56,7 +56,7 @@ module _ (c : Control) (m : Memory) (i : ℕ) where
           let o : nth (c .applied) i ≤ n = omega arith in
           let b : n ≤ c .commits = let x = p .unsent in omega arith in
           let d : n - nth (c .applied) i ≤ 32 = let x = p .near in omega arith in
-          rw e (of-counts (withSent c i n) i (w .high) (record { order = rw same o; known = rw same b; near = rw same d }))
+          rw e (of-counts (withSent c i n) i (w .high) (record { order = rw same o; known = rw same b; near = rw same d; kept = k .kept }))
       count j l g (no ne) =
           let w = p .who in
           let other : getD (set (c .sent) (i - 1) n) (j - 1) 0 ≡ getD (c .sent) (j - 1) 0 = getD-set-other (c .sent) (i - 1) (j - 1) n 0 (omega arith) in
@@ -71,7 +71,7 @@ module _ (c : Control) (m : Memory) (i : ℕ) where
 
   pub send-simulates : (log : List Transaction) (sessions : List Session) → Represents c m (machineOf c log sessions)
       → Simulates (Bytes.send c m i) (Plain.send (machineOf c log sessions) i)
-  unfolding Bytes.send sendStop Plain.send rows withSent firstRecord studioOf
+  unfolding Bytes.send sendStop Plain.send rows withSent logCount studioOf
   send-simulates log sessions h =
       rw (memory-passes c m rows (h .form .lengths) (h .form .layout), log-length c m _ h)
       (unless-both Simulates (stopped rows) _ _ _ _
@@ -82,12 +82,17 @@ module _ (c : Control) (m : Memory) (i : ℕ) where
         next = record {
           form = of-layout _ _ (sent-arrays (arrays c m (h .form))) (sent-formed (arrays c m (h .form)) (formed c m (h .form)) (send-passed _ _ _ _ _ e));
           studios = refl;
+          old = h .old;
+          many = h .many;
+          whole = h .whole;
           log = h .log;
+          retired = refl;
           sent = refl;
           applied = refl;
           count = h .count;
           sessions = h .sessions;
           primary = h .primary;
           replicas = h .replicas;
+          base = h .base;
         };
       }))

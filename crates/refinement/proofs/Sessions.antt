@@ -87,9 +87,9 @@ module _ (c : Control) (s : ℕ) (used : studioOf c s ≢ 0) (x : List ℕ) wher
       (all-cons _ _ (le-leb _ _ l) (all-cons _ _ (b .zero) (all-cons _ _ (b .form) all-nil)))
 
 -- one commit more
-pub session-more : (c : Control) (k s : ℕ) (x : List ℕ) → sessionForm c s x ≡ true → sessionForm (committed c k) s x ≡ true
+pub session-more : (c : Control) (k next s : ℕ) (x : List ℕ) → sessionForm c s x ≡ true → sessionForm (committed c k next) s x ≡ true
 unfolding sessionForm sessionFormOf committed studioOf tests
-session-more c k s x f = go (eqb (studioOf c s) 0) refl
+session-more c k next s x f = go (eqb (studioOf c s) 0) refl
   where
     go : (b : Bool) → eqb (studioOf c s) 0 ≡ b → cond (eqb (studioOf c s) 0) (allZero x) (all (set (tests c x) 0 (leb (sequenceOf x) (c .commits + 1)))) ≡ true
     go true e = rw e (rw e at f)
@@ -235,11 +235,16 @@ module _ (c : Control) (m : Memory) (s : ℕ) (w : KnownSession s (studioOf c s)
   session-represents log sessions h = record {
     form = of-layout _ _ a session-formed;
     studios = refl;
+    old = h .old;
+    many = h .many;
+    whole = h .whole;
     log = h .log;
+    retired = refl;
     sent = refl;
     applied = refl;
     count = length-set sessions (s - 1) _ ∙ h .count;
     sessions = sessions-shown c (m .sessions) (f .sessions .size) s w n x b sessions _ (h .count) (h .sessions);
     primary = h .primary;
     replicas = h .replicas;
+    base = h .base;
   }

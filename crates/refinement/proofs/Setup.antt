@@ -1,25 +1,27 @@
--- Setup: it does what the plain machine's setup does. That fresh memory is zeros is used here only.
+-- Setup: it does what the plain machine's setup does. What fresh memory is is used here only.
 use mathlib.Core.Path.{_≡_, refl, sym, ap, _∙_}
 use mathlib.Core.Bool.{Bool, true, false, cond, not}
-use mathlib.Core.List.{List}
-use Prim.Native.Nat.{ℕ, zero, _*_, _-_, _≤_}
+use mathlib.Core.List.{List, []}
+use Prim.Native.Nat.{ℕ, _*_, _-_, _≤_}
 use native.Mathlib.Omega.{arith}
 use borrow.Author.Tests.{le-leb}
 use lib.Dec.{leb, eqb}
 use lib.ListN.{length-map, List·getD-map}
-use Rattle.carts.specs.Bytes.{zeros}
+use Rattle.carts.specs.Bytes.{zeros, every}
 use Rattle.carts.proofs.TestLaws.{by-cond, all-cons, all-nil}
-use Rattle.carts.proofs.ZeroLaws.{length-zeros, zero-zeros, part-zeros, zeros-at, zero-drop}
+use Rattle.carts.proofs.ZeroLaws.{length-zeros, zero-zeros, part-zeros, zeros-at}
 use Rattle.carts.proofs.KeepLaws.{copy-empty}
 use Rattle.replication.specs.Answer.{done}
 use Rattle.replication.specs.Memory.{Memory, Arrays, lengthsForm, copyAt, sessionAt, sequenceOf, studioOf}
-use Rattle.replication.specs.Log.{transactionsFrom, logRecords, transactionsForm, firstRecord, upFrom, freshLog}
+use Rattle.replication.specs.Log.{logCount}
+use Rattle.log.specs.Log.{transactionsFrom}
 use Rattle.replication.specs.Request.{nothing, requestOf}
-use Rattle.replication.specs.Layout.{replicaForm, sessionForm, sessionFormOf, countsForm}
+use Rattle.replication.specs.Layout.{replicaForm, sixthForm, sessionForm, sessionFormOf, countsForm}
 use Rattle.replication.specs.Rows.{stopped, lengthsRow, setupRows, setupStop}
 use Rattle.replication.specs.Calls as Bytes
 use Rattle.replication.specs.Calls.{After, controlOf, freshMemory}
 use Rattle.replication.specs.declared.control.Control.{Control}
+use Rattle.log.proofs.UpFromLaws.{fresh-size, fresh-chains}
 use Rattle.replication.proofs.Formed.{Formed}
 use Rattle.replication.proofs.RowLaws.{row-passes, unless-case, unless-both}
 use Rattle.replication.proofs.Accepted.{SetupAccepted, setup-passed}
@@ -31,9 +33,9 @@ use Rattle.refinement.proofs.Sessions.{empty-bytes, empty-request, empt
 use Rattle.refinement.proofs.Arrays.{of-layout}
 
 -- copies, carts and sessions of zeros
-zeros-copyAt : (i : ℕ) → i ≤ 4 → copyAt (zeros 51200) i ≡ zeros 10240
+zeros-copyAt : (i : ℕ) → i ≤ 5 → copyAt (zeros 61440) i ≡ zeros 10240
 unfolding copyAt
-zeros-copyAt i l = part-zeros 51200 (10240 * i) 10240 (omega arith)
+zeros-copyAt i l = part-zeros 61440 (10240 * i) 10240 (omega arith)
 
 zeros-sessionAt : (s : ℕ) → 1 ≤ s → s ≤ 16 → sessionAt (zeros 1280) s ≡ zeros 80
 unfolding sessionAt
@@ -49,11 +51,11 @@ zeros-replica studios i = both (leb i studios) _ _ (copy-empty (zeros 10240) (ze
 zeros-shown : (i : ℕ) → session i (sequenceOf (zeros 80)) (requestOf (zeros 80)) ≡ session i 0 nothing
 zeros-shown i = rw (empty-sequence, empty-request)
 
-zeros-counts : (studios : ℕ) (bytes : List ℕ) (i : ℕ) → countsForm (controlOf studios bytes) i ≡ true
+zeros-counts : (studios : ℕ) (bytes : List ℕ) (i : ℕ) → countsForm (controlOf studios bytes 1 512) i ≡ true
 unfolding countsForm controlOf
 zeros-counts studios bytes i =
     rw (zeros-at 4 (i - 1))
-    (both (leb i studios) _ _ (all-cons _ _ refl (all-cons _ _ refl (all-cons _ _ refl all-nil))) (all-cons _ _ refl (all-cons _ _ refl all-nil)))
+    (both (leb i studios) _ _ (all-cons _ _ refl (all-cons _ _ refl (all-cons _ _ refl (all-cons _ _ refl all-nil)))) (all-cons _ _ refl (all-cons _ _ refl all-nil)))
 
 zeros-session : (c : Control) (s : ℕ) → sessionForm c s (zeros 80) ≡ true
 unfolding sessionForm sessionFormOf
@@ -64,43 +66,41 @@ zeros-session c s =
     sequence = rw empty-sequence (le-leb 0 (c .commits) (omega arith))
 
 module _ (before : Memory) (studios : ℕ) (bytes : List ℕ) (p : SetupAccepted before studios bytes) where
-  fresh-arrays : Arrays (controlOf studios bytes)
+  fresh-arrays : Arrays (controlOf studios bytes 1 512)
   unfolding controlOf
   fresh-arrays = record { sessionStudios = p .count; sent = length-zeros 4; applied = length-zeros 4 }
 
-  fresh-formed : Formed (controlOf studios bytes) freshMemory
-  unfolding controlOf freshMemory freshLog firstRecord transactionsForm logRecords upFrom
+  fresh-formed : Formed (controlOf studios bytes 1 512) freshMemory
+  unfolding controlOf freshMemory logCount sixthForm
   fresh-formed = record {
-    control = record { studios = p .few; places = p .places };
-    library = record { size = length-zeros 51200; copies = copies };
-    log = record {
-      size = length-zeros 40960;
-      used = omega arith;
-      records = λ r a b. let z : ⊥ = omega arith in absurd z;
-      free = zero-drop (80 * 0) (zeros 40960) (zero-zeros 40960);
-      form = refl;
-      upward = refl;
-    };
+    control = record { studios = p .few; places = p .places; few = omega arith };
+    library = record { size = length-zeros 61440; copies = copies; sixth = ap (sixthForm 0) (zeros-copyAt 5 (omega arith)) ∙ zero-zeros 10240 };
+    log = record { size = fresh-size; chains = fresh-chains };
     sessions = record { size = length-zeros 1280; forms = λ s a b. ap (sessionForm _ s) (zeros-sessionAt s a b) ∙ zeros-session _ s };
     counts = λ i a b. zeros-counts studios bytes i;
   }
     where
-      copies : (i : ℕ) → i ≤ 4 → replicaForm studios i (copyAt (zeros 51200) i) ≡ true
-      copies i l = ap (replicaForm studios i) (zeros-copyAt i l) ∙ zeros-replica studios i
+      copies : (i : ℕ) → i ≤ 4 → replicaForm studios i (copyAt (zeros 61440) i) ≡ true
+      copies i l = ap (replicaForm studios i) (zeros-copyAt i (omega arith)) ∙ zeros-replica studios i
 
-  fresh-represents : Represents (controlOf studios bytes) freshMemory (fresh studios bytes)
-  unfolding controlOf freshMemory freshLog fresh transactionsFrom studioOf
+  fresh-represents : Represents (controlOf studios bytes 1 512) freshMemory (fresh studios bytes)
+  unfolding controlOf freshMemory fresh transactionsFrom logCount studioOf every
   fresh-represents = record {
     form = of-layout _ _ fresh-arrays fresh-formed;
     studios = refl;
+    old = [];
+    many = refl;
+    whole = refl;
     log = refl;
+    retired = refl;
     sent = refl;
     applied = refl;
     count = length-map bytes (λ i. session i 0 nothing) ∙ p .count;
     sessions = λ s a b. List·getD-map (λ i. session i 0 nothing) bytes (s - 1) 0 ∙ sym (zeros-shown _)
-        ∙ ap (λ (x : List ℕ). session (studioOf (controlOf studios bytes) s) (sequenceOf x) (requestOf x)) (sym (zeros-sessionAt s a b));
+        ∙ ap (λ (x : List ℕ). session (studioOf (controlOf studios bytes 1 512) s) (sequenceOf x) (requestOf x)) (sym (zeros-sessionAt s a b));
     primary = zeros-copyAt 0 (omega arith) ∙ sym (L-nil 0);
-    replicas = λ i a b. zeros-copyAt i b ∙ sym (L-nil _);
+    replicas = λ i a b. zeros-copyAt i (omega arith) ∙ sym (L-nil _);
+    base = zeros-copyAt 5 (omega arith) ∙ sym (L-nil 0);
   }
 
 -- setup on bytes and on the plain machine, where the memories have their lengths: one answer, and accepted, one state

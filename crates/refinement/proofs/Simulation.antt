@@ -3,7 +3,7 @@ use mathlib.Core.Path.{_≡_, refl}
 use mathlib.Core.List.{List, [], _∷_, _++_, map}
 use Rattle.carts.specs.Transaction.{Transaction}
 use Rattle.replication.specs.Memory.{Memory}
-use Rattle.replication.specs.Call.{Call, Turn, commit, preview, send, refresh, read, collect, forward, write, move, load, run, final}
+use Rattle.replication.specs.Call.{Call, Turn, commit, preview, send, refresh, read, collect, forward, write, move, load, retire, run, final}
 use Rattle.replication.specs.Calls as Bytes
 use Rattle.replication.specs.Calls.{After, Rule, numberAfter}
 use Rattle.replication.specs.declared.control.Control.{Control}
@@ -21,6 +21,7 @@ use Rattle.refinement.proofs.Preview.{preview-keeps, preview-simulates}
 use Rattle.refinement.proofs.Write.{write-keeps, write-simulates}
 use Rattle.refinement.proofs.Move.{move-keeps, move-simulates}
 use Rattle.refinement.proofs.Load.{load-keeps, load-simulates}
+use Rattle.refinement.proofs.Retire.{retire-keeps, retire-simulates}
 
 -- from any control and memory of the layout, also where a copy is no L(n); by any rule that leaves no number above commits
 module _ (rule : Rule) (bound : Bounded rule) (c : Control) (m : Memory) (h : OfLayout c m) where
@@ -36,6 +37,7 @@ module _ (rule : Rule) (bound : Bounded rule) (c : Control) (m : Memory) (h : Of
   keeps-layout-by (write n out) = write-keeps c m n out h
   keeps-layout-by (move s i) = move-keeps c m s i h
   keeps-layout-by load = load-keeps c m h
+  keeps-layout-by retire = retire-keeps c m h
 
 pub keeps-layout : (c : Control) (m : Memory) → OfLayout c m → (x : Call) → OfLayout (Bytes.call c m x .control) (Bytes.call c m x .memory)
 keeps-layout = keeps-layout-by numberAfter after-bounded
@@ -56,6 +58,7 @@ simulates c m M h x = by-machine c m (λ M. Simulates (Bytes.call c m x) (Plain.
     case (write n out) = write-simulates c m n out
     case (move s i) = move-simulates c m s i
     case load = load-simulates c m
+    case retire = retire-simulates c m
 
 -- a list of calls: what it leaves, and its answers and outputs
 pub layout-after : (H : List Call) (r : After) → OfLayout (r .control) (r .memory) → OfLayout (Bytes.afterCalls r H .control) (Bytes.afterCalls r H .memory)

@@ -1,10 +1,10 @@
 -- THEOREMS about the calls on bytes, in the words of documents 01 and 02. H is any list of the calls of `Call`. A fresh system is what an accepted setup leaves, for
 -- any S, any studio bytes and any memory before it. What "stand for" means is the record Represents; "of the layout" is the record OfLayout.
-use mathlib.Core.Path.{_≡_, sym, _∙_, fun-ext, subst₂}
+use mathlib.Core.Path.{_≡_, sym, ap, ap₂, _∙_, fun-ext, subst, subst₂}
 use mathlib.Core.Bool.{true, false, not}
 use mathlib.Core.List.{List, [], _∷_, _++_, map}
-use Prim.Native.Nat.{ℕ, suc, _*_, _≤_, _<_, max}
-use lib.ListN.{length, getD}
+use Prim.Native.Nat.{ℕ, suc, _*_, _-_, _≤_, _<_, max}
+use lib.ListN.{length, drop, getD}
 use Rattle.carts.specs.Bytes.{zeros, part, over, u16, every}
 use Rattle.carts.specs.Cart.{cartAt, hasTitle}
 use Rattle.carts.specs.Operation.{operationForm, writesTitle, spaced, operationsOf}
@@ -21,7 +21,8 @@ use Rattle.replication.specs.Calls.{After, after, withSessions, numberKept, wit
 use Rattle.replication.specs.declared.control.Control.{Control}
 use Rattle.machine.specs.Machine as Plain
 use Rattle.machine.specs.Machine.{Machine, Step}
-use Rattle.machine.specs.OneCopy.{event, history, Demand3, Loadable, Demand3Loaded}
+use Rattle.machine.specs.Library.{Library}
+use Rattle.machine.specs.OneCopy.{event, Entry, OneCopy, history, entriesFrom, loadedLibrary, Demand3, Loadable, Demand3Loaded}
 use Rattle.machine.specs.Asked.{asked, asker}
 use Rattle.machine.specs.Titles.{titleIn, spares, Writes, ShowsTheOne}
 use Rattle.machine.proofs.Sound.{Sound, setup-case}
@@ -29,7 +30,7 @@ use Rattle.machine.proofs.Spaces.{setup-unspaced, after-unspaced}
 use Rattle.machine.proofs.MetLaws.{Met, load-accepts, fresh-met}
 use Rattle.machine.proofs.Entries.{plainHistory}
 use Rattle.machine.specs.Table.{studioBytes, cases2to10, callsOf, Table}
-use Rattle.machine.proofs.Table.{start, started, table}
+use Rattle.machine.proofs.Table.{start, started, none-retired, table}
 use Rattle.machine.proofs.Messages as Messages
 use Rattle.machine.proofs.Messages.{writing}
 use Rattle.machine.specs.Taken.{taking}
@@ -40,10 +41,14 @@ use Rattle.machine.specs.Moved.{walk}
 use Rattle.machine.proofs.Moved as Walk
 use Rattle.machine.specs.Restarted.{morning, afternoon}
 use Rattle.machine.proofs.Restarted as Restarted
+use Rattle.machine.specs.Retired.{Unneeded, Level, retirings, week, weekend}
+use Rattle.machine.proofs.Retired as Retired
+use Rattle.machine.proofs.Needed.{sound-unneeded}
+use Rattle.machine.proofs.NotFull.{retiring, emptied-answers, emptied-room}
 use Rattle.refinement.specs.Represents.{OfLayout, Represents, Stands, Simulates}
 use Rattle.refinement.specs.Lent.{lent}
 use Rattle.refinement.specs.Unmoved.{SameWithoutMoves}
-use Rattle.refinement.proofs.Represented.{log-length}
+use Rattle.refinement.proofs.Represented.{log-length, kept-log}
 use Rattle.refinement.proofs.Setup as Setup
 use Rattle.refinement.proofs.Refused as Refused
 use Rattle.refinement.proofs.Preview as Preview
@@ -85,7 +90,7 @@ unfolding Bytes.callBy lent
 told-leaves = Refused.told-leaves
 
 pub refused-setup : (n : ℕ) (before : Memory) (studios : ℕ) (bytes : List ℕ) → setup before studios bytes .answer ≡ refused n
-    → setup before studios bytes ≡ after (refused n) (controlOf 0 (zeros 16)) before []
+    → setup before studios bytes ≡ after (refused n) (controlOf 0 (zeros 16) 0 0) before []
 refused-setup = Refused.setup-refused
 
 -- LISTS. The answers and outputs of a list are those of its first part, and then those of the rest from what the first part left.
@@ -298,11 +303,47 @@ module _ (r : After) (p : Step) (begun : Simulates r p) (H : List Call) where
   pub replica : (i : ℕ) → 1 ≤ i → i ≤ 4 → copyAt (left .memory .library) i ≡ L (plain .next .log) (nth (left .control .applied) i)
   replica = simulates-after .next .replicas
 
+  -- 02, S-9: the sixth copy is L(retired), and the count is the plain machine's.
+  pub sixth : copyAt (left .memory .library) 5 ≡ L (plain .next .log) (left .control .retired)
+  sixth = simulates-after .next .base
+
+  pub retired : plain .next .retired ≡ left .control .retired
+  retired = simulates-after .next .retired
+
   pub commits : Plain.commits (plain .next) ≡ left .control .commits
   commits = log-length _ _ _ (simulates-after .next)
 
   sound : Sound (plain .next)
   sound = represents-sound _ _ _ (simulates-after .next)
+
+  -- NEEDED (02, S-9). After H nobody needs what is retired: no studio 1 to S, which has applied it, and no waiting read, whose transactions up to its session's number are in the log.
+  pub unneeded : Unneeded (plain .next)
+  unneeded = sound-unneeded (plain .next) sound
+
+  -- NOT FULL (02, S-9). Where after H every studio 1 to S has applied every commit, retire is accepted until all is retired: as many calls as there are transactions in the log answer
+  -- retired + 1, .., commits. Then no commit is refused with 7, until 65,535 have been used.
+  module _ (level : Level (left .control .studios) (left .control .commits) (left .control .applied)) where
+    plain-level : Level (plain .next .studios) (Plain.commits (plain .next)) (plain .next .applied)
+    plain-level = rw (simulates-after .next .studios, commits, simulates-after .next .applied) level
+
+    abbrev retires : List Call
+    retires = callsOf (retirings (left .control .commits - left .control .retired) (left .control .retired))
+
+    same-retires : retiring (Plain.commits (plain .next) - plain .next .retired) (plain .next) ≡ retires
+    same-retires = rw (commits, retired)
+
+    pub all-retired : history left retires ≡ retirings (left .control .commits - left .control .retired) (left .control .retired)
+    all-retired = Simulation.same-history retires left plain simulates-after
+        ∙ ap (plainHistory plain) (sym same-retires) ∙ emptied-answers plain sound plain-level ∙ rw (commits, retired)
+
+    pub never-full : left .control .commits < 65535 → (s : ℕ) (ops : List ℕ) → let emptied = afterCalls left retires in
+        Bytes.call (emptied .control) (emptied .memory) (Call.commit s ops) .answer ≡ refused 7 → ⊥
+    unfolding Plain.call
+    never-full few s ops e =
+        let last = Simulation.simulates-after retires left plain simulates-after in
+        let same = Simulation.simulates _ _ _ (last .next) (Call.commit s ops) .answer in
+        emptied-room plain sound plain-level (rw commits few) s ops
+        (subst (λ (K : List Call). Plain.commit (Plain.afterCalls plain K .next) s ops .answer ≡ refused 7) (sym same-retires) (sym same ∙ e))
 
   -- 02, S-3. After H a commit is refused with 8, the list goes on with `later`, and then a read, forward or collect of that session is answered: its state has all that was committed
   -- when the session was told.
@@ -356,7 +397,7 @@ module _ (before : Memory) (studios : ℕ) (bytes : List ℕ) where
     plain-accepted = sym (setup-simulates .answer) ∙ accepted
 
     setup-met : Met (Plain.setup studios bytes .next)
-    setup-met = setup-case (λ (q : Step). Met (q .next)) studios bytes plain-accepted (λ e. fresh-met studios bytes)
+    setup-met = setup-case (λ (q : Step). Met (q .next)) studios bytes plain-accepted (λ e h. fresh-met studios bytes)
 
     -- 02, S-2. After H from a fresh system no cart of the head end's copy or of a studio's has a title that begins or ends with a space: `spaced` asks that of a held cart, whose byte 0
     -- is 1, as of a new.
@@ -387,7 +428,11 @@ module _ (c : Control) (m : Memory) (loadable : Loadable c m) where
 
 -- DEMAND 3 over loaded memory (02, S-8). From every control and memory that load accepts every list of calls has a one-copy order, in which the log's transactions are the first commits.
 pub demand3-loaded : Demand3Loaded
-demand3-loaded c m loadable = OneCopyOrder.ordered-from _ _ (load-simulates c m loadable) (load-met c m loadable)
+unfolding Bytes.callBy
+demand3-loaded c m loadable H none =
+    let (same, there) = load-unchanging c m in
+    subst (λ (l : Library). (order : List Entry) × OneCopy l (entriesFrom (Bytes.load c m) none H) order) (ap₂ loadedLibrary same there)
+    (OneCopyOrder.ordered-from _ _ (load-simulates c m loadable) (load-met c m loadable) H none)
 
 -- DEMAND 3. Every list of calls from a fresh system has a one-copy order: load accepts a fresh system, and its log is empty.
 pub demand3 : Demand3
@@ -395,7 +440,7 @@ unfolding Bytes.callBy Call.run Call.final
 demand3 before studios bytes accepted H none =
     let r = setup before studios bytes in
     let (c, m) = load-unchanging (r .control) (r .memory) in
-    rw (← OneCopyOrder.setup-entries before studios bytes accepted none H, ← OneCopyOrder.same-entries (Bytes.load (r .control) (r .memory)) r c m none H)
+    rw (← OneCopyOrder.setup-entries before studios bytes accepted none H, ← OneCopyOrder.setup-library before studios bytes accepted, ← OneCopyOrder.same-entries (Bytes.load (r .control) (r .memory)) r c m none H)
     (demand3-loaded (r .control) (r .memory) (reloads before studios bytes accepted []) H none)
 
 -- TABLE. The twelve cases hold of the calls on bytes, with their outputs, whatever three memories of the right lengths setup is lent: from the plain
@@ -407,7 +452,9 @@ pub twelve : (before : Memory) → lengthsForm before ≡ true →
 unfolding start plainHistory
 twelve before lengths =
     let accepted = setup-answer before 2 studioBytes lengths ∙ started in
-    subst₂ Table (fun-ext (λ H. sym (answers _ _ (setup-simulates before 2 studioBytes accepted) H))) (simulates-after _ _ (setup-simulates before 2 studioBytes accepted) (callsOf cases2to10) .next .log) table
+    let end = simulates-after _ _ (setup-simulates before 2 studioBytes accepted) (callsOf cases2to10) .next in
+    let none : afterCalls (setup before 2 studioBytes) (callsOf cases2to10) .control .retired ≡ 0 = sym (end .retired) ∙ none-retired in
+    subst₂ Table (fun-ext (λ H. sym (answers _ _ (setup-simulates before 2 studioBytes accepted) H))) (ap (λ (n : ℕ). drop n (Plain.afterCalls start (callsOf cases2to10) .next .log)) (sym none) ∙ kept-log _ _ _ end) table
 
 -- 02, S-3. The story of the request on bytes, likewise: another studio fills cart 40, the commit is refused with 8, the session's read waits, and after send and
 -- refresh its collect shows cart 40 held.
@@ -441,3 +488,14 @@ restarted before lengths =
     let fresh = setup-simulates before 2 studioBytes (setup-answer before 2 studioBytes lengths ∙ started) in
     let again = Standing.load-same _ _ _ (simulates-after _ _ fresh (callsOf morning) .next) in
     (answers _ _ fresh (callsOf morning) ∙ Restarted.before, (again .answer ∙ Restarted.whole, answers _ _ again (callsOf afternoon) ∙ Restarted.restarted))
+
+-- 02, S-9. The story of the request on bytes, likewise: retires that are refused and accepted, numbers that the writer refuses, a restart, and what follows it.
+pub retired-story : (before : Memory) → lengthsForm before ≡ true → let r = setup before 2 studioBytes in
+    let left = afterCalls r (callsOf week) in
+    let again = Bytes.load (left .control) (left .memory) in
+    (history r (callsOf week) ≡ week) × ((again .answer ≡ done 2) × (history again (callsOf weekend) ≡ weekend))
+unfolding start plainHistory Retired.again
+retired-story before lengths =
+    let fresh = setup-simulates before 2 studioBytes (setup-answer before 2 studioBytes lengths ∙ started) in
+    let again = Standing.load-same _ _ _ (simulates-after _ _ fresh (callsOf week) .next) in
+    (answers _ _ fresh (callsOf week) ∙ Retired.retired, (again .answer ∙ Retired.whole, answers _ _ again (callsOf weekend) ∙ Retired.went-on))

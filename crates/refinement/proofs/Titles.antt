@@ -49,7 +49,7 @@ primary-title c m s bytes op n w accepted =
     (λ k _ q. let z : _≡_ {A = ℕ} 0 1 = cc in absurd (omega arith))
     (λ e _. let rows = later-stops (memoryRows c m) _ 0 (memory-numbered c m) e in
     let size = lengths-are m (right-memory c m (rows .0) .0) .0 in
-    let a = commit-passed _ _ _ _ _ _ (rows .1) in
+    let a = commit-passed _ _ _ _ _ _ _ (rows .1) in
     let ops = operations-of bytes (a .form) in
     let copy = length-copyAt (m .library) size 0 (omega arith) in
     let same = copy-same (m .library) size 0 (omega arith) _ (length-actAll (operationsOf bytes) _ copy ops) in
@@ -76,7 +76,7 @@ module _ (c : Control) (m : Memory) (s : ℕ) (bytes : List ℕ) where
       → Bytes.commit c m s bytes .answer ≡ refused 6
   unfolding Bytes.commit commitStop Bytes.refusedCommit commitRows memoryRows lengthsRow sessionRow lacks every unless
   title-refused passes i u w e =
-      let rows : List Row = commitRows s (studioOf c s) (requestOf (sessionAt (m .sessions) s)) (c .used) (copyAt (m .library) 0) bytes in
+      let rows : List Row = commitRows s (studioOf c s) (requestOf (sessionAt (m .sessions) s)) (c .used) (c .commits) (copyAt (m .library) 0) bytes in
       let stops : not (every operationForm (operationsOf bytes)) ≡ true = rw (form-wrong i u w e) in
       rw (stopped-by (memoryRows c m ++ take 3 rows) (drop 4 rows) 6 _ refl passes stops)
 
@@ -85,7 +85,7 @@ module _ (c : Control) (m : Memory) (s : ℕ) (bytes : List ℕ) where
       → (i : ℕ) → i < length (operationsOf bytes) → spaced (getD (operationsOf bytes) i []) ≡ true → Bytes.commit c m s bytes .answer ≡ refused 16
   unfolding Bytes.commit commitStop Bytes.refusedCommit commitRows memoryRows lengthsRow sessionRow lacks every unless
   spaced-refused passes i u e =
-      let rows : List Row = commitRows s (studioOf c s) (requestOf (sessionAt (m .sessions) s)) (c .used) (copyAt (m .library) 0) bytes in
+      let rows : List Row = commitRows s (studioOf c s) (requestOf (sessionAt (m .sessions) s)) (c .used) (c .commits) (copyAt (m .library) 0) bytes in
       rw (stopped-by (memoryRows c m ++ take 4 rows) (drop 5 rows) 16 _ refl passes (any-at spaced (operationsOf bytes) [] i u e))
 
 -- a title in the reads of a list of calls: from what stands for a sound machine, after an accepted commit, as long as no transaction has an operation on

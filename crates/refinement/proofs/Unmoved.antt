@@ -15,10 +15,10 @@ use Rattle.replication.specs.Memory.{Memory, copyAt, sessionAt, withSession, se
 use Rattle.replication.specs.Request.{Request, requestOf}
 use Rattle.replication.specs.Message.{messageIn}
 use Rattle.replication.specs.Log.{logged}
-use Rattle.replication.specs.Rows.{Row, stopped, unless, memoryRows, commitRows, commitStop, sendRows, sendStop, refreshRows, refreshStop, readRows, readStop, collectRows, collectStop, writeRows, writeStop, loadRows, copiesForm, loadStop}
-use Rattle.replication.specs.Call.{Call, commit, preview, send, refresh, read, collect, forward, write, move, load, run, final}
+use Rattle.replication.specs.Rows.{Row, stopped, unless, memoryRows, commitRows, commitStop, sendRows, sendStop, refreshRows, refreshStop, readRows, readStop, collectRows, collectStop, writeRows, writeStop, loadRows, copiesForm, loadStop, retireRows, retireStop}
+use Rattle.replication.specs.Call.{Call, commit, preview, send, refresh, read, collect, forward, write, move, load, retire, run, final}
 use Rattle.replication.specs.Calls as Bytes
-use Rattle.replication.specs.Calls.{After, refusal, withSessions, numberAfter, numberKept, toldSessions, withSent, withApplied, committed}
+use Rattle.replication.specs.Calls.{After, refusal, withSessions, numberAfter, numberKept, toldSessions, withSent, withApplied, committed, retiredControl}
 use Rattle.replication.specs.declared.control.Control.{Control}
 use Rattle.replication.proofs.CommitLaws.{stopped-by-8}
 use Rattle.replication.proofs.DecideLaws.{KnownSession, accepted}
@@ -157,7 +157,7 @@ module _ (c : Control) (m : Memory) (ys : List ℕ) (h : OfLayout c m) (l : OfLa
 
   commit-stop : (s : ℕ) (bytes : List ℕ) → commitStop c n s bytes ≡ commitStop c m s bytes
   unfolding commitStop
-  commit-stop s bytes = same-stop (λ q. commitRows s (studioOf c s) q (c .used) (copyAt (m .library) 0) bytes) s
+  commit-stop s bytes = same-stop (λ q. commitRows s (studioOf c s) q (c .used) (c .commits) (copyAt (m .library) 0) bytes) s
 
   told-same : (s : ℕ) (bytes : List ℕ) (k : ℕ) → commitStop c m s bytes ≡ k → Same (Bytes.refusedCommit c m s k) (Bytes.refusedCommit c n s k)
   unfolding Bytes.refusedCommit toldSessions
@@ -168,7 +168,7 @@ module _ (c : Control) (m : Memory) (ys : List ℕ) (h : OfLayout c m) (l : OfLa
   commit-same : (s : ℕ) (bytes : List ℕ) → Same (Bytes.commit c m s bytes) (Bytes.commit c n s bytes)
   unfolding Bytes.commit commitStop committed studioOf
   commit-same s bytes = by-rows (commitStop c m s bytes) (commitStop c n s bytes) (commit-stop s bytes) _ _ _ _ (λ j. told-same s bytes (suc j)) (λ e.
-      let a = commit-passed _ _ _ _ _ _ (accepted c m _ e .1) in
+      let a = commit-passed _ _ _ _ _ _ _ (accepted c m _ e .1) in
       record { answer = refl; output = refl; control = refl; memory = refl; pairs = numbered s (a .who) (c .commits + 1) (c .commits + 1) (omega arith) (omega arith) })
 
   send-same : (i : ℕ) → Same (Bytes.send c m i) (Bytes.send c n i)
@@ -190,12 +190,17 @@ module _ (c : Control) (m : Memory) (ys : List ℕ) (h : OfLayout c m) (l : OfLa
 
   write-same : (k : ℕ) (out : List ℕ) → Same (Bytes.write c m k out) (Bytes.write c n k out)
   unfolding Bytes.write writeStop
-  write-same k out = by-rows _ _ (same-stop (λ q. writeRows (c .commits) k (length (messageIn c (m .log) k)) (length out)) 1) _ _ _ _ (λ j e. refused-same out (suc j))
+  write-same k out = by-rows _ _ (same-stop (λ q. writeRows (c .retired) (c .commits) k (length (messageIn c (m .log) k)) (length out)) 1) _ _ _ _ (λ j e. refused-same out (suc j))
       (λ e. record { answer = refl; output = refl; control = refl; memory = refl; pairs = p })
 
   load-same : Same (Bytes.load c m) (Bytes.load c n)
   unfolding Bytes.load loadStop
-  load-same = by-rows _ _ (same-stop (λ q. loadRows (copiesForm c (m .library) (logged c (m .log))) (logged c (m .log))) 1) _ _ _ _ (λ j e. refused-same [] (suc j))
+  load-same = by-rows _ _ (same-stop (λ q. loadRows (copiesForm c (m .library) (logged c (m .log))) (copyAt (m .library) 5) (logged c (m .log))) 1) _ _ _ _ (λ j e. refused-same [] (suc j))
+      (λ e. record { answer = refl; output = refl; control = refl; memory = refl; pairs = p })
+
+  retire-same : Same (Bytes.retire c m) (Bytes.retire c n)
+  unfolding Bytes.retire retireStop retiredControl studioOf
+  retire-same = by-rows _ _ (same-stop (λ q. retireRows (c .studios) (c .retired) (c .commits) (c .applied)) 1) _ _ _ _ (λ j e. refused-same [] (suc j))
       (λ e. record { answer = refl; output = refl; control = refl; memory = refl; pairs = p })
 
   -- read and forward, by what each does where the studio is behind
@@ -247,6 +252,7 @@ module _ (c : Control) (m : Memory) (ys : List ℕ) (h : OfLayout c m) (l : OfLa
   call-same (write k out) e = write-same k out
   call-same (move s i) e = absurd (false≢true e)
   call-same load e = load-same
+  call-same retire e = retire-same
 
 -- what two runs leave, both of the layout
 abbrev Both : After → After → Type 0

@@ -1,7 +1,7 @@
 -- The output that a call is lent.
 use mathlib.Core.List.{List, []}
 use Prim.Native.Nat.{ℕ}
-use Rattle.replication.specs.Call.{Call, commit, preview, send, refresh, read, collect, forward, write, move, load}
+use Rattle.replication.specs.Call.{Call, commit, preview, send, refresh, read, collect, forward, write, move, load, retire}
 
 -- "Output, lent to read and collect only", by S-4, "with read's .. outputs", to forward, by S-6 to the van's writer: [] where none is lent
 unfoldable pub lent : Call → List ℕ
@@ -15,3 +15,4 @@ lent (forward s request out) = out
 lent (write n out) = out
 lent (move s i) = []
 lent load = []
+lent retire = []

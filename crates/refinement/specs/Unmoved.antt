@@ -5,7 +5,7 @@ use mathlib.Core.List.{List, map}
 use Prim.Native.Nat.{ℕ, _≤_}
 use Rattle.carts.specs.Bytes.{every}
 use Rattle.replication.specs.Memory.{sessionCount, sessionAt, withSequence}
-use Rattle.replication.specs.Call.{Call, commit, preview, send, refresh, read, collect, forward, write, move, load, final}
+use Rattle.replication.specs.Call.{Call, commit, preview, send, refresh, read, collect, forward, write, move, load, retire, final}
 use Rattle.replication.specs.Calls.{After, Rule, numberAfter, numberKept, runBy}
 use Rattle.machine.specs.OneCopy.{Event, eventOf}
 use Rattle.refinement.specs.Represents.{OfLayout}
@@ -22,6 +22,7 @@ isMove (forward s request out) = false
 isMove (write n out) = false
 isMove (move s i) = true
 isMove load = false
+isMove retire = false
 
 unfoldable pub withoutMoves : List Call → Bool
 withoutMoves H = every (λ x. not (isMove x)) H
