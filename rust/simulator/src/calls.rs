@@ -6,7 +6,7 @@ use crate::cart::{Cart, Copy, encode_cart};
 use crate::control::Outcome;
 use crate::operation::{Transaction, act_all, title_spaced, transaction_handed_in, transaction_sized};
 use crate::session::{Request, Session};
-use crate::sizes::{RECORDS, UNIT, WINDOW};
+use crate::sizes::{COMMITS, UNIT, WINDOW};
 use crate::system::{Studio, System};
 use crate::title::same_title;
 
@@ -25,14 +25,13 @@ pub fn commit(system: &mut System, session: u32, operations: &[u8]) -> Ended {
     if operations.chunks_exact(UNIT).any(title_spaced) {
         return Err(16);
     }
-    let used: usize = system.transactions.iter().map(Vec::len).sum();
-    if used + transaction.len() > RECORDS {
+    if !system.log.has_room(transaction.len()) || system.commits() == COMMITS {
         return Err(7);
     }
     let outcome = match acted(&system.head_end, &transaction) {
         Some(head_end) => {
             system.head_end = head_end;
-            system.transactions.push(transaction);
+            system.log.append(transaction);
             Outcome::Done(system.commits())
         }
         None => Outcome::Refused(8),
@@ -60,8 +59,7 @@ pub fn refresh(system: &mut System, studio: u32) -> Ended {
     if sent == applied {
         return Err(11);
     }
-    let next = usize::try_from(applied).expect("at most 512");
-    let transaction = system.transactions[next].clone();
+    let transaction = system.transaction(applied + 1).expect("sent, and not retired").clone();
     let studio = known_studio(system, studio)?;
     act_all(&transaction, &mut studio.copy);
     studio.applied += 1;
@@ -100,6 +98,18 @@ pub fn move_session(system: &mut System, session: u32, studio: u32) -> Ended {
     }
     session.studio = usize::try_from(studio).expect("at most 4");
     Ok(Outcome::Done(studio))
+}
+
+/// S-9: the oldest transaction "acts on a sixth copy", by the one effect there is. Row 20
+/// is "the oldest is still needed or there is none".
+pub fn retire(system: &mut System) -> Ended {
+    let needed = system.studios.iter().any(|studio| studio.applied == system.retired);
+    if needed || system.log.transactions.is_empty() {
+        return Err(20);
+    }
+    act_all(&system.log.take_oldest(), &mut system.sixth);
+    system.retired += 1;
+    Ok(Outcome::Done(system.retired))
 }
 
 /// What a reading call does where the studio's copy is behind the session's number.
@@ -189,7 +199,7 @@ fn put_cart(copy: &Copy, number: u16, unit: &mut [u8]) {
 }
 
 /// The place, from 0, of what is counted from 1.
-pub fn place_of(number: u32) -> Option<usize> {
+fn place_of(number: u32) -> Option<usize> {
     usize::try_from(number).ok().and_then(|number| number.checked_sub(1))
 }
 

@@ -10,20 +10,28 @@ pub struct Control {
     pub studios: u32,
     /// The studio of each session, 0 for an unused one.
     pub session_studios: [u32; SESSIONS],
-    /// Records used.
+    /// Records in the log's chain.
     pub used: u32,
-    /// Commits.
+    /// Commits, retired ones included.
     pub commits: u32,
     /// Sent of each studio.
     pub sent: [u32; STUDIOS],
     /// Applied of each studio.
     pub applied: [u32; STUDIOS],
+    /// Transactions retired.
+    pub retired: u32,
+    /// The first record of the oldest transaction in the log, 0 for none.
+    pub oldest: u32,
+    /// The first record of the free chain, 0 for none.
+    pub free_first: u32,
+    /// The last record of the free chain, 0 for none.
+    pub free_last: u32,
 }
 
 /// The kind of a refusal.
 pub const REFUSED: u32 = 0;
-/// The kind of an accepted setup, commit, preview, send, refresh, move or load, and of
-/// a message written or applied.
+/// The kind of an accepted setup, commit, preview, send, refresh, move, load or retire,
+/// and of a message written or applied.
 pub const DONE: u32 = 1;
 /// The kind of an answered read, collect or forward.
 pub const ANSWERED: u32 = 2;
@@ -38,8 +46,8 @@ pub const HELD: u32 = 4;
 pub struct Answer {
     /// Refused, done, answered or waits.
     pub kind: u32,
-    /// The refusal's number, the count (a load's is commits), the studio moved to, the
-    /// message's length, the state, or the session's number.
+    /// The refusal's number, the count (a load's is commits, a retire's is retired), the
+    /// studio moved to, the message's length, the state, or the session's number.
     pub value: u32,
     /// How many were found.
     pub found: u32,

@@ -1,4 +1,4 @@
-//! The cart wall of document 01, with requests S-1 to S-8 of document 02, by
+//! The cart wall of document 01, with requests S-1 to S-9 of document 02, by
 //! another hand.
 //!
 //! Every call decodes the lent memory and the control into a value, acts on
@@ -23,9 +23,11 @@ mod van;
 
 pub use control::{ANSWERED, Answer, Control, DONE, HELD, Outcome, REFUSED, VanAnswer, WAITS};
 pub use search::{Search, search};
-pub use sizes::{CARTS, COPY, LIBRARY, LOG, NUMBERS, RECORDS, SESSION_MEMORY, SESSIONS, STUDIOS, TRANSACTION_OPERATIONS, UNIT, WINDOW};
+pub use sizes::{
+    CARTS, COMMITS, COPY, LIBRARY, LOG, NUMBERS, RECORDS, SESSION_MEMORY, SESSIONS, STUDIOS, TRANSACTION_OPERATIONS, UNIT, WINDOW,
+};
 
-/// Setup.
+/// Setup. All memory is zero but the log, whose records are all free, in order from 1.
 pub fn setup(library: &mut [u8], log: &mut [u8], sessions: &mut [u8], studios: u32, session_studios: &[u8]) -> Answer {
     let refused = |number| Outcome::Refused(number).with(Control::default());
     if !right_lengths(library, log, sessions) {
@@ -36,10 +38,10 @@ pub fn setup(library: &mut [u8], log: &mut [u8], sessions: &mut [u8], studios: u
     if !known || session_studios.len() != SESSIONS || above {
         return refused(15);
     }
-    for memory in [library, log, sessions] {
-        memory.fill(0);
-    }
+    library.fill(0);
+    sessions.fill(0);
     let mut control = Control { studios, ..Control::default() };
+    log::Log::fresh().encode(log, &mut control);
     for (word, studio) in control.session_studios.iter_mut().zip(session_studios) {
         *word = u32::from(*studio);
     }
@@ -108,11 +110,17 @@ pub fn move_session(library: &mut [u8], log: &mut [u8], sessions: &mut [u8], con
     play(library, log, sessions, control, |system| calls::move_session(system, session, studio))
 }
 
-/// Load: whether each copy is what the log makes and each logged operation met its cart
-/// in the right state. It is lent its memory to be read alone, returns commits, and hands
-/// control back as it was passed.
+/// Load: whether each copy is what the log makes from the sixth copy, and each logged
+/// operation met its cart in the right state. It is lent its memory to be read alone,
+/// returns commits, and hands control back as it was passed.
 pub fn load(library: &[u8], log: &[u8], sessions: &[u8], control: Control) -> Answer {
     look(library, log, sessions, control, |system| load::load(system))
+}
+
+/// Retire: the oldest transaction acts on the sixth copy and its records are free again,
+/// once every studio has applied it. Returns how many are retired by now.
+pub fn retire(library: &mut [u8], log: &mut [u8], sessions: &mut [u8], control: Control) -> Answer {
+    play(library, log, sessions, control, calls::retire)
 }
 
 /// The van's writer: the message of one transaction, at output's start. It reads the

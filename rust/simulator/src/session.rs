@@ -82,7 +82,7 @@ impl Session {
 
     pub fn encode(&self, unit: &mut [u8]) {
         unit.fill(0);
-        let number = u16::try_from(self.number).expect("a session's number is at most 512");
+        let number = u16::try_from(self.number).expect("a session's number is at most 65,535");
         put_u16(unit, 2, number);
         if let Some(request) = &self.waiting {
             request.encode(unit);

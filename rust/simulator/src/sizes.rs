@@ -12,8 +12,8 @@ pub const STUDIOS: usize = 4;
 pub const RECORDS: usize = 512;
 /// Sessions.
 pub const SESSIONS: usize = 16;
-/// Bytes of library memory.
-pub const LIBRARY: usize = (1 + STUDIOS) * COPY;
+/// Bytes of library memory: the head end's copy, the studios' and the sixth.
+pub const LIBRARY: usize = (1 + STUDIOS + 1) * COPY;
 /// Bytes of log memory.
 pub const LOG: usize = RECORDS * UNIT;
 /// Bytes of session memory.
@@ -22,5 +22,7 @@ pub const SESSION_MEMORY: usize = SESSIONS * UNIT;
 pub const TRANSACTION_OPERATIONS: usize = 8;
 /// Most numbers of one read.
 pub const NUMBERS: usize = 32;
+/// Most transactions committed, retired ones included.
+pub const COMMITS: u32 = 65_535;
 /// Most transactions sent and not applied.
 pub const WINDOW: u32 = 32;

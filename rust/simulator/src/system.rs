@@ -3,10 +3,10 @@
 use crate::bytes::all_zero;
 use crate::cart::{Copy, decode_copy, encode_copy};
 use crate::control::Control;
-use crate::log;
+use crate::log::Log;
 use crate::operation::Transaction;
 use crate::session::Session;
-use crate::sizes::{COPY, SESSIONS, STUDIOS, UNIT, WINDOW};
+use crate::sizes::{COMMITS, COPY, SESSIONS, STUDIOS, UNIT, WINDOW};
 
 /// A studio: its copy and its two counts.
 #[derive(Clone, PartialEq, Eq, Debug)]
@@ -21,7 +21,10 @@ pub struct System {
     pub head_end: Copy,
     /// Studio i is at i − 1; there are S of them.
     pub studios: Vec<Studio>,
-    pub transactions: Vec<Transaction>,
+    /// What the retired transactions made.
+    pub sixth: Copy,
+    pub retired: u32,
+    pub log: Log,
     /// Session i is at i − 1; `None` is an unused one.
     pub sessions: Vec<Option<Session>>,
 }
@@ -31,28 +34,31 @@ impl System {
     /// The three memories have their right lengths.
     pub fn decode(library: &[u8], log: &[u8], sessions: &[u8], control: &Control) -> Option<System> {
         let count = usize::try_from(control.studios).ok()?;
-        if !(1..=STUDIOS).contains(&count) {
+        if !(1..=STUDIOS).contains(&count) || control.commits > COMMITS {
             return None;
         }
-        let transactions = log::decode(log, control.used, control.commits)?;
+        let log = Log::decode(log, control)?;
         let sessions = decode_sessions(sessions, control)?;
-        let (head_end, copies) = library.split_at(COPY);
+        let (head_end, rest) = library.split_at(COPY);
+        let (copies, sixth) = rest.split_at(STUDIOS * COPY);
+        if control.retired == 0 && !all_zero(sixth) {
+            return None;
+        }
+        let (head_end, sixth) = (decode_copy(head_end)?, decode_copy(sixth)?);
         let studios = decode_studios(copies, count, control)?;
-        Some(System { head_end: decode_copy(head_end)?, studios, transactions, sessions })
+        Some(System { head_end, studios, sixth, retired: control.retired, log, sessions })
     }
 
     /// Writes the system over the three memories and returns its control.
     pub fn encode(&self, library: &mut [u8], log: &mut [u8], sessions: &mut [u8]) -> Control {
         library.fill(0);
         sessions.fill(0);
-        let mut control = Control {
-            studios: as_u32(self.studios.len()),
-            used: as_u32(self.transactions.iter().map(Vec::len).sum()),
-            commits: self.commits(),
-            ..Control::default()
-        };
-        let (head_end, copies) = library.split_at_mut(COPY);
+        let mut control =
+            Control { studios: as_u32(self.studios.len()), commits: self.commits(), retired: self.retired, ..Control::default() };
+        let (head_end, rest) = library.split_at_mut(COPY);
+        let (copies, sixth) = rest.split_at_mut(STUDIOS * COPY);
         encode_copy(&self.head_end, head_end);
+        encode_copy(&self.sixth, sixth);
         for (i, studio) in self.studios.iter().enumerate() {
             encode_copy(&studio.copy, &mut copies[COPY * i..COPY * (i + 1)]);
             control.sent[i] = studio.sent;
@@ -64,12 +70,19 @@ impl System {
                 control.session_studios[i] = as_u32(session.studio);
             }
         }
-        log::encode(&self.transactions, log);
+        self.log.encode(log, &mut control);
         control
     }
 
     pub fn commits(&self) -> u32 {
-        as_u32(self.transactions.len())
+        self.retired + as_u32(self.log.transactions.len())
+    }
+
+    /// Transaction n, or `None` where it is retired or not committed.
+    pub fn transaction(&self, n: u32) -> Option<&Transaction> {
+        let before = n.checked_sub(self.retired)?.checked_sub(1)?;
+        let logged = self.log.transactions.get(usize::try_from(before).ok()?)?;
+        Some(&logged.operations)
     }
 }
 
@@ -96,7 +109,7 @@ fn decode_studios(copies: &[u8], count: usize, control: &Control) -> Option<Vec<
     for (i, bytes) in copies.chunks_exact(COPY).enumerate() {
         let (sent, applied) = (control.sent[i], control.applied[i]);
         if i < count {
-            let counted = applied <= sent && sent <= control.commits && sent - applied <= WINDOW;
+            let counted = control.retired <= applied && applied <= sent && sent <= control.commits && sent - applied <= WINDOW;
             let copy = counted.then(|| decode_copy(bytes)).flatten()?;
             studios.push(Studio { copy, sent, applied });
         } else if sent != 0 || applied != 0 || !all_zero(bytes) {

@@ -2,7 +2,7 @@
 //! receiver with its one copy.
 
 use crate::bytes::{put_u16, u16_at};
-use crate::calls::{Ended, place_of};
+use crate::calls::Ended;
 use crate::cart::{decode_copy, encode_copy};
 use crate::control::{DONE, HELD, Outcome, REFUSED, VanAnswer};
 use crate::operation::{Transaction, act_all, transaction_handed_in, transaction_sized};
@@ -41,10 +41,14 @@ impl Message {
     }
 }
 
-/// The writer: the message of transaction `number`, from output's start.
+/// The writer: the message of transaction `number`, from output's start. Row 21 stands
+/// before both conditions of 17; 0 is no number that is retired.
 pub fn write(system: &System, number: u32, output: &mut [u8]) -> Ended {
-    let transaction = place_of(number).and_then(|place| system.transactions.get(place)).ok_or(17u32)?;
-    let number = u16::try_from(number).expect("commits are at most 512");
+    if (1..=system.retired).contains(&number) {
+        return Err(21);
+    }
+    let transaction = system.transaction(number).ok_or(17u32)?;
+    let number = u16::try_from(number).expect("commits are at most 65,535");
     let message = Message { number, transaction: transaction.clone() }.encode();
     output.get_mut(..message.len()).ok_or(17u32)?.copy_from_slice(&message);
     Ok(Outcome::Done(as_u32(message.len())))

@@ -137,13 +137,21 @@ fn setup_rows() {
         assert_eq!(wall, before);
     }
     assert_eq!(wall.setup(4, &[4; 16]), done(0));
-    assert_eq!(wall.library, [0; LIBRARY]);
-    assert_eq!(wall.control.session_studios, [4; 16]);
+    assert_eq!((&wall.library[..], &wall.sessions[..]), (&[0; LIBRARY][..], &[0; SESSION_MEMORY][..]));
+    let control = simulator::Control { studios: 4, session_studios: [4; 16], free_first: 1, free_last: 512, ..Default::default() };
+    assert_eq!(wall.control, control);
+    for (r, record) in (1..=512u16).zip(wall.log.chunks_exact(80)) {
+        let mut free = [0; 80];
+        free[12..14].copy_from_slice(&(if r < 512 { r + 1 } else { 0 }).to_le_bytes());
+        assert_eq!(record, free, "record {r}");
+    }
 }
 
 #[test]
 fn lengths_come_first() {
-    for (library, log, sessions) in [(LIBRARY - 1, LOG, SESSION_MEMORY), (LIBRARY, LOG + 1, SESSION_MEMORY), (LIBRARY, LOG, 0)] {
+    for (library, log, sessions) in
+        [(LIBRARY - 1, LOG, SESSION_MEMORY), (51_200, LOG, SESSION_MEMORY), (LIBRARY, LOG + 1, SESSION_MEMORY), (LIBRARY, LOG, 0)]
+    {
         let mut wall = fresh();
         wall.library.resize(library, 0);
         wall.log.resize(log, 0);
@@ -151,6 +159,7 @@ fn lengths_come_first() {
         wall.control.studios = u32::MAX;
         assert_eq!(wall.send(0), refused(1));
         assert_eq!(wall.read(0, &[], &mut []), refused(1));
+        assert_eq!(wall.retire(), refused(1));
         assert_eq!(wall.setup(9, &[]), refused(1));
     }
 }

@@ -3,7 +3,7 @@
 //! asserted by `Wall::load`, byte by byte.
 
 mod wall;
-use simulator::{COPY, Control, DONE, LIBRARY, LOG, REFUSED, SESSION_MEMORY, UNIT, of_layout};
+use simulator::{COPY, DONE, LIBRARY, LOG, REFUSED, SESSION_MEMORY, UNIT, of_layout};
 use wall::*;
 
 type Operations = Vec<[u8; UNIT]>;
@@ -36,7 +36,8 @@ fn spread(count: u32) -> Wall {
     wall
 }
 
-/// Writes a log of these transactions, whatever carts they meet.
+/// Writes a log of these transactions, whatever carts they meet. The other records are
+/// free, in order.
 fn put_log(wall: &mut Wall, transactions: &[Operations]) {
     let (mut first, count) = (1, transactions.len());
     for (n, transaction) in (1..).zip(transactions) {
@@ -51,8 +52,13 @@ fn put_log(wall: &mut Wall, transactions: &[Operations]) {
         }
         first = after;
     }
+    let free: Vec<u16> = (first..=512).collect();
+    free.iter().for_each(|r| cart(&mut wall.log, *r).fill(0));
+    wall.put_links(&free, 12);
+    let ends = [free.first(), free.last()].map(|r| r.map_or(0, |r| u32::from(*r)));
     wall.control.used = u32::from(first - 1);
     wall.control.commits = u32::try_from(count).unwrap();
+    (wall.control.oldest, wall.control.free_first, wall.control.free_last) = (u32::from(count > 0), ends[0], ends[1]);
 }
 
 /// A wall with such a log and as many studios as counts. Refreshes have made the copies
@@ -94,59 +100,27 @@ fn after_setup() {
     assert_eq!(wall.load(), refused(2), "its control is all zero");
 }
 
-/// 1 to 3 operations on few carts, or none. A few are out of form, or have a space at an
-/// end of the title.
-fn edits(seed: u32) -> Operations {
-    let edit = |seed: u32| {
-        let number = [1, 7, 8, 128][seed as usize / 16 % 4];
-        match seed % 16 {
-            0..=4 => new(number, ["Bed", "News"][seed as usize / 64 % 2], 1 + seed, 1),
-            5..=8 => recut(number, 1 + seed, 2),
-            9..=11 => retitle(number, ["Bed", "Top hour A"][seed as usize / 64 % 2]),
-            12 | 13 => withdraw(number),
-            14 => retitle(number, "Bed "),
-            _ => recut(number, 0, 2),
-        }
-    };
-    let count = [1, 1, 2, 1, 3, 1, 0, 1][seed as usize % 8];
-    [seed / 8, seed / 32, seed / 128][..count].iter().map(|seed| edit(*seed)).collect()
-}
-
-/// One call of any kind, for sessions 0 to 9 and studios 0 to S + 1.
-fn any_call(wall: &mut Wall, seed: u32) -> Words {
-    let (session, studio, operations) = (seed / 16 % 10, seed / 160 % (wall.control.studios + 2), edits(seed / 128));
-    let request = [by_numbers(&[7, 8]), by_title("Bed"), by_numbers(&[128, 1]), [9; UNIT]][seed as usize / 512 % 4];
-    let mut output = vec![9; [160, 160, 160, 79][seed as usize / 2_048 % 4]];
-    match seed % 16 {
-        0..=4 => wall.commit(session, &operations),
-        5 | 6 => wall.send(studio),
-        7 | 8 => wall.refresh(studio),
-        9 => wall.read(session, &request, &mut output),
-        10 => wall.forward(session, &request, &mut output),
-        11 | 12 => wall.collect(session, &mut output),
-        13 => wall.move_session(session, studio),
-        14 => wall.preview(session, &operations),
-        _ => wall.van_write(seed / 16 % 64, &mut output),
-    }
-}
-
-/// After every call, accepted, waiting or refused.
+/// After every call, accepted, waiting or refused, among them retire calls.
 #[test]
 fn at_every_moment_of_a_list() {
-    let mut rows = [0; 20];
+    let mut rows = [0; 22];
     for count in 1..=4 {
         let (mut wall, mut kinds) = (studios(count), [0; 4]);
         for seed in seeds().take(800) {
-            let (kind, value, _) = any_call(&mut wall, seed);
+            let (kind, value, _) = if retires(seed) { wall.retire() } else { any_call(&mut wall, seed) };
             assert_eq!(wall.load(), done(wall.control.commits), "{count} studios, after seed {seed}");
             kinds[kind as usize] += 1;
             rows[if kind == REFUSED { value as usize } else { 0 }] += 1;
         }
         assert!(kinds.iter().all(|times| *times >= 10), "{count} studios, kinds: {kinds:?}");
         let applied = &wall.control.applied[..count as usize];
-        assert!(wall.control.commits >= 20 && applied.iter().all(|applied| *applied >= 5), "{:?}", wall.control);
+        assert!(
+            wall.control.retired >= 5 && wall.control.commits >= 20 && applied.iter().all(|applied| *applied >= 5),
+            "{:?}",
+            wall.control
+        );
     }
-    let missing: Vec<usize> = [3, 4, 5, 6, 8, 9, 11, 12, 13, 14, 16, 17].into_iter().filter(|row| rows[*row] == 0).collect();
+    let missing: Vec<usize> = [3, 4, 5, 6, 8, 9, 11, 12, 13, 14, 16, 17, 20, 21].into_iter().filter(|row| rows[*row] == 0).collect();
     assert!(missing.is_empty(), "rows that refused nothing: {missing:?}");
 }
 
@@ -414,16 +388,9 @@ fn rows_from_top_to_bottom() {
 fn control_words_of_any_size() {
     let whole = spread(3);
     for word in [5, 33, 513, 1 << 16, 1 << 31, u32::MAX] {
-        for place in 0..27 {
+        for place in 0..31 {
             let mut wall = whole.clone();
-            match place {
-                0 => wall.control.studios = word,
-                1..=16 => wall.control.session_studios[place - 1] = word,
-                17 => wall.control.used = word,
-                18 => wall.control.commits = word,
-                19..=22 => wall.control.sent[place - 19] = word,
-                _ => wall.control.applied[place - 23] = word,
-            }
+            *wall::word(&mut wall.control, place) = word;
             // 5 commits and 5 sent to studios 1 to 3 are of the layout.
             let words = if (18..=21).contains(&place) && word == 5 { done(5) } else { refused(2) };
             assert_eq!(wall.load(), words, "word {place} as {word}");
@@ -596,12 +563,10 @@ fn a_loaded_request() {
 fn memory_of_one_byte_and_any_control() {
     for byte in 0..=255 {
         let mut wall = Wall { library: vec![byte; LIBRARY], log: vec![byte; LOG], sessions: vec![byte; SESSION_MEMORY], ..fresh() };
-        let words = if byte == 0 { done(0) } else { refused(2) };
-        assert_eq!(wall.load(), words, "bytes of {byte}");
-        let word = u32::from(byte);
-        for word in [word, word << 8, word << 24, u32::MAX - word] {
-            let (session_studios, counts) = ([word; 16], [word; 4]);
-            wall.control = Control { studios: word, session_studios, used: word, commits: word, sent: counts, applied: counts };
+        assert_eq!(wall.load(), refused(2), "bytes of {byte}");
+        let number = u32::from(byte);
+        for word in [number, number << 8, number << 24, u32::MAX - number] {
+            (0..31).for_each(|place| *wall::word(&mut wall.control, place) = word);
             assert_eq!(wall.load(), refused(2), "bytes of {byte}, words of {word}");
         }
     }

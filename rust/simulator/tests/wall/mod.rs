@@ -1,7 +1,7 @@
 //! A wall for the tests: the lent memory, the control, and makers of inputs.
 #![allow(dead_code)]
 
-use simulator::{Answer, Control, LIBRARY, LOG, SESSION_MEMORY, UNIT};
+use simulator::{Answer, COPY, Control, DONE, LIBRARY, LOG, REFUSED, SESSION_MEMORY, UNIT};
 
 #[derive(Clone, PartialEq, Debug)]
 pub struct Wall {
@@ -51,7 +51,7 @@ impl Wall {
     /// Takes the control over. `before` is the wall that a refusal has to leave.
     fn keep(&mut self, before: Wall, answer: Answer) -> Words {
         self.control = answer.control;
-        if answer.kind == simulator::REFUSED {
+        if answer.kind == REFUSED {
             assert_eq!(*self, before, "a refused call changes nothing, but a session's number by a commit's 8");
         }
         (answer.kind, answer.value, answer.found)
@@ -99,12 +99,20 @@ impl Wall {
     }
 
     /// The only refusal that changes a byte: with 8, the session's number becomes commits.
+    /// An accepted commit changes its session's number, the head end's copy, and of log and
+    /// control what `append_by_hand` does.
     pub fn commit_bytes(&mut self, session: u32, bytes: &[u8]) -> Words {
         let mut before = self.clone();
         let (library, log) = (&mut self.library, &mut self.log);
         let answer = simulator::commit(library, log, &mut self.sessions, self.control, session, bytes);
-        if (answer.kind, answer.value) == (simulator::REFUSED, 8) {
+        if (answer.kind, answer.value) == (REFUSED, 8) {
             before.put_number(session, before.control.commits);
+        }
+        if answer.kind == DONE {
+            before.append_by_hand(bytes);
+            before.put_number(session, before.control.commits);
+            before.library[..COPY].copy_from_slice(&self.library[..COPY]);
+            assert_eq!(Wall { control: answer.control, ..self.clone() }, before, "a commit takes the first free records");
         }
         self.keep(before, answer)
     }
@@ -170,7 +178,7 @@ impl Wall {
         let mut before = self.clone();
         let (library, log) = (&mut self.library, &mut self.log);
         let answer = simulator::move_session(library, log, &mut self.sessions, self.control, session, studio);
-        if answer.kind != simulator::REFUSED {
+        if answer.kind != REFUSED {
             before.control.session_studios[session as usize - 1] = studio;
         }
         self.control = answer.control;
@@ -186,13 +194,95 @@ impl Wall {
         (answer.kind, answer.value, answer.found)
     }
 
+    /// An accepted retire changes of library, log and control what `retire_by_hand` does.
+    pub fn retire(&mut self) -> Words {
+        let mut before = self.clone();
+        let answer = simulator::retire(&mut self.library, &mut self.log, &mut self.sessions, self.control);
+        self.control = answer.control;
+        if answer.kind == DONE {
+            before.retire_by_hand();
+        }
+        assert_eq!(*self, before, "the oldest transaction's records join the end of the free chain");
+        (answer.kind, answer.value, answer.found)
+    }
+
+    /// The index in bytes 12 to 13 or 14 to 15 of record r.
+    pub fn link(&self, r: u16, at: usize) -> u16 {
+        let at = UNIT * (usize::from(r) - 1) + at;
+        u16::from_le_bytes([self.log[at], self.log[at + 1]])
+    }
+
+    pub fn put_link(&mut self, r: u16, at: usize, to: u16) {
+        cart(&mut self.log, r)[at..at + 2].copy_from_slice(&to.to_le_bytes());
+    }
+
+    /// Each record of a chain has the index of the next one, and the last one 0.
+    pub fn put_links(&mut self, chain: &[u16], at: usize) {
+        for (r, to) in chain.iter().zip(chain.iter().skip(1).chain([&0])) {
+            self.put_link(*r, at, *to);
+        }
+    }
+
+    /// The records along the indexes at one place, from one on; 0 for none.
+    pub fn chain(&self, first: u32, at: usize) -> Vec<u16> {
+        let first = u16::try_from(first).unwrap();
+        let next = |r: &u16| Some(self.link(*r, at)).filter(|next| *next != 0);
+        let chain: Vec<u16> = std::iter::successors((first != 0).then_some(first), next).take(513).collect();
+        assert!(chain.len() <= 512, "the chain from {first} ends");
+        chain
+    }
+
+    /// The records of each transaction, the oldest first.
+    pub fn log_chain(&self) -> Vec<Vec<u16>> {
+        self.chain(self.control.oldest, 14).into_iter().map(|first| self.chain(first.into(), 12)).collect()
+    }
+
+    pub fn free_chain(&self) -> Vec<u16> {
+        self.chain(self.control.free_first, 12)
+    }
+
+    /// 02's words on a commit's records, in bytes.
+    fn append_by_hand(&mut self, operations: &[u8]) {
+        let mut taken = self.free_chain();
+        let rest = taken.split_off(operations.len() / UNIT);
+        for (r, operation) in taken.iter().zip(operations.chunks_exact(UNIT)) {
+            cart(&mut self.log, *r).copy_from_slice(operation);
+        }
+        self.put_links(&taken, 12);
+        match self.chain(self.control.oldest, 14).last() {
+            Some(last) => self.put_link(*last, 14, taken[0]),
+            None => self.control.oldest = taken[0].into(),
+        }
+        self.control.free_first = rest.first().map_or(0, |r| u32::from(*r));
+        self.control.free_last = rest.last().map_or(0, |r| u32::from(*r));
+        self.control.used += u32::try_from(taken.len()).unwrap();
+        self.control.commits += 1;
+    }
+
+    /// 02's words on a retire, in bytes. The effect on the sixth copy is that of the van's
+    /// receiver for the same transaction.
+    fn retire_by_hand(&mut self) {
+        let (retired, mut message) = (self.control.retired, [0; 644]);
+        let (kind, length, _) = self.van_write(retired + 1, &mut message);
+        let answer = simulator::van_receive(&mut self.library[5 * COPY..], retired, &message[..length as usize]);
+        assert_eq!((kind, answer.kind, answer.applied), (DONE, DONE, retired + 1));
+        let (records, next) = (self.chain(self.control.oldest, 12), self.link(self.control.oldest as u16, 14));
+        records.iter().for_each(|r| cart(&mut self.log, *r).fill(0));
+        let free = [self.free_chain(), records.clone()].concat();
+        self.put_links(&free, 12);
+        (self.control.free_first, self.control.free_last) = (free[0].into(), free[free.len() - 1].into());
+        self.control.used -= u32::try_from(records.len()).unwrap();
+        self.control.oldest = next.into();
+        self.control.retired += 1;
+    }
+
     pub fn van_write(&mut self, number: u32, output: &mut [u8]) -> Words {
         let (before, given) = (self.clone(), output.to_vec());
         let (library, log) = (&mut self.library, &mut self.log);
         let answer = simulator::van_write(library, log, &mut self.sessions, self.control, number, output);
         self.control = answer.control;
         assert_eq!(*self, before, "the writer changes neither memory nor control, accepted or refused");
-        if answer.kind == simulator::REFUSED {
+        if answer.kind == REFUSED {
             assert_eq!(output, given, "a refused writer leaves its output");
         }
         (answer.kind, answer.value, answer.found)
@@ -214,8 +304,8 @@ pub fn alike(case: &str, wall: &Wall, session: u32, operations: &[u8], words: Wo
 /// A row's number, and what brings a wall of few commits under it.
 pub type Fault = (u32, fn(&mut Wall));
 
-pub const FAULTS: [Fault; 15] = [
-    (1, |wall| wall.library.clear()),
+pub const FAULTS: [Fault; 23] = [
+    (1, |wall| wall.library.truncate(51_200)),
     (1, |wall| wall.log.truncate(40_959)),
     (1, |wall| wall.sessions.push(0)),
     (2, |wall| wall.library[480] = 2),
@@ -230,7 +320,32 @@ pub const FAULTS: [Fault; 15] = [
     (2, |wall| wall.control.commits = u32::MAX),
     (2, |wall| wall.control.sent[0] = wall.control.commits + 1),
     (2, |wall| wall.control.applied[3] = u32::MAX),
+    (2, |wall| wall.library[61_439] = 1),
+    (2, |wall| wall.library[51_200 + 480..51_200 + 560].copy_from_slice(&top_hour())),
+    (2, |wall| wall.control.retired = 1),
+    (2, |wall| wall.control.oldest = 0),
+    (2, |wall| wall.control.oldest += 65_536),
+    (2, |wall| wall.control.free_first = 512),
+    (2, |wall| wall.control.free_last = 0),
+    (2, |wall| wall.put_link(512, 12, 512)),
 ];
+
+/// A word of control, counted from 0.
+pub fn word(control: &mut Control, place: usize) -> &mut u32 {
+    match place {
+        0 => &mut control.studios,
+        1..=16 => &mut control.session_studios[place - 1],
+        17 => &mut control.used,
+        18 => &mut control.commits,
+        19..=22 => &mut control.sent[place - 19],
+        23..=26 => &mut control.applied[place - 23],
+        27 => &mut control.retired,
+        28 => &mut control.oldest,
+        29 => &mut control.free_first,
+        30 => &mut control.free_last,
+        _ => panic!("control has 31 words"),
+    }
+}
 
 /// A call that raises its session's number to commits changes bytes 2 and 3 of that
 /// session alone. All 16 sessions are in use, and the other ones but the last have a read
@@ -326,6 +441,94 @@ pub fn call(wall: &mut Wall, seed: u32) -> (u32, Words) {
         5 => (session, wall.read(session, &request, &mut output)),
         _ => (session, wall.forward(session, &request, &mut output)),
     }
+}
+
+/// 1 to 3 operations on few carts, or none. A few are out of form, or have a space at an
+/// end of the title.
+pub fn edits(seed: u32) -> Vec<[u8; UNIT]> {
+    let edit = |seed: u32| {
+        let number = [1, 7, 8, 128][seed as usize / 16 % 4];
+        match seed % 16 {
+            0..=4 => new(number, ["Bed", "News"][seed as usize / 64 % 2], 1 + seed, 1),
+            5..=8 => recut(number, 1 + seed, 2),
+            9..=11 => retitle(number, ["Bed", "Top hour A"][seed as usize / 64 % 2]),
+            12 | 13 => withdraw(number),
+            14 => retitle(number, "Bed "),
+            _ => recut(number, 0, 2),
+        }
+    };
+    let count = [1, 1, 2, 1, 3, 1, 0, 1][seed as usize % 8];
+    [seed / 8, seed / 32, seed / 128][..count].iter().map(|seed| edit(*seed)).collect()
+}
+
+/// One call of any kind but retire, for sessions 0 to 9 and studios 0 to S + 1, and what
+/// is in its output.
+pub fn any_output(wall: &mut Wall, seed: u32) -> (Words, Vec<u8>) {
+    let (session, studio, operations) = (seed / 16 % 10, seed / 160 % (wall.control.studios + 2), edits(seed / 128));
+    let request = [by_numbers(&[7, 8]), by_title("Bed"), by_numbers(&[128, 1]), [9; UNIT]][seed as usize / 512 % 4];
+    let mut output = vec![9; [160, 160, 160, 79][seed as usize / 2_048 % 4]];
+    let words = match seed % 16 {
+        0..=4 => wall.commit(session, &operations),
+        5 | 6 => wall.send(studio),
+        7 | 8 => wall.refresh(studio),
+        9 => wall.read(session, &request, &mut output),
+        10 => wall.forward(session, &request, &mut output),
+        11 | 12 => wall.collect(session, &mut output),
+        13 => wall.move_session(session, studio),
+        14 => wall.preview(session, &operations),
+        _ => wall.van_write(seed / 16 % 64, &mut output),
+    };
+    (words, output)
+}
+
+pub fn any_call(wall: &mut Wall, seed: u32) -> Words {
+    any_output(wall, seed).0
+}
+
+/// Whether the seed's call is to be a retire: one in eight.
+pub fn retires(seed: u32) -> bool {
+    seed >> 17 == 5
+}
+
+/// The wall's records under other indexes: record r is moved to place `order[r − 1]`.
+pub fn reordered(wall: &Wall, order: &[u16]) -> Wall {
+    let (mut left, to) = (wall.clone(), |r: u16| if r == 0 { 0 } else { order[usize::from(r) - 1] });
+    for r in 1..=512 {
+        cart(&mut left.log, to(r)).copy_from_slice(&wall.log[UNIT * (usize::from(r) - 1)..UNIT * usize::from(r)]);
+        left.put_link(to(r), 12, to(wall.link(r, 12)));
+        left.put_link(to(r), 14, to(wall.link(r, 14)));
+    }
+    for place in 28..=30 {
+        let word = word(&mut left.control, place);
+        *word = to(u16::try_from(*word).unwrap()).into();
+    }
+    left
+}
+
+/// The indexes 1 to 512 in another order.
+pub fn shuffled(seed: usize) -> Vec<u16> {
+    let mut order: Vec<u16> = (1..=512).collect();
+    for (place, seed) in (1..512).rev().zip(seeds().skip(seed)) {
+        order.swap(place, seed as usize % (place + 1));
+    }
+    order
+}
+
+/// The wall with so many transactions more, all of them retired: every count has risen.
+/// The sixth copy is as it was.
+pub fn aged(mut wall: Wall, more: u32) -> Wall {
+    let studios = wall.control.studios as usize;
+    wall.control.commits += more;
+    wall.control.retired += more;
+    for place in 0..studios {
+        wall.control.sent[place] += more;
+        wall.control.applied[place] += more;
+    }
+    let at = wall.control.session_studios;
+    for session in (1..=16).filter(|session| at[*session as usize - 1] != 0) {
+        wall.put_number(session, wall.number(session) + more);
+    }
+    wall
 }
 
 /// A copy of 128 carts with one title.
