@@ -6,7 +6,7 @@ use Prim.Native.Nat.{ℕ, _*_, _-_}
 use Rattle.carts.specs.Bytes.{zeros, over}
 use Rattle.replication.specs.Answer.{Answer, refused, done, waits, answered}
 use Rattle.replication.specs.Memory.{Memory}
-use Rattle.replication.specs.Calls.{After, after, setup, collect, write}
+use Rattle.replication.specs.Calls.{After, after, setup, collect, write, retire}
 use Rattle.replication.specs.declared.control.Control.{Control}
 use Rattle.replication.specs.declared.answer.SetupAnswer.{SetupAnswer}
 use Rattle.replication.specs.declared.answer.SetupAnswer.the-variants as Setup
@@ -24,7 +24,7 @@ use Rattle.report.specs.declared.turn.Came.the-variants as Came
 use Rattle.lines.specs.Text.{partIn}
 use Rattle.journal.specs.Progress.{requestIn}
 use Rattle.lines.specs.declared.parse.Call.{Call}
-use Rattle.calls.specs.Make.{Told, setUp, committed, previewed, sentOrRefreshed, looked, shown, unread, nothing, unwritten, received, moved, loaded, told, Made, made, leaves, outputIn, leavesIn, askLeaves, readOrForward, readLeaves, collectLeaves, Left, beside, copyAfter, setupLeaves, Delivery, delivery, delivered, vanLeaves, lineLeaves}
+use Rattle.calls.specs.Make.{Told, setUp, committed, previewed, sentOrRefreshed, looked, shown, unread, nothing, unwritten, received, moved, loaded, retired, told, Made, made, leaves, retireLeaves, outputIn, leavesIn, askLeaves, readOrForward, readLeaves, collectLeaves, Left, beside, copyAfter, setupLeaves, Delivery, delivery, delivered, vanLeaves, lineLeaves}
 
 -- the code's case for an answer that it can give
 setupBy : Answer → SetupAnswer
@@ -69,6 +69,7 @@ cameBy (unwritten a edit) = Came.Unwritten (rowIn a) edit
 cameBy (received a applied edit) = Came.Received (record { answer = receiveBy a; applied = applied }) edit
 cameBy (moved a session studio) = Came.Move (countBy a) session studio
 cameBy (loaded a) = Came.Load (countBy a)
+cameBy (retired a used) = Came.Retire (countBy a) used
 
 -- what came of a line is read back from what is told of it
 received-back : (a : ReceiveAnswer) → receiveBy (Received.receiveAnswer a) ≡ a
@@ -99,6 +100,8 @@ told-back (Came.Move (Count.Number n) session studio) = refl
 told-back (Came.Move (Count.Refused n) session studio) = refl
 told-back (Came.Load (Count.Number n)) = refl
 told-back (Came.Load (Count.Refused n)) = refl
+told-back (Came.Retire (Count.Number n) used) = refl
+told-back (Came.Retire (Count.Refused n) used) = refl
 
 -- two things that came of lines and are told alike are the same
 pub told-once : (x y : Came) → told x ≡ told y → x ≡ y
@@ -128,6 +131,10 @@ by-case c m v store payload block e f = f ∙ sym (ap (λ (z : Call). lineLeaves
 -- a call, told by its answer
 pub told-by : (tells : Answer → Told) {x y : After} → x ≡ y → leaves tells x [] ≡ leaves tells y []
 told-by tells e = ap (λ (x : After). leaves tells x []) e
+
+-- a retire, told with the records that are used after it
+pub retire-leaves : (c : Control) (m : Memory) {a : Answer} {c′ : Control} {m′ : Memory} → after a c′ m′ [] ≡ retire c m → made (retired a (c′ .used)) c′ m′ [] ≡ retireLeaves c m []
+retire-leaves c m e = ap (λ (x : After). leaves (λ y. retired y (x .control .used)) x []) e
 
 module _ (s : ℕ) {a : Answer} {c′ : Control} {m′ : Memory} {out : List ℕ} where
   -- the output in the rest of the block, after the request

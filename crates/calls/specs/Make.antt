@@ -4,9 +4,10 @@ use mathlib.Core.Bool.{Bool, true, false, cond}
 use mathlib.Core.List.{List}
 use Prim.Native.Nat.{ℕ, _+_, _*_, _-_}
 use Rattle.carts.specs.Bytes.{zeros, part, over}
+use Rattle.log.specs.Log.{recordSize, mostOperations}
 use Rattle.replication.specs.Answer.{Answer, refused, done, waits, answered, setupAnswer, countAnswer, readAnswer}
-use Rattle.replication.specs.Memory.{Memory, sessionCount, sessionSize, recordSize, mostOperations}
-use Rattle.replication.specs.Calls.{After, setup, commit, preview, send, refresh, read, collect, forward, write, move, load}
+use Rattle.replication.specs.Memory.{Memory, sessionCount, sessionSize}
+use Rattle.replication.specs.Calls.{After, setup, commit, preview, send, refresh, read, collect, forward, write, move, load, retire}
 use Rattle.replication.specs.declared.control.Control.{Control}
 use Rattle.van.specs.Message.{headSize}
 use Rattle.van.specs.Answer as Received
@@ -21,8 +22,8 @@ use Rattle.report.specs.declared.turn.Came.{Came}
 use Rattle.report.specs.declared.turn.Came.the-variants as Came
 
 -- what is told of a line: the answer and what its call named (studios; session and how many operations; studio and whether
--- it is a send; session; edit; session and studio; nothing), with the van's applied number after a message that was received, or that
--- it made no call
+-- it is a send; session; edit; session and studio; nothing), with the van's applied number after a message that was received and the
+-- records that the log uses after a retire, or that it made no call
 pub data Told : Type 0 where
   setUp : Answer → ℕ → Told
   committed : Answer → ℕ → ℕ → Told
@@ -36,6 +37,7 @@ pub data Told : Type 0 where
   received : Received.Answer → ℕ → ℕ → Told
   moved : Answer → ℕ → ℕ → Told
   loaded : Answer → Told
+  retired : Answer → ℕ → Told
 
 -- the code's cases, their answers as `Answer`; nothing is lost by it (proofs/MakeLaws.antt, `told-once`)
 abbrev pub told : Came → Told
@@ -51,6 +53,7 @@ told (Came.Unwritten row edit) = unwritten (refused row) edit
 told (Came.Received result edit) = received (Received.receiveAnswer (result .answer)) (result .applied) edit
 told (Came.Move a session studio) = moved (countAnswer a) session studio
 told (Came.Load a) = loaded (countAnswer a)
+told (Came.Retire a used) = retired (countAnswer a) used
 
 -- what a line leaves of the system: what is told of it, control, the three memories, and the block of a read ([] where none is lent)
 pub record Made : Type 0 where
@@ -65,6 +68,10 @@ made t c m block = record { told = t; control = c; memory = m; block = block }
 -- what a call leaves, told by its answer
 abbrev pub leaves : (Answer → Told) → After → List ℕ → Made
 leaves tells a block = made (tells (a .answer)) (a .control) (a .memory) block
+
+-- "a retire call, returning the count retired" (02, S-9): told with the records that the log uses after it
+abbrev pub retireLeaves : Control → Memory → List ℕ → Made
+retireLeaves c m block = let a = retire c m in leaves (λ x. retired x (a .control .used)) a block
 
 -- the output of a read is the rest of its block, after its request
 abbrev pub outputIn : List ℕ → List ℕ
@@ -137,7 +144,7 @@ vanLeaves c m v edit block =
     beside (d .copy) (made (d .told) (w .control) (w .memory) block)
 
 -- a line's call, with its bytes at the start of the payload and the requests of reads that wait in the store; a van beside it. The last are "a call
--- that moves a session to another studio" (02, S-7) and "a load call that tests it and returns commits" (S-8)
+-- that moves a session to another studio" (02, S-7), "a load call that tests it and returns commits" (S-8) and "a retire call" (S-9)
 unfoldable pub lineLeaves : Control → Memory → Van → List ℕ → Call → List ℕ → List ℕ → Left
 lineLeaves c m v store (Call.Setup studios) payload block = setupLeaves m (v .copy) studios (partIn payload 0 sessionCount) block
 lineLeaves c m v store (Call.Commit s n) payload block = beside (v .copy) (leaves (λ a. committed a s n) (commit c m s (partIn payload 0 (recordSize * n))) block)
@@ -152,3 +159,4 @@ lineLeaves c m v store Call.Nothing payload block = beside (v .copy) (made nothi
 lineLeaves c m v store (Call.Van edit) payload block = vanLeaves c m v edit block
 lineLeaves c m v store (Call.Move s i) payload block = beside (v .copy) (leaves (λ a. moved a s i) (move c m s i) block)
 lineLeaves c m v store Call.Load payload block = beside (v .copy) (leaves loaded (load c m) block)
+lineLeaves c m v store Call.Retire payload block = beside (v .copy) (retireLeaves c m block)

@@ -1,10 +1,10 @@
 // The van beside the system: fresh after a setup, and messages written at the head end and received by it.
 use carts::bytes;
 use lines::text;
+use log::record::Record;
 use replication::answer::CountAnswer;
 use replication::answer::SetupAnswer;
 use replication::control::Control;
-use replication::record::Record;
 use report::turn::Came;
 use report::turn::Turn;
 use van::message;

@@ -1,11 +1,11 @@
 // What came of a line, kept in the journal.
 use journal::progress::Progress;
 use lines::text;
+use log::record::Record;
 use replication::answer::CountAnswer;
 use replication::answer::CountResult;
 use replication::answer::ReadResult;
 use replication::answer::SetupResult;
-use replication::record::Record;
 use report::turn::Came;
 use report::turn::Turn;
 ghost use mathlib.Core.Path.{_≡_};
@@ -54,5 +54,6 @@ pub fn keep(
         Came::Received(result, _) => p.after_receive(control, result),
         Came::Move(answer, _, _) => p.after_count(CountResult { answer, control }),
         Came::Load(answer) => p.after_count(CountResult { answer, control }),
+        Came::Retire(answer, _) => p.after_count(CountResult { answer, control }),
     }
 }

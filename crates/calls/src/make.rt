@@ -5,6 +5,7 @@ use journal::history::Entry;
 use journal::progress;
 use lines::parse::Call;
 use lines::text;
+use log::record::Record;
 use replication::answer::ReadResult;
 use replication::collect::collect;
 use replication::commit::commit;
@@ -14,8 +15,8 @@ use replication::load::load;
 use replication::move_session::move_session;
 use replication::preview::preview;
 use replication::read::read;
-use replication::record::Record;
 use replication::refresh::refresh;
+use replication::retire::retire;
 use replication::send::send;
 use replication::session::Session;
 use replication::setup::setup;
@@ -27,13 +28,14 @@ ghost use mathlib.Core.List.{[]};
 ghost use Prim.Native.Nat.{_*_};
 ghost use lib.ListN.{length};
 ghost use Rattle.carts.specs.Cart.{copySize};
-ghost use Rattle.replication.specs.Memory.{memory, sessionCount, sessionSize, recordSize};
+ghost use Rattle.log.specs.Log.{recordSize};
+ghost use Rattle.replication.specs.Memory.{memory, sessionCount, sessionSize};
 ghost use Rattle.replication.specs.Answer.{readAnswer};
 ghost use Rattle.replication.specs.Calls.{after, commit, preview, send, refresh, move, load};
 ghost use Rattle.van.specs.Receive.{van};
 ghost use Rattle.lines.specs.Text.{partIn};
 ghost use Rattle.journal.specs.History.{mostBytes};
-ghost use Rattle.calls.specs.Make.{committed, previewed, sentOrRefreshed, moved, loaded, told, made, leaves, readOrForward, readLeaves, collectLeaves, beside, setupLeaves, lineLeaves};
+ghost use Rattle.calls.specs.Make.{committed, previewed, sentOrRefreshed, moved, loaded, told, made, leaves, retireLeaves, readOrForward, readLeaves, collectLeaves, beside, setupLeaves, lineLeaves};
 
 // A setup, with the studios of its sessions at the start of the payload, and the van beside it.
 fn make_setup(
@@ -256,6 +258,20 @@ fn make_load(control: Control, library: &[u8], log: &[u8], sessions: &[u8]) -> T
     }
 }
 
+// A retire, with the records that the log uses after it.
+fn make_retire(control: Control, library: &mut [u8], log: &mut [u8], sessions: &[u8]) -> Turn
+    ensures { λ r. ⌜ made (told (r .came)) (r .control) (memory (now (library .exit)) (now (log .exit)) (now (sessions .entry))) []
+        ≡ retireLeaves control (memory (now (library .entry)) (now (log .entry)) (now (sessions .entry))) [] ⌝ }
+{
+    let result = retire(control, library, log, sessions);
+    let answer = result.answer;
+    let left = result.control;
+    Turn {
+        came: Came::Retire(answer, left.used),
+        control: left,
+    }
+}
+
 // A line that makes no call.
 fn no_call(control: Control, came: Came) -> Turn
     ensures { λ r. ⌜ (r .came ≡ came) × (r .control ≡ control) ⌝ }
@@ -331,5 +347,6 @@ pub fn make(
             make_move(control, library, log, sessions, session, studio)
         }
         Call::Load => make_load(control, library, log, sessions),
+        Call::Retire => make_retire(control, library, log, sessions),
     }
 }

@@ -39,7 +39,7 @@ counted t Unreadable = record { accepted = t .accepted; waited = t .waited; refu
 
 -- before the first line: no system, no entry, and a fresh van
 unfoldable pub start : Progress
-start = record { line = 0; control = controlOf 0 (zeros sessionCount); history = emptyHistory; tally = record { accepted = 0; waited = 0; refused = 0; unreadable = 0; same = true }; «van_applied» = freshVan .applied }
+start = record { line = 0; control = controlOf 0 (zeros sessionCount) 0 0; history = emptyHistory; tally = record { accepted = 0; waited = 0; refused = 0; unreadable = 0; same = true }; «van_applied» = freshVan .applied }
 
 -- the entries of a system were compared: all are the same on the single library, or not
 unfoldable pub compared : Progress → Bool → Progress
@@ -82,7 +82,7 @@ unfoldable pub afterSetup : Progress → Control → SetupAnswer → Progress
 afterSetup p control Setup.Ready = withVan (stepped p control emptyHistory Accepted) (freshVan .applied)
 afterSetup p control (Setup.Refused n) = stepped p (p .control) (p .history) Refused
 
--- a call without an entry: a send, a refresh, a preview, a move, a load, or a message that could not be written
+-- a call without an entry: a send, a refresh, a preview, a move, a load, a retire, or a message that could not be written
 unfoldable pub afterCount : Progress → Control → CountAnswer → Progress
 afterCount p control (Count.Number n) = stepped p control (p .history) Accepted
 afterCount p control (Count.Refused n) = stepped p control (p .history) Refused

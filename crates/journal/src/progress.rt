@@ -102,7 +102,7 @@ impl Progress {
     {
         Progress {
             line: 0,
-            control: Control::new(0, [0; 16]),
+            control: Control::new(0, [0; 16], 0, 0),
             history: History::new(),
             tally: Tally {
                 accepted: 0,
@@ -196,7 +196,8 @@ impl Progress {
         }
     }
 
-    // A call without an entry was answered: a send, a refresh, a preview, a move, a load, or a message that could not be written.
+    // A call without an entry was answered: a send, a refresh, a preview, a move, a load, a retire, or a message that could not be
+    // written.
     pub fn after_count(self, result: CountResult) -> Progress
         ensures { λ r. ⌜ (r ≡ afterCount self (result .control) (result .answer)) × (r .history .entries ≤ self .history .entries) ⌝ }
     {

@@ -5,7 +5,7 @@ use mathlib.Core.List.{[], _∷_, _++_}
 use Rattle.carts.specs.Bytes.{zeros, u16Bytes, within, pairwise, every}
 use Rattle.carts.specs.Cart.{printable}
 use Rattle.lines.specs.declared.cursor.Mistake.the-variants.{UnknownWord, UnknownOperation, NumberMissing, NumberTooLarge, ColonMissing, AudioMissing, LengthMissing, ToMissing, TitleMissing, TitleOpen, TitleEmpty, TooManyOperations, TooManyNumbers, TooMuch}
-use Rattle.lines.specs.declared.parse.Call.the-variants.{Nothing, Show, Setup, Commit, Preview, Send, Refresh, Read, Collect, Move, Load, Van, Unreadable}
+use Rattle.lines.specs.declared.parse.Call.the-variants.{Nothing, Show, Setup, Commit, Preview, Send, Refresh, Read, Collect, Move, Load, Retire, Van, Unreadable}
 use Rattle.lines.specs.Text.{runLength, numeral, numberOf}
 use Rattle.lines.specs.Cursor.{pastWord, pastMark, numberAt, titleFrom, titleAt, isOver, endedAt}
 use Rattle.lines.specs.Words.{bytesOf}
@@ -22,6 +22,7 @@ pub record Calls : Type 0 where
   move : lineOf (bytesOf "move 1 to 2 # with the running order") ≡ line (Move 1 2) []
   move-anywhere : lineOf (bytesOf "move\t4294967295 to 0") ≡ line (Move 4294967295 0) []
   load : lineOf (bytesOf "\tload # after a restart") ≡ line Load []
+  retire : lineOf (bytesOf "retire\t# the week before last") ≡ line Retire []
   van : lineOf (bytesOf "van 4294967295 # no such edit") ≡ line (Van 4294967295) []
   by-numbers : lineOf (bytesOf "read 1: 7 300") ≡ line (Read 1 false) (1 ∷ 2 ∷ zeros 14 ++ (7 ∷ 0 ∷ 44 ∷ 1 ∷ zeros 60))
   by-title : lineOf (bytesOf "read 1: 'A \"B\"'") ≡ line (Read 1 false) (2 ∷ 5 ∷ zeros 14 ++ (65 ∷ 32 ∷ 34 ∷ 66 ∷ 34 ∷ zeros 59))
@@ -42,6 +43,7 @@ calls = record {
   move = refl;
   move-anywhere = refl;
   load = refl;
+  retire = refl;
   van = refl;
   by-numbers = refl;
   by-title = refl;
@@ -61,6 +63,7 @@ pub record Mistakes : Type 0 where
   move-nowhere : callOf (bytesOf "move 1 to") ≡ Unreadable NumberMissing 9
   move-two : callOf (bytesOf "move 1 to 2 3") ≡ Unreadable TooMuch 12
   load-number : callOf (bytesOf "load 5") ≡ Unreadable TooMuch 5
+  retire-number : callOf (bytesOf "retire 1") ≡ Unreadable TooMuch 7
   van-edits : callOf (bytesOf "van 1 2") ≡ Unreadable TooMuch 6
   colon-missing : callOf (bytesOf "read 1 7") ≡ Unreadable ColonMissing 7
   forward-unreadable : callOf (bytesOf "forward 1") ≡ Unreadable ColonMissing 9
@@ -86,6 +89,7 @@ mistakes = record {
   move-nowhere = refl;
   move-two = refl;
   load-number = refl;
+  retire-number = refl;
   van-edits = refl;
   colon-missing = refl;
   forward-unreadable = refl;

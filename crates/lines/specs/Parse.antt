@@ -15,7 +15,7 @@ use Rattle.lines.specs.declared.cursor.Taken.{Taken}
 use Rattle.lines.specs.declared.cursor.Quoted.{Quoted}
 use Rattle.lines.specs.declared.parse.Counted.{Counted}
 use Rattle.lines.specs.declared.parse.Call.{Call}
-use Rattle.lines.specs.declared.parse.Call.the-variants.{Nothing, Show, Setup, Commit, Preview, Send, Refresh, Read, Collect, Move, Load, Van, Unreadable}
+use Rattle.lines.specs.declared.parse.Call.the-variants.{Nothing, Show, Setup, Commit, Preview, Send, Refresh, Read, Collect, Move, Load, Retire, Van, Unreadable}
 use Rattle.lines.specs.Text.{inClass}
 use Rattle.lines.specs.Cursor.{newAt, movedTo, stoppedBy, nextPlace, nextByte, nextWord, wordEnd, pastWord, pastMark, numberAt, titleAt, lettersOf, isOver, endedAt}
 use Rattle.lines.specs.Build.{operationBytes, numbersBytes, studioBytes, mostNumbers, mostStudios}
@@ -153,7 +153,8 @@ numberCallAt s c word =
     (cond (says word "van") (wholeCall s (n .cursor) (Van (n .value)))
     (Unreadable UnknownWord 0))))
 
--- a line, by its first word; show and load, "a load call that tests it" (02, S-8), have nothing after it
+-- a line, by its first word; show, load, "a load call that tests it" (02, S-8), and retire, "a retire call, returning the count
+-- retired" (S-9), have nothing after it
 unfoldable pub lineOf : List ℕ → Line
 lineOf s =
     let c = newAt 0 in
@@ -168,7 +169,8 @@ lineOf s =
     (cond (says word "forward") (readAt s next true)
     (cond (says word "move") (line (moveAt s next) [])
     (cond (says word "load") (line (wholeCall s next Load) [])
-    (line (numberCallAt s next word) [])))))))))
+    (cond (says word "retire") (line (wholeCall s next Retire) [])
+    (line (numberCallAt s next word) []))))))))))
 
 -- memory whose start is these bytes or numbers, the rest of it as it was
 abbrev pub begunWith : List ℕ → List ℕ → List ℕ
@@ -194,6 +196,7 @@ callFits (Read s forwards) = Unit {0}
 callFits (Collect n) = Unit {0}
 callFits (Move s i) = Unit {0}
 callFits Load = Unit {0}
+callFits Retire = Unit {0}
 callFits (Van n) = Unit {0}
 callFits (Unreadable m at) = Unit {0}
 

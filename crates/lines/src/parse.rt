@@ -31,6 +31,7 @@ pub enum Call {
     Collect(u32),
     Move { session: u32, studio: u32 },
     Load,
+    Retire,
     Van(u32),
     Unreadable { mistake: Mistake, at: usize },
 }
@@ -352,6 +353,9 @@ pub fn parse(s: &[u8], payload: &mut [u8]) -> Call
     }
     if text::same(word, b"load") {
         return whole(s, next, Call::Load);
+    }
+    if text::same(word, b"retire") {
+        return whole(s, next, Call::Retire);
     }
     by_number(s, next, word)
 }

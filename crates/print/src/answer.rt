@@ -236,6 +236,20 @@ pub fn loaded(answer: CountAnswer) {
     }
 }
 
+fn retired_edit(edit: u32, used: u32) {
+    let mut page = io::buffer();
+    let n = words::answer::retired(&mut page, edit, used);
+    line::told(&page, n);
+}
+
+// What a retire answered, with the records that the log uses after it.
+pub fn retired(answer: CountAnswer, used: u32) {
+    match answer {
+        CountAnswer::Number(edit) => retired_edit(edit, used),
+        CountAnswer::Refused(row) => refusals::print::refusal(row),
+    }
+}
+
 fn van_applied(edit: u32) {
     let mut page = io::buffer();
     let n = words::answer::van_applied(&mut page, edit);

@@ -2,9 +2,9 @@
 use crate::answer;
 use journal::progress::Progress;
 use lines::text;
+use log::record::Record;
 use replication::answer::CountAnswer;
 use replication::answer::SetupAnswer;
-use replication::record::Record;
 use report::show;
 use report::turn::Came;
 ghost use Prim.Native.Nat.{_≤_};
@@ -38,8 +38,8 @@ fn tell_edit(
     answer::edited(previews, answer, library, session, ops);
 }
 
-// A read, a collect, a forward, a move or a load was answered, a line shows the state or cannot be read, or an edit's message was not
-// written or was received; with the van's copy.
+// A read, a collect, a forward, a move, a load or a retire was answered, a line shows the state or cannot be read, or an edit's message
+// was not written or was received; with the van's copy.
 fn tell_other(
     before: Progress,
     came: Came,
@@ -57,6 +57,7 @@ fn tell_other(
         Came::Received(result, edit) => answer::received(result, edit),
         Came::Move(answer, session, studio) => answer::moved(answer, control, session, studio),
         Came::Load(answer) => answer::loaded(answer),
+        Came::Retire(answer, used) => answer::retired(answer, used),
         _ => {}
     }
 }

@@ -22,10 +22,15 @@ noSessionText previews session = leadOf previews ++ numbered "refused (3): there
 unfoldable pub noStudioText : ℕ → List ℕ
 noStudioText studio = numbered "  refused (3): there is no studio " studio ++ bytesOf "\n"
 
--- refusal 17 at the van's writer, "a number outside 1 to commits"; refusal 18 at the receiver, "a number above applied + 1" (02, S-6)
+-- refusal 17 at the van's writer, "a number outside 1 to commits" (02, S-6)
 unfoldable pub noEditText : ℕ → List ℕ
 noEditText edit = numbered "  refused (17): there is no edit " edit ++ bytesOf "\n"
 
+-- refusal 21 at the van's writer, "number retired" (02, S-9)
+unfoldable pub retiredEditText : ℕ → List ℕ
+retiredEditText edit = numbered "  refused (21): edit " edit ++ bytesOf " is retired, and its message can no longer be written\n"
+
+-- refusal 18 at the van's receiver, "a number above applied + 1" (02, S-6)
 unfoldable pub aheadText : ℕ → ℕ → List ℕ
 aheadText applied edit = bytesOf "  refused (18): the van has applied " ++ countOf applied (bytesOf "edit") ++ numbered ", and edit " edit ++ bytesOf " is not the next\n"
 

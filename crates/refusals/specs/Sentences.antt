@@ -16,7 +16,7 @@ refusalSentence n =
     (cond (eqb n 4) (bytesOf "a read of this session is waiting; collect it first")
     (cond (eqb n 5) (bytesOf "a commit has one to eight operations")
     (cond (eqb n 6) (bytesOf "an operation is out of form: cart 1 to 128, title of 1 to 64 letters, audio and length at least 1")
-    (cond (eqb n 7) (bytesOf "the log has no room for these operations")
+    (cond (eqb n 7) (bytesOf "the log has no room for these operations until edits are retired, or all 65,535 edit numbers are used")
     (cond (eqb n 8) (bytesOf "an operation meets its cart in the wrong state: new asks for an empty cart, the others for a held one")
     (cond (eqb n 9) (bytesOf "every edit has been sent to this studio")
     (cond (eqb n 10) (bytesOf "32 edits have been sent to this studio and not applied")
@@ -29,12 +29,14 @@ refusalSentence n =
     (cond (eqb n 17) (bytesOf "there is no such edit, or a message or the van's copy is out of form")
     (cond (eqb n 18) (bytesOf "the van has not applied the edit before this one")
     (cond (eqb n 19) (bytesOf "a copy is not what the log's edits make, or an operation in the log met its cart in the wrong state")
-    (bytesOf "unknown")))))))))))))))))))
+    (cond (eqb n 20) (bytesOf "the log has no edit to retire, or a studio has not applied the oldest one; refresh that studio first")
+    (cond (eqb n 21) (bytesOf "the edit is retired, and its message can no longer be written")
+    (bytesOf "unknown")))))))))))))))))))))
 
 -- what is wrong with a line
 abbrev pub mistakeSentence : Mistake → List ℕ
 mistakeSentence None = bytesOf "nothing is wrong"
-mistakeSentence UnknownWord = bytesOf "the line begins with none of setup, commit, preview, send, refresh, read, collect, forward, move, load, van, show"
+mistakeSentence UnknownWord = bytesOf "the line begins with none of setup, commit, preview, send, refresh, read, collect, forward, move, load, retire, van, show"
 mistakeSentence UnknownOperation = bytesOf "an operation begins with new, retitle, re-cut or withdraw"
 mistakeSentence NumberMissing = bytesOf "a number is missing"
 mistakeSentence NumberTooLarge = bytesOf "a number is too large"

@@ -18,7 +18,7 @@ fn put_reason(out: &mut [u8], at: usize, mistake: Mistake) -> usize
         Mistake::UnknownWord => page::put(
             out,
             at,
-            b"the line begins with none of setup, commit, preview, send, refresh, read, collect, forward, move, load, van, show",
+            b"the line begins with none of setup, commit, preview, send, refresh, read, collect, forward, move, load, retire, van, show",
         ),
         Mistake::UnknownOperation => page::put(
             out,

@@ -41,15 +41,20 @@ pub fn refusal_of_studio(row: u32, studio: u32) {
     line::told(&page, n);
 }
 
-// Refusal 17 of the van's writer names the edit.
+// Refusals 17 and 21 of the van's writer name the edit.
 pub fn refusal_of_edit(row: u32, edit: u32) {
-    if row != 17 {
-        refusal(row);
+    let mut page = io::buffer();
+    if row == 17 {
+        let n = refusal::no_edit(&mut page, edit);
+        line::told(&page, n);
         return;
     }
-    let mut page = io::buffer();
-    let n = refusal::no_edit(&mut page, edit);
-    line::told(&page, n);
+    if row == 21 {
+        let n = refusal::retired_edit(&mut page, edit);
+        line::told(&page, n);
+        return;
+    }
+    refusal(row);
 }
 
 // Refusal 18 of the van's receiver names the edit, and how many the van has applied.

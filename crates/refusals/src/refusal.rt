@@ -5,7 +5,7 @@ ghost use Prim.Native.Nat.{_+_, _<_, _≤_};
 ghost use lib.ListN.{length};
 ghost use Rattle.words.specs.Page.{pageSize, Put, Told};
 ghost use Rattle.refusals.specs.Sentences.{refusalSentence};
-ghost use Rattle.refusals.specs.Refusals.{leadOf, refusalText, noSessionText, noStudioText, noEditText, aheadText, atOperationText};
+ghost use Rattle.refusals.specs.Refusals.{leadOf, refusalText, noSessionText, noStudioText, noEditText, retiredEditText, aheadText, atOperationText};
 
 // What refusals 1 to 3 mean; there is no refusal 0.
 fn put_to_3(out: &mut [u8], at: usize, n: u32) -> usize
@@ -35,7 +35,7 @@ fn put_to_7(out: &mut [u8], at: usize, n: u32) -> usize
         b"a read of this session is waiting; collect it first",
         b"a commit has one to eight operations",
         b"an operation is out of form: cart 1 to 128, title of 1 to 64 letters, audio and length at least 1",
-        b"the log has no room for these operations",
+        b"the log has no room for these operations until edits are retired, or all 65,535 edit numbers are used",
     )
 }
 
@@ -87,6 +87,22 @@ fn put_to_19(out: &mut [u8], at: usize, n: u32) -> usize
     )
 }
 
+// What refusals 20 and 21 mean; 22 and 23 are given to no refusal yet.
+fn put_to_23(out: &mut [u8], at: usize, n: u32) -> usize
+    requires { ⌜ (at + 128 ≤ length (now out)) × (20 ≤ n) × (n < 24) ⌝ }
+    ensures { λ r. ⌜ Put (refusalSentence n) (now (out .entry)) at (now (out .exit)) r × (r ≤ at + 128) ⌝ }
+{
+    page::put_one_of(
+        out,
+        at,
+        n - 20,
+        b"the log has no edit to retire, or a studio has not applied the oldest one; refresh that studio first",
+        b"the edit is retired, and its message can no longer be written",
+        b"unknown",
+        b"unknown",
+    )
+}
+
 // What a refusal means.
 fn put_sentence(out: &mut [u8], at: usize, n: u32) -> usize
     requires { ⌜ at + 128 ≤ length (now out) ⌝ }
@@ -106,6 +122,9 @@ fn put_sentence(out: &mut [u8], at: usize, n: u32) -> usize
     }
     if n < 20 {
         return put_to_19(out, at, n);
+    }
+    if n < 24 {
+        return put_to_23(out, at, n);
     }
     page::put(out, at, b"unknown")
 }
@@ -161,6 +180,20 @@ pub fn no_edit(out: &mut [u8], edit: u32) -> usize
     ensures { λ r. ⌜ Told (noEditText edit) (now (out .entry)) (now (out .exit)) r ⌝ }
 {
     page::put_between(out, 0, b"  refused (17): there is no edit ", edit, b"\n")
+}
+
+// Refusal 21 of a retired edit, whose message cannot be written.
+pub fn retired_edit(out: &mut [u8], edit: u32) -> usize
+    requires { ⌜ length (now out) ≡ pageSize ⌝ }
+    ensures { λ r. ⌜ Told (retiredEditText edit) (now (out .entry)) (now (out .exit)) r ⌝ }
+{
+    page::put_between(
+        out,
+        0,
+        b"  refused (21): edit ",
+        edit,
+        b" is retired, and its message can no longer be written\n",
+    )
 }
 
 // Refusal 18 of the message of an edit, by a van that has applied so many.

@@ -1,6 +1,6 @@
 -- The lines that tell carts, the state and the whole transcript.
 use mathlib.Core.Bool.{cond}
-use mathlib.Core.List.{List, _++_}
+use mathlib.Core.List.{List, [], _++_}
 use Prim.Native.Nat.{ℕ}
 use lib.Dec.{eqb}
 use Rattle.carts.specs.Bytes.{byte, u16}
@@ -29,12 +29,16 @@ emptyText n = numbered "    cart " n ++ bytesOf " is empty\n"
 unfoldable pub noCartText : List ℕ
 noCartText = bytesOf "    no cart is held\n"
 
--- there is no system; the head end's counts; a studio's counts
+-- there is no system; the head end's counts, of its edits also how many are retired (02, S-9), where any are; a studio's counts
 unfoldable pub noSystemText : List ℕ
 noSystemText = bytesOf "  there is no system yet\n"
 
-unfoldable pub headText : ℕ → ℕ → List ℕ
-headText commits used = bytesOf "  head end: " ++ countOf commits (bytesOf "edit") ++ numbered ", " used ++ bytesOf " of 512 log records\n"
+unfoldable pub retiredPart : ℕ → List ℕ
+retiredPart retired = cond (eqb retired 0) [] (numbered ", " retired ++ bytesOf " retired")
+
+unfoldable pub headText : ℕ → ℕ → ℕ → List ℕ
+headText commits retired used =
+    bytesOf "  head end: " ++ countOf commits (bytesOf "edit") ++ retiredPart retired ++ numbered ", " used ++ bytesOf " of 512 log records\n"
 
 unfoldable pub studioText : ℕ → ℕ → ℕ → ℕ → List ℕ
 studioText i sent applied behind = numbered "  studio " i ++ numbered ": sent " sent ++ numbered ", applied " applied ++ behindText behind ++ bytesOf "\n"

@@ -124,7 +124,7 @@ pub fn show(control: Control, library: &[u8], sessions: &[u8], copy: &[u8], appl
         line::told(&page, n);
         return;
     }
-    let n = state::head_end(&mut page, control.commits, control.used);
+    let n = state::head_end(&mut page, control.commits, control.retired, control.used);
     line::told(&page, n);
     carts_of(library, 0);
     studios(control, library);

@@ -8,7 +8,7 @@ ghost use Prim.Native.Nat.{_+_, _≤_};
 ghost use lib.ListN.{length};
 ghost use Rattle.carts.specs.Cart.{cartSize};
 ghost use Rattle.words.specs.Page.{pageSize, Put, Told};
-ghost use Rattle.report.specs.Lines.{noSystemText, headText, studioText, vanText, untilText, waitingText, stillWaitingText, sessionText};
+ghost use Rattle.report.specs.Lines.{noSystemText, retiredPart, headText, studioText, vanText, untilText, waitingText, stillWaitingText, sessionText};
 
 // There is no system.
 pub fn no_system(out: &mut [u8]) -> usize
@@ -18,13 +18,25 @@ pub fn no_system(out: &mut [u8]) -> usize
     page::put(out, 0, b"  there is no system yet\n")
 }
 
+// How many edits are retired, where any are.
+fn put_retired(out: &mut [u8], at: usize, retired: u32) -> usize
+    requires { ⌜ at + 32 ≤ length (now out) ⌝ }
+    ensures { λ r. ⌜ Put (retiredPart retired) (now (out .entry)) at (now (out .exit)) r × (r ≤ at + 32) ⌝ }
+{
+    if retired == 0 {
+        return at;
+    }
+    page::put_between(out, at, b", ", retired, b" retired")
+}
+
 // The head end's counts.
-pub fn head_end(out: &mut [u8], commits: u32, used: u32) -> usize
+pub fn head_end(out: &mut [u8], commits: u32, retired: u32, used: u32) -> usize
     requires { ⌜ length (now out) ≡ pageSize ⌝ }
-    ensures { λ r. ⌜ Told (headText commits used) (now (out .entry)) (now (out .exit)) r ⌝ }
+    ensures { λ r. ⌜ Told (headText commits retired used) (now (out .entry)) (now (out .exit)) r ⌝ }
 {
     let a = page::put_counted(out, 0, b"  head end: ", commits, b"edit");
-    page::put_between(out, a, b", ", used, b" of 512 log records\n")
+    let b = put_retired(out, a, retired);
+    page::put_between(out, b, b", ", used, b" of 512 log records\n")
 }
 
 // A studio's counts, and how many edits its copy is behind the head end.

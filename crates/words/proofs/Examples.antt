@@ -5,7 +5,7 @@ use Rattle.carts.specs.Bytes.{within}
 use Rattle.carts.specs.Cart.{printable}
 use Rattle.lines.specs.Words.{bytesOf}
 use Rattle.words.specs.Page.{digitsOf, decimal, countOf, hexDigit, shownByte, shownTo, shown}
-use Rattle.words.specs.Answers.{freshText, previewedText, sentText, behindText, answeredText, headEndText, movedText, wholeText, vanAppliedText, vanHoldsText}
+use Rattle.words.specs.Answers.{freshText, previewedText, sentText, behindText, answeredText, headEndText, movedText, wholeText, freeText, retiredText, vanAppliedText, vanHoldsText}
 
 pub record Numbers : Type 0 where
   zero : decimal 0 ≡ bytesOf "0"
@@ -38,12 +38,15 @@ pub record Answers : Type 0 where
   moved : movedText 1 2 ≡ bytesOf "  session 1 is at studio 2\n"
   whole : wholeText 5 ≡ bytesOf "  the wall is whole at edit 5\n"
   whole-fresh : wholeText 0 ≡ bytesOf "  the wall is whole at edit 0\n"
+  retired : retiredText 1 1 ≡ bytesOf "  edit 1 is retired, 511 records are free\n"
+  retired-from-full : retiredText 65535 511 ≡ bytesOf "  edit 65535 is retired, 1 record is free\n"
+  retired-all : retiredText 3 0 ≡ bytesOf "  edit 3 is retired, 512 records are free\n"
   van-applied : vanAppliedText 3 ≡ bytesOf "  the van has applied edit 3\n"
   van-holds : vanHoldsText 3 ≡ bytesOf "  the van holds edit 3 already\n"
   bytes-shown : shown (99 ∷ 9 ∷ 195 ∷ 10 ∷ []) ≡ bytesOf "c\t\\xC3\\x0A"
 
 pub answers : Answers
-unfolding within printable digitsOf decimal countOf hexDigit shownByte shownTo shown freshText previewedText sentText behindText answeredText headEndText movedText wholeText vanAppliedText vanHoldsText
+unfolding within printable digitsOf decimal countOf hexDigit shownByte shownTo shown freshText previewedText sentText behindText answeredText headEndText movedText wholeText freeText retiredText vanAppliedText vanHoldsText
 answers = record {
   fresh = refl;
   previewed = refl;
@@ -54,6 +57,9 @@ answers = record {
   moved = refl;
   whole = refl;
   whole-fresh = refl;
+  retired = refl;
+  retired-from-full = refl;
+  retired-all = refl;
   van-applied = refl;
   van-holds = refl;
   bytes-shown = refl;

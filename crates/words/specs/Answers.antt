@@ -1,7 +1,7 @@
 -- The lines that tell what came of an accepted call.
 use mathlib.Core.Bool.{cond}
 use mathlib.Core.List.{List, _++_}
-use Prim.Native.Nat.{ℕ}
+use Prim.Native.Nat.{ℕ, _-_}
 use lib.Dec.{eqb}
 use Rattle.lines.specs.Words.{bytesOf}
 use Rattle.words.specs.Page.{numbered, countOf}
@@ -61,6 +61,15 @@ movedText session studio = numbered "  session " session ++ numbered " is at stu
 -- a load was accepted: the wall is tested, and it "returns commits" (02, S-8)
 unfoldable pub wholeText : ℕ → List ℕ
 wholeText n = numbered "  the wall is whole at edit " n ++ bytesOf "\n"
+
+-- how many of the log's 512 records are free
+unfoldable pub freeText : ℕ → List ℕ
+freeText free = bytesOf ", " ++ countOf free (bytesOf "record") ++ cond (eqb free 1) (bytesOf " is free\n") (bytesOf " are free\n")
+
+-- a retire was accepted, "returning the count retired" (02, S-9), which is the number of the edit that was retired; with the records that the log
+-- uses after it
+unfoldable pub retiredText : ℕ → ℕ → List ℕ
+retiredText n used = numbered "  edit " n ++ bytesOf " is retired" ++ freeText (512 - used)
 
 -- the van "applies number applied + 1 and returns it", or "answers a number already applied as held" (02, S-6)
 unfoldable pub vanAppliedText : ℕ → List ℕ

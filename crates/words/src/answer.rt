@@ -6,7 +6,7 @@ ghost use lib.ListN.{length};
 ghost use mathlib.Core.List.{_++_};
 ghost use Rattle.lines.specs.Words.{bytesOf};
 ghost use Rattle.words.specs.Page.{pageSize, Put, Told, decimal, numbered};
-ghost use Rattle.words.specs.Answers.{freshText, endedText, goesOnText, committedText, previewedText, sentText, appliedText, behindText, answeredText, headEndText, waitsText, untitledText, severalText, movedText, wholeText, vanAppliedText, vanHoldsText};
+ghost use Rattle.words.specs.Answers.{freshText, endedText, goesOnText, committedText, previewedText, sentText, appliedText, behindText, answeredText, headEndText, waitsText, untitledText, severalText, movedText, wholeText, freeText, retiredText, vanAppliedText, vanHoldsText};
 
 // A setup was accepted.
 pub fn fresh(out: &mut [u8], studios: u32) -> usize
@@ -159,6 +159,37 @@ pub fn whole(out: &mut [u8], n: u32) -> usize
     ensures { λ r. ⌜ Told (wholeText n) (now (out .entry)) (now (out .exit)) r ⌝ }
 {
     page::put_between(out, 0, b"  the wall is whole at edit ", n, b"\n")
+}
+
+// How many of the log's 512 records are free.
+fn free_records(used: u32) -> u32
+    ensures { λ r. ⌜ r ≡ 512 - used ⌝ }
+{
+    if used < 512 {
+        return 512 - used;
+    }
+    0
+}
+
+// So many records are free, in words, and the line's end.
+fn put_free(out: &mut [u8], at: usize, free: u32) -> usize
+    requires { ⌜ at + 64 ≤ length (now out) ⌝ }
+    ensures { λ r. ⌜ Put (freeText free) (now (out .entry)) at (now (out .exit)) r ⌝ }
+{
+    let a = page::put_counted(out, at, b", ", free, b"record");
+    if free == 1 {
+        return page::put(out, a, b" is free\n");
+    }
+    page::put(out, a, b" are free\n")
+}
+
+// A retire was accepted: an edit, and the records that the log uses after it.
+pub fn retired(out: &mut [u8], n: u32, used: u32) -> usize
+    requires { ⌜ length (now out) ≡ pageSize ⌝ }
+    ensures { λ r. ⌜ Told (retiredText n used) (now (out .entry)) (now (out .exit)) r ⌝ }
+{
+    let a = page::put_between(out, 0, b"  edit ", n, b" is retired");
+    put_free(out, a, free_records(used))
 }
 
 // The van has applied the edit of a message.

@@ -82,6 +82,12 @@ enum-known-came-9 c = search needs
 after-count-requires-5 : tie.Need-after-count-requires-5
 after-count-requires-5 c κs = search needs
 
+enum-known-came-10 : tie.Need-enum-known-came-10
+enum-known-came-10 c = search needs
+
+after-count-requires-6 : tie.Need-after-count-requires-6
+after-count-requires-6 c κs = search needs
+
 returns : tie.Need-returns
 unfolding cameKept
 returns c = let s = c .before .before .before .before .before .before .before .before .before in
@@ -162,6 +168,11 @@ unfolding cameKept
 returns-12 c = let s = c .before .before .before .before .before .before .before .before .before in
     (by-came _ _ _ _ _ _ (c .before .before .came9 .given .1) (same-entries (s .args .cells .now) (s .args .store .now) (c .after-count5 .ensures .0)), omega (arith, c .after-count5 .ensures .1, s .pre .1))
 
+returns-13 : tie.Need-returns-13
+unfolding cameKept
+returns-13 c = let s = c .before .before .before .before .before .before .before .before .before in
+    (by-came _ _ _ _ _ _ (c .before .before .came10 .given .1) (same-entries (s .args .cells .now) (s .args .store .now) (c .after-count6 .ensures .0)), omega (arith, c .after-count6 .ensures .1, s .pre .1))
+
 pub keep-spec : {M : Type 1} → statement M
 keep-spec =
     tie.close
@@ -191,6 +202,8 @@ keep-spec =
     after-count-requires-4
     enum-known-came-9
     after-count-requires-5
+    enum-known-came-10
+    after-count-requires-6
     returns
     same-length
     same-length-2
@@ -206,4 +219,5 @@ keep-spec =
     returns-9
     returns-10
     returns-11
-    returns-12)
+    returns-12
+    returns-13)

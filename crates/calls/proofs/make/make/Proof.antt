@@ -82,6 +82,12 @@ enum-told-3 c = search needs
 make-load-requires : tie.Need-make-load-requires
 make-load-requires c κs = search needs
 
+enum-told-4 : tie.Need-enum-told-4
+enum-told-4 c = search needs
+
+make-retire-requires : tie.Need-make-retire-requires
+make-retire-requires c κs = search needs
+
 same-length : tie.Need-same-length
 same-length c = search needs
 
@@ -262,6 +268,22 @@ returns-13 c = let told = c .before .before .before .before in
     let start = told .before .before .before .before .before .before .before .before .before in
     by-case _ _ _ _ _ _ (told .enum-told3 .given .1) (with-block (start .args .copy .now) (start .args .block .now) (c .make-load .ensures))
 
+same-length-35 : tie.Need-same-length-35
+same-length-35 c = search needs
+
+same-length-36 : tie.Need-same-length-36
+same-length-36 c = search needs
+
+same-length-37 : tie.Need-same-length-37
+same-length-37 c = search needs
+
+returns-14 : tie.Need-returns-14
+unfolding lineLeaves
+returns-14 c = let called = c .before .before .before .before in
+    let told = called .before .before .before .before in
+    let start = told .before .before .before .before .before .before .before .before .before in
+    by-case _ _ _ _ _ _ (told .enum-told4 .given .1) (with-block (start .args .copy .now) (start .args .block .now) (called .make-retire .ensures))
+
 pub make-spec : {M : Type 1} → statement M
 make-spec =
     tie.close
@@ -292,6 +314,8 @@ make-spec =
     make-move-requires
     enum-told-3
     make-load-requires
+    enum-told-4
+    make-retire-requires
     same-length
     same-length-2
     same-length-3
@@ -338,4 +362,8 @@ make-spec =
     same-length-32
     same-length-33
     same-length-34
-    returns-13)
+    returns-13
+    same-length-35
+    same-length-36
+    same-length-37
+    returns-14)

@@ -1,7 +1,7 @@
 use mathlib.Core.Path.{_≡_, refl, sym, _∙_}
 use mathlib.Core.Bool.{true, false, cond}
 use mathlib.Core.List.{[]}
-use Rattle.lines.specs.declared.parse.Call.the-variants.{Nothing, Show, Load}
+use Rattle.lines.specs.declared.parse.Call.the-variants.{Nothing, Show, Load, Retire}
 use Rattle.lines.specs.Cursor.{newAt, movedTo, nextWord, wordEnd, isOver}
 use Rattle.lines.specs.Parse.{line, lineOf, wholeCall, moveAt, numberCallAt}
 use Rattle.lines.specs.Words.{says}
@@ -138,7 +138,7 @@ later : (c : tie.Else7) →
     let s = start .args .s .now in
     let first = at-past-word .before .peek-word .result .now in
     let past = at-past-word .past-word .result in
-    lineOf s ≡ cond (says first "move") (line (moveAt s past) []) (cond (says first "load") (line (wholeCall s past Load) []) (line (numberCallAt s past first) []))
+    lineOf s ≡ cond (says first "move") (line (moveAt s past) []) (cond (says first "load") (line (wholeCall s past Load) []) (cond (says first "retire") (line (wholeCall s past Retire) []) (line (numberCallAt s past first) [])))
 unfolding lineOf
 later else7 =
     let else6 = else7 .before .before .before in
@@ -179,15 +179,32 @@ returns-9 c =
     line-means _ (line (wholeCall _ _ Load) []) _ _ _ (record { call = c .whole2 .ensures .0; payload = refl; fits = c .whole2 .ensures .1 })
     (rw (later (else8 .before .before .before), ← else8 .before .same7 .ensures, else8 .if8 .left, ← c .before .before .same8 .ensures, c .before .if9 .taken))
 
-by-number-requires : tie.Need-by-number-requires
-by-number-requires c κs = search needs
+slice-aggregate-same-9 : tie.Need-slice-aggregate-same-9
+slice-aggregate-same-9 c = search needs
+
+same-requires-9 : tie.Need-same-requires-9
+same-requires-9 c κs = search needs
+
+whole-requires-3 : tie.Need-whole-requires-3
+whole-requires-3 c κs = search needs
 
 returns-10 : tie.Need-returns-10
 returns-10 c =
-    let else9 = c .before in
+    let else9 = c .before .before .before .before in
+    let else8 = else9 .before .before .before in
+    line-means _ (line (wholeCall _ _ Retire) []) _ _ _ (record { call = c .whole3 .ensures .0; payload = refl; fits = c .whole3 .ensures .1 })
+    (rw (later (else8 .before .before .before), ← else8 .before .same7 .ensures, else8 .if8 .left, ← else9 .before .same8 .ensures, else9 .if9 .left, ← c .before .before .same9 .ensures, c .before .if10 .taken))
+
+by-number-requires : tie.Need-by-number-requires
+by-number-requires c κs = search needs
+
+returns-11 : tie.Need-returns-11
+returns-11 c =
+    let else10 = c .before in
+    let else9 = else10 .before .before .before in
     let else8 = else9 .before .before .before in
     line-means _ (line (numberCallAt _ _ _) []) _ _ _ (record { call = c .by-number .ensures .0; payload = refl; fits = c .by-number .ensures .1 })
-    (rw (later (else8 .before .before .before), ← else8 .before .same7 .ensures, else8 .if8 .left, ← else9 .before .same8 .ensures, else9 .if9 .left))
+    (rw (later (else8 .before .before .before), ← else8 .before .same7 .ensures, else8 .if8 .left, ← else9 .before .same8 .ensures, else9 .if9 .left, ← else10 .before .same9 .ensures, else10 .if10 .left))
 
 pub parse-spec : {M : Type 1} → statement M
 parse-spec =
@@ -235,5 +252,9 @@ parse-spec =
     same-requires-8
     whole-requires-2
     returns-9
+    slice-aggregate-same-9
+    same-requires-9
+    whole-requires-3
+    returns-10
     by-number-requires
-    returns-10)
+    returns-11)

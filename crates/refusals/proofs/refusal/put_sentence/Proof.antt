@@ -49,17 +49,26 @@ same-length-5 c = search needs
 returns-5 : tie.Need-returns-5
 returns-5 c = search needs
 
+put-to-23-requires : tie.Need-put-to-23-requires
+put-to-23-requires c κs = search needs
+
+same-length-6 : tie.Need-same-length-6
+same-length-6 c = search needs
+
+returns-6 : tie.Need-returns-6
+returns-6 c = search needs
+
 slice-aggregate-put : tie.Need-slice-aggregate-put
 slice-aggregate-put c = search needs
 
 put-requires : tie.Need-put-requires
 put-requires c κs = search needs
 
-same-length-6 : tie.Need-same-length-6
-same-length-6 c = search needs
+same-length-7 : tie.Need-same-length-7
+same-length-7 c = search needs
 
-returns-6 : tie.Need-returns-6
-returns-6 c = let p = c .before .before .put .ensures in let f = p .end in (rw (no-refusal _ (c .before .before .before .before .before .if5 .left)) p, omega arith)
+returns-7 : tie.Need-returns-7
+returns-7 c = let p = c .before .before .put .ensures in let f = p .end in (rw (no-refusal _ (c .before .before .before .before .before .if6 .left)) p, omega arith)
 
 pub put-sentence-spec : {M : Type 1} → statement M
 put-sentence-spec =
@@ -80,7 +89,10 @@ put-sentence-spec =
     put-to-19-requires
     same-length-5
     returns-5
+    put-to-23-requires
+    same-length-6
+    returns-6
     slice-aggregate-put
     put-requires
-    same-length-6
-    returns-6)
+    same-length-7
+    returns-7)

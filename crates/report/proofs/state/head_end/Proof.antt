@@ -14,6 +14,9 @@ slice-aggregate-put-counted-2 c = search needs
 put-counted-requires : tie.Need-put-counted-requires
 put-counted-requires c κs = search needs
 
+put-retired-requires : tie.Need-put-retired-requires
+put-retired-requires c κs = search needs
+
 slice-aggregate-put-between : tie.Need-slice-aggregate-put-between
 slice-aggregate-put-between c = search needs
 
@@ -30,8 +33,20 @@ returns : tie.Need-returns
 unfolding headText
 returns c =
     let b = c .before .before in
-    let a = b .before .before .before .before .before .before in
-    rw append-assoc (told-more (told-more (told-none _) (a .put-counted .ensures .0)) (b .put-between .ensures .0))
+    let r = b .before .before .before .before .before .before in
+    let a = r .before .before .before .before in
+    rw append-assoc (told-more (told-more (told-more (told-none _) (a .put-counted .ensures .0)) (r .put-retired .ensures .0)) (b .put-between .ensures .0))
 
 pub head-end-spec : {M : Type 1} → statement M
-head-end-spec = tie.close (tie.spec slice-aggregate-put-counted slice-aggregate-put-counted-2 put-counted-requires slice-aggregate-put-between slice-aggregate-put-between-2 put-between-requires same-length returns)
+head-end-spec =
+    tie.close
+    (tie.spec
+    slice-aggregate-put-counted
+    slice-aggregate-put-counted-2
+    put-counted-requires
+    put-retired-requires
+    slice-aggregate-put-between
+    slice-aggregate-put-between-2
+    put-between-requires
+    same-length
+    returns)
