@@ -256,7 +256,8 @@ static inline const char *sulyobak_refusal_sentence(uint32_t refusal)
     case SULYOBAK_BAD_SIZE: return "a commit takes 1 to 8 operations";
     case SULYOBAK_BAD_OPERATION:
         return "an operation is out of form: cart number 1 to 128, audio and length at least 1, title of 1 to 64 letters";
-    case SULYOBAK_LOG_FULL: return "the log has no room for the operations";
+    case SULYOBAK_LOG_FULL:
+        return "the log has fewer free records than there are operations (retire makes room), or 65,535 transactions were committed";
     case SULYOBAK_WRONG_STATE: return "a new cart is there already, or the cart to retitle, re-cut or withdraw is empty";
     case SULYOBAK_ALL_SENT: return "every committed transaction was sent to this studio";
     case SULYOBAK_WINDOW_FULL: return "32 transactions were sent to this studio and not yet applied; refresh it first";
@@ -271,6 +272,8 @@ static inline const char *sulyobak_refusal_sentence(uint32_t refusal)
     case SULYOBAK_MESSAGE_AHEAD: return "the message comes too soon: a transaction before it has not been applied yet";
     case SULYOBAK_NOT_WHOLE:
         return "a copy is not what the log makes, or a logged operation met its cart in the wrong state: damaged, or not saved together";
+    case SULYOBAK_NOT_RETIRABLE: return "a studio has not applied the oldest transaction of the log yet, or the log has none";
+    case SULYOBAK_RETIRED: return "the transaction is retired, and no longer in the log";
     default: return "a number that this version does not have";
     }
 }

@@ -3,8 +3,9 @@
 
 #include "carts.h"
 
-typedef char control_is_27_words[sizeof(sulyobak_control) == 27 * 4 ? 1 : -1];
-typedef char answer_is_30_words[sizeof(sulyobak_answer) == 30 * 4 ? 1 : -1];
+typedef char control_is_31_words[sizeof(sulyobak_control) == 31 * 4 ? 1 : -1];
+typedef char answer_is_34_words[sizeof(sulyobak_answer) == 34 * 4 ? 1 : -1];
+typedef char free_last_is_last[offsetof(sulyobak_control, free_last) == 30 * 4 ? 1 : -1];
 typedef char kind_is_first[offsetof(sulyobak_answer, kind) == 0 ? 1 : -1];
 typedef char control_is_last[offsetof(sulyobak_answer, control) == 3 * 4 ? 1 : -1];
 typedef char van_answer_is_3_words[sizeof(sulyobak_van_answer) == 3 * 4 ? 1 : -1];
@@ -14,7 +15,7 @@ typedef char letters_are_last[offsetof(carts_searched, letters) == 2 * 4 ? 1 : -
 typedef char output_holds_every_read[SULYOBAK_OUTPUT_MOST == SULYOBAK_NUMBERS * SULYOBAK_CART_SIZE ? 1 : -1];
 typedef char output_holds_every_message[SULYOBAK_MESSAGE_MOST ==
                                         SULYOBAK_MESSAGE_HEAD + SULYOBAK_OPERATIONS * SULYOBAK_OPERATION_SIZE ? 1 : -1];
-typedef char library_is_five_copies[SULYOBAK_LIBRARY_SIZE == 5 * SULYOBAK_COPY_SIZE ? 1 : -1];
+typedef char library_is_six_copies[SULYOBAK_LIBRARY_SIZE == 6 * SULYOBAK_COPY_SIZE ? 1 : -1];
 
 #define WRITTEN uint8_t *, size_t
 #define READ const uint8_t *, size_t
@@ -32,6 +33,7 @@ sulyobak_answer (*const of_a_forward[])(READ, READ, WRITTEN, sulyobak_control, u
 sulyobak_answer (*const of_a_move[])(READ, READ, READ, sulyobak_control, uint32_t, uint32_t) = {sulyobak_move};
 sulyobak_answer (*const of_the_layout[])(READ, READ, READ, sulyobak_control) = {sulyobak_layout};
 sulyobak_answer (*const of_a_load[])(READ, READ, READ, sulyobak_control) = {sulyobak_load};
+sulyobak_answer (*const of_a_retire[])(WRITTEN, WRITTEN, READ, sulyobak_control) = {sulyobak_retire};
 sulyobak_answer (*const of_a_van_write[])(READ, READ, READ, sulyobak_control, uint32_t, WRITTEN) = {sulyobak_van_write};
 sulyobak_van_answer (*const of_a_van_receive[])(WRITTEN, uint32_t, READ) = {sulyobak_van_receive};
 bool (*const of_a_scan[])(READ) = {carts_all_zero, carts_is_copy, carts_all_operations};

@@ -51,6 +51,7 @@ static sulyobak_answer forward_own(void) { return forward_as(EDITOR); }
 static sulyobak_answer move(void) { return sulyobak_move(MEMORY, answer.control, READER, 1); }
 static sulyobak_answer layout(void) { return sulyobak_layout(MEMORY, answer.control); }
 static sulyobak_answer load(void) { return sulyobak_load(MEMORY, answer.control); }
+static sulyobak_answer retire(void) { return sulyobak_retire(MEMORY, answer.control); }
 static sulyobak_answer van_write(void)
 {
     return sulyobak_van_write(MEMORY, answer.control, answer.control.commits, message, sizeof message);
@@ -163,6 +164,9 @@ int main(void)
     measure("refresh", refresh);
     measure("move", move);
     measure_within(SULYOBAK_LOAD_STACK_MOST, "load", load);
+    measure("retire of 8 operations", retire);
+    measure("retire of 1 operation", retire);
+    measure_within(SULYOBAK_LOAD_STACK_MOST, "load after retires", load);
     sulyobak_request_numbers(request, carts, SULYOBAK_NUMBERS);
     measure("read of 32 numbers", read);
     measure("forward of 32 numbers", forward);

@@ -218,13 +218,30 @@ static void test_load(void)
     HOLD(keep(sulyobak_load(MEMORY, control)).kind == SULYOBAK_DONE);
 }
 
+/* The oldest transaction is retired once both studios have it: its four records are free again, and it is no longer written for a van. */
+static void test_retire(void)
+{
+    uint8_t message[SULYOBAK_MESSAGE_MOST];
+    sulyobak_answer answer = keep(sulyobak_retire(MEMORY, control));
+    HOLD(answer.kind == SULYOBAK_REFUSED && answer.value == SULYOBAK_NOT_RETIRABLE);
+    keep(sulyobak_send(MEMORY, control, 2));
+    HOLD(keep(sulyobak_refresh(MEMORY, control, 2)).value == 1 && control.used == 7 && control.oldest == 1);
+    answer = keep(sulyobak_retire(MEMORY, control));
+    HOLD(answer.kind == SULYOBAK_DONE && answer.value == 1 && control.retired == 1);
+    HOLD(control.used == 3 && control.oldest == 5 && control.free_first == 8 && control.free_last == 4);
+    answer = keep(sulyobak_van_write(MEMORY, control, 1, message, sizeof message));
+    HOLD(answer.kind == SULYOBAK_REFUSED && answer.value == SULYOBAK_RETIRED);
+    HOLD(keep(sulyobak_van_write(MEMORY, control, 2, message, sizeof message)).kind == SULYOBAK_DONE);
+    HOLD(keep(sulyobak_load(MEMORY, control)).value == 4);
+}
+
 /* Every number has a sentence of its own. */
 static void test_sentences(void)
 {
     uint32_t i, j;
-    for (i = 0; i <= 19; i++)
-        for (j = i + 1; j <= 20; j++)
-            HOLD(strcmp(sulyobak_refusal_sentence(i), sulyobak_refusal_sentence(j)) != 0 || (i == 0 && j == 20));
+    for (i = 0; i <= 21; i++)
+        for (j = i + 1; j <= 22; j++)
+            HOLD(strcmp(sulyobak_refusal_sentence(i), sulyobak_refusal_sentence(j)) != 0 || (i == 0 && j == 22));
     for (i = 0; i <= 7; i++)
         for (j = i + 1; j <= 8; j++)
             HOLD(strcmp(sulyobak_made_sentence((int)i), sulyobak_made_sentence((int)j)) != 0);
@@ -244,6 +261,7 @@ int main(void)
     test_move();
     test_messages();
     test_load();
+    test_retire();
     test_sentences();
     printf("util_test: everything held\n");
     return 0;

@@ -1,7 +1,7 @@
 //! Saves a system to a file and takes it up again, as a program does that is stopped and started.
 //!
 //! The file is written anew beside the old one, synced, renamed over it, and the folder is synced: whenever the machine stops, the file
-//! holds the old system whole or the new one whole. It has the version, the 27 words of control and the three memories, numbers
+//! holds the old system whole or the new one whole. It has the version, the 31 words of control and the three memories, numbers
 //! little-endian (`examples/c/restart.c` writes the same). Version and length are tested, and all the rest by `Library::load`, before
 //! anything is taken over. A read that waited before the stop is collected after the start. Then come files that are damaged, and files
 //! that are torn, as by a program that writes each part in its place and is stopped in between: what load tells of each, and what it
@@ -19,8 +19,8 @@ const EDITOR: u32 = 1;
 const STUDIO: u32 = 1;
 const JINGLE: u16 = 7;
 
-// The oldest version whose control and memory are laid out as this version's (docs/FORMAT.md): such files are taken over too.
-const OLDEST: u32 = 1;
+// The oldest version whose control and memory are laid out as this version's (docs/FORMAT.md): files from it on are taken over.
+const OLDEST: u32 = 9;
 
 // Where each part of the file begins.
 const CONTROL: usize = 4;
@@ -31,8 +31,9 @@ const END: usize = SESSIONS + sizes::SESSIONS;
 
 fn to_bytes(library: &Library) -> Vec<u8> {
     let Parts { library, log, sessions, control } = library.clone().into_parts();
-    let Control { studios, session_studios, used, commits, sent, applied } = control;
+    let Control { studios, session_studios, used, commits, sent, applied, retired, oldest, free_first, free_last } = control;
     let words = [VERSION, studios].into_iter().chain(session_studios).chain([used, commits]).chain(sent).chain(applied);
+    let words = words.chain([retired, oldest, free_first, free_last]);
     let mut bytes: Vec<u8> = words.flat_map(u32::to_le_bytes).collect();
     for memory in [library, log, sessions] {
         bytes.extend_from_slice(&memory);
@@ -74,6 +75,10 @@ fn load(path: &Path) -> Result<Library, Box<dyn Error>> {
         commits: word(),
         sent: std::array::from_fn(|_| word()),
         applied: std::array::from_fn(|_| word()),
+        retired: word(),
+        oldest: word(),
+        free_first: word(),
+        free_last: word(),
     };
     let (library, log, sessions) = (bytes[LIBRARY..LOG].into(), bytes[LOG..SESSIONS].into(), bytes[SESSIONS..].into());
     Ok(Library::load(Parts { library, log, sessions, control })?)
@@ -88,7 +93,8 @@ fn work() -> Result<Library, Box<dyn Error>> {
     Ok(library)
 }
 
-// The work after the start: the transaction is sent and applied, the waiting read is collected, and the editor re-cuts the jingle.
+// The work after the start: the transaction is sent and applied, the waiting read is collected, the editor re-cuts the jingle, and the
+// transaction that the studio has is retired.
 fn work_on(library: &mut Library) -> Result<(), Box<dyn Error>> {
     library.send(STUDIO)?;
     library.refresh(STUDIO)?;
@@ -99,6 +105,7 @@ fn work_on(library: &mut Library) -> Result<(), Box<dyn Error>> {
     }
     let number = library.commit(EDITOR, &[Operation::Recut { cart: JINGLE, audio: 502, milliseconds: 9_000 }])?;
     println!("committed after the restart: {number}");
+    println!("retired: {}", library.retire()?);
     Ok(())
 }
 
@@ -121,7 +128,9 @@ fn try_files(before: &Library, after: &Library, path: &Path) -> Result<(), Box<d
     let letter = LIBRARY + sizes::CART * (usize::from(JINGLE) - 1) + 16;
     try_damaged(after, path, "a byte of a cart damaged", |bytes| bytes[LIBRARY] = 9)?;
     try_damaged(after, path, "a letter of a title damaged", |bytes| bytes[letter] = b'H')?;
-    try_damaged(after, path, "another version", |bytes| bytes[0] += 1)?;
+    let put_version = |bytes: &mut Vec<u8>, version: u32| bytes[..CONTROL].copy_from_slice(&version.to_le_bytes());
+    try_damaged(after, path, "a later version", |bytes| put_version(bytes, VERSION + 1))?;
+    try_damaged(after, path, "a version of another layout", |bytes| put_version(bytes, OLDEST - 1))?;
     try_damaged(after, path, "the last byte missing", |bytes| bytes.truncate(END - 1))?;
 
     let (then, now) = (to_bytes(before), to_bytes(after));
@@ -155,11 +164,6 @@ fn main() -> Result<(), Box<dyn Error>> {
     work_on(&mut after)?;
 
     try_files(&before, &after, path)?;
-    let mut bytes = to_bytes(&after);
-    bytes[..CONTROL].copy_from_slice(&OLDEST.to_le_bytes());
-    write_whole(path, &bytes)?;
-    load(path)?;
-    println!("version {OLDEST}: loaded");
     save(&after, path)?;
     let again = load(path)?;
     println!("saved and loaded again: commits {}, applied {}", again.control().commits, again.control().applied[0]);

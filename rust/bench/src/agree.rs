@@ -4,7 +4,7 @@ use crate::call::{Call, play, simulate};
 use crate::floor;
 use crate::memory::Memory;
 use crate::wall::{self, Wall};
-use simulator::{Control, DONE, REFUSED};
+use simulator::{Control, DONE, REFUSED, UNIT};
 
 fn of_layout(memory: &mut Memory, control: &Control) -> bool {
     let by_engine = play(&Call::Layout, memory, control, &mut []).kind == DONE;
@@ -48,9 +48,10 @@ pub fn on_layout(wall: &Wall) -> u32 {
     let Memory { library, log, sessions } = &*wall.memory;
     let total = library.len() + log.len() + sessions.len();
     let log_end = library.len() + log.len();
-    // Every 7th byte of all; every byte of the sessions and of a few records at the log's start.
+    // Every 7th byte of all; every byte of the sessions and of a few records at the log's start; every link.
     let dense = (library.len()..library.len() + 800).chain(log_end..total);
-    for at in (0..total).step_by(7).chain(dense) {
+    let links = (library.len()..log_end).step_by(UNIT).flat_map(|record| record + 12..record + 16);
+    for at in (0..total).step_by(7).chain(dense).chain(links) {
         for value in [0, 1, 2, 3, 31, 33, 65, 127, 255] {
             let old = std::mem::replace(byte(&mut wall.memory, at), value);
             of_layout_by_two(&mut wall.memory, &control);
@@ -78,7 +79,9 @@ fn byte(memory: &mut Memory, at: usize) -> &mut u8 {
 
 fn damaged_controls(control: &Control) -> Vec<Control> {
     let mut all = Vec::new();
-    for value in [0, 1, 2, 3, 4, 5, 31, 32, 33, 59, 60, 61, 503, 504, 505, 511, 512, 513, u32::MAX] {
+    let logged = [control.commits, control.retired, control.used, control.oldest, control.free_first, control.free_last];
+    let near = logged.into_iter().flat_map(|value| [value.wrapping_sub(1), value, value + 1, value | 1 << 16]);
+    for value in [0, 1, 2, 3, 4, 5, 31, 32, 33, 511, 512, 513, 65_535, 65_536, u32::MAX].into_iter().chain(near) {
         let with = |change: &dyn Fn(&mut Control)| {
             let mut damaged = *control;
             change(&mut damaged);
@@ -87,6 +90,11 @@ fn damaged_controls(control: &Control) -> Vec<Control> {
         all.push(with(&|c| c.studios = value));
         all.push(with(&|c| c.used = value));
         all.push(with(&|c| c.commits = value));
+        all.push(with(&|c| c.retired = value));
+        all.push(with(&|c| c.oldest = value));
+        all.push(with(&|c| c.free_first = value));
+        all.push(with(&|c| c.free_last = value));
+        all.push(with(&|c| (c.commits, c.retired) = (c.commits.wrapping_add(value), c.retired.wrapping_add(value))));
         for i in 0..4 {
             all.push(with(&|c| c.sent[i] = value));
             all.push(with(&|c| c.applied[i] = value));

@@ -41,7 +41,7 @@ impl Bar {
 
 pub struct Bars {
     pub layout: Bar,
-    calls: [(Kind, Bar); 8],
+    calls: [(Kind, Bar); 9],
     pub setup: Bar,
     pub van_write: Bar,
     pub van_receive: Bar,
@@ -60,8 +60,9 @@ impl Bars {
                 (Kind::ForwardTitle, Bar::new("forward by title / layout test", 1.3)),
                 (Kind::Move, Bar::new("move / layout test", 1.1)),
                 (Kind::Load, Bar::new("load / layout test, full memory", 3.0).only_on(FULL)),
+                (Kind::Retire, Bar::new("retire / layout test", 1.3)),
             ],
-            setup: Bar::new("setup / memset of 93,440 bytes", 1.5),
+            setup: Bar::new("setup / memset of 103,680 bytes", 1.5),
             van_write: Bar::new("van_write / layout test, full memory", 1.4),
             van_receive: Bar::new("van_receive of 8 operations / form test of its copy", 1.5),
         }

@@ -16,6 +16,7 @@ pub enum Call {
     VanWrite { number: u32 },
     Move { session: u32, studio: u32 },
     Load,
+    Retire,
 }
 
 /// Plays a call by one of the two crates that have a function for each, or the layout test by `$layout`.
@@ -36,6 +37,7 @@ macro_rules! play {
             Call::VanWrite { number } => $by::van_write(library, log, sessions, control, *number, $output),
             Call::Move { session, studio } => $by::move_session(library, log, sessions, control, *session, *studio),
             Call::Load => $by::load(library, log, sessions, control),
+            Call::Retire => $by::retire(library, log, sessions, control),
         }
     }};
 }

@@ -1,13 +1,13 @@
-//! The layout test of document 01 as fast as we could write it by hand for baseline x86-64 (SSE2): the floor that the
-//! engine is held to. It reads every byte once and has no branch on a byte: each test leaves bits that are zero where
-//! it holds, and these are joined.
+//! The layout test of documents 01 and 02 as fast as we could write it by hand for baseline x86-64 (SSE2): the floor
+//! that the engine is held to. It reads every byte once, the links of the log's records twice, and has no branch on a
+//! byte: each test leaves bits that are zero where it holds, and these are joined.
 //!
 //! A title's field of n letters is tested by two instructions for 16 bytes: a letter b is right if b − 32 ≤ 94, a byte
 //! after the title if b − 0 ≤ 0, both without a sign. The numbers to subtract and to stay below are loaded from tables at
 //! an offset that depends on n. Cart numbers of a waiting read are tested the same way in words of 16 bits.
 
 use crate::lanes::Lanes;
-use simulator::{CARTS, COPY, Control, LIBRARY, LOG, RECORDS, SESSION_MEMORY, STUDIOS, UNIT, WINDOW};
+use simulator::{CARTS, COMMITS, COPY, Control, LIBRARY, LOG, RECORDS, SESSION_MEMORY, STUDIOS, TRANSACTION_OPERATIONS, UNIT, WINDOW};
 
 type Unit = [u8; UNIT];
 
@@ -113,47 +113,96 @@ fn operation(unit: &Unit) -> (Lanes, bool) {
     (title(unit, n), ok)
 }
 
-/// The records in use hold operations, and their chain is one of so many commits.
+/// What is wrong with a record's letters, and whether its other bytes are an operation's or, links apart, zero.
 #[inline(always)]
-fn records(bytes: &[u8], commits: u32) -> bool {
-    let mut bits = Lanes::zero();
-    let mut ok = true;
-    let mut place = 0u32; // of the record
-    let mut is_first = true; // of its transaction
-    let mut length = 0u32; // of the transaction so far
-    let mut claimed = 1u32; // the next transaction's first record, by the latest first record
-    let mut firsts = 0u32;
-    for unit in bytes.as_chunks::<UNIT>().0 {
-        place += 1;
-        let (letters, is_right) = operation(unit);
-        bits = bits | letters;
-        ok &= is_right;
-
-        let high = u64_at(unit, 8);
-        let next_operation = (high >> 32) as u32 & 0xffff;
-        let next_transaction = (high >> 48) as u32;
-        ok &= if is_first { claimed == place } else { next_transaction == 0 };
-        claimed = if is_first { next_transaction } else { claimed };
-        length = if is_first { 1 } else { length + 1 };
-        firsts += u32::from(is_first);
-        is_first = next_operation == 0;
-        ok &= (is_first | (next_operation == place + 1)) & (length <= 8);
-    }
-    ok & bits.is_zero() & is_first & (firsts == commits) & ((claimed == 0) | (place == 0))
+fn record(unit: &Unit) -> (Lanes, bool) {
+    let (letters, is_operation) = operation(unit);
+    let is_free = (u64_at(unit, 0) == 0) & (u64_at(unit, 8) & !(0xffff << 32) == 0);
+    (letters, is_operation | is_free)
 }
 
+/// A walk along the log's two chains, a record at a step, which meets each record once.
+struct Walk<'a> {
+    records: &'a [Unit],
+    met: [bool; RECORDS],
+    next: u32, // the record that is met next, from 1
+    last: u32, // the one met before it
+    ok: bool,
+}
+
+impl Walk<'_> {
+    /// Meets the next record, which holds an operation or does not: its links, to the next operation or free record and to the next
+    /// transaction.
+    #[inline(always)]
+    fn meet(&mut self, holds: bool) -> (u32, u32) {
+        let place = self.next.wrapping_sub(1);
+        self.ok &= place < RECORDS as u32;
+        let place = place.min(RECORDS as u32 - 1) as usize;
+        let unit = &self.records[place];
+        self.ok &= !self.met[place] & ((unit[0] != 0) == holds);
+        self.met[place] = true;
+        self.last = self.next;
+        (u16_at(unit, 12), u16_at(unit, 14))
+    }
+}
+
+/// The log's chain as far as it was walked.
+struct Transactions {
+    is_first: bool, // whether the next record is a transaction's first
+    length: u32,    // of the transaction so far
+    claimed: u32,   // the next transaction's first record, by the latest first record
+    firsts: u32,
+}
+
+impl Transactions {
+    #[inline(always)]
+    fn step(&mut self, walk: &mut Walk<'_>) {
+        let (next, next_transaction) = walk.meet(true);
+        walk.ok &= self.is_first | (next_transaction == 0);
+        self.claimed = if self.is_first { next_transaction } else { self.claimed };
+        self.length = if self.is_first { 1 } else { self.length + 1 };
+        self.firsts += u32::from(self.is_first);
+        walk.ok &= self.length <= TRANSACTION_OPERATIONS as u32;
+        self.is_first = next == 0;
+        walk.next = if self.is_first { self.claimed } else { next };
+    }
+}
+
+/// The forms of the records are tested in their order and the chains walked in theirs, a record of each at a time: so the wait for the next
+/// link falls into the form test.
 #[inline(always)]
 fn log(bytes: &[u8], control: &Control) -> bool {
+    let records = bytes.as_chunks::<UNIT>().0;
     let used = control.used.min(RECORDS as u32) as usize;
-    let (filled, free) = bytes.split_at(UNIT * used);
-    (control.used <= RECORDS as u32) & records(filled, control.commits) & zeros(free)
+    let (mut bits, mut ok) = (Lanes::zero(), control.used <= RECORDS as u32);
+    let mut form = |unit: &Unit| {
+        let (letters, is_right) = record(unit);
+        bits = bits | letters;
+        ok &= is_right;
+    };
+    let mut walk = Walk { records, met: [false; RECORDS], next: control.oldest, last: 0, ok: true };
+    let mut transactions = Transactions { is_first: true, length: 0, claimed: 0, firsts: 0 };
+    for unit in &records[..used] {
+        form(unit);
+        transactions.step(&mut walk);
+    }
+    let counted = transactions.firsts == control.commits.wrapping_sub(control.retired);
+    let log_ends = transactions.is_first & (walk.next == 0);
+    (walk.next, walk.last) = (control.free_first, 0);
+    for unit in &records[used..] {
+        form(unit);
+        walk.next = walk.meet(false).0;
+    }
+    ok & bits.is_zero() & walk.ok & counted & log_ends & (walk.next == 0) & (walk.last == control.free_last)
 }
 
 #[inline(always)]
-fn library(bytes: &[u8], studios: u32) -> bool {
+fn library(bytes: &[u8], control: &Control) -> bool {
     let mut ok = true;
     for (i, part) in (0..).zip(bytes.as_chunks::<COPY>().0) {
-        ok &= if i <= studios { copy(part) } else { zeros(part) };
+        let is_sixth = i == STUDIOS as u32 + 1;
+        let is_there = if is_sixth { control.retired != 0 } else { i <= control.studios };
+        ok &= if is_there { copy(part) } else { zeros(part) };
     }
     ok
 }
@@ -178,9 +227,10 @@ fn sessions(bytes: &[u8], control: &Control) -> bool {
 
 #[inline(always)]
 fn counts(control: &Control) -> bool {
-    let mut ok = (1..=STUDIOS as u32).contains(&control.studios);
+    let mut ok = (1..=STUDIOS as u32).contains(&control.studios) & (control.commits <= COMMITS);
     for (i, (&sent, &applied)) in (0..).zip(control.sent.iter().zip(&control.applied)) {
-        let counted = (applied <= sent) & (sent <= control.commits) & (sent.wrapping_sub(applied) <= WINDOW);
+        let in_order = (control.retired <= applied) & (applied <= sent) & (sent <= control.commits);
+        let counted = in_order & (sent.wrapping_sub(applied) <= WINDOW);
         ok &= if i < control.studios { counted } else { sent | applied == 0 };
     }
     ok
@@ -190,13 +240,13 @@ fn counts(control: &Control) -> bool {
 #[inline(never)]
 pub fn is_layout(library_memory: &[u8], log_memory: &[u8], session_memory: &[u8], control: &Control) -> bool {
     let lengths = library_memory.len() == LIBRARY && log_memory.len() == LOG && session_memory.len() == SESSION_MEMORY;
-    lengths && (counts(control) & library(library_memory, control.studios) & log(log_memory, control) & sessions(session_memory, control))
+    lengths && (counts(control) & library(library_memory, control) & log(log_memory, control) & sessions(session_memory, control))
 }
 
 /// The library's part of the test alone.
 #[inline(never)]
-pub fn is_library(library_memory: &[u8], studios: u32) -> bool {
-    library(library_memory, studios)
+pub fn is_library(library_memory: &[u8], control: &Control) -> bool {
+    library(library_memory, control)
 }
 
 /// The log's part of the test alone.

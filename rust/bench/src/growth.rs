@@ -21,24 +21,24 @@ pub fn point(race: &mut Race, name: &str, at: u32, wall: &Wall, call: Call) -> P
     Point { at, test, call: measure::engine(race, name, &Rc::new(call), &shared) }
 }
 
-/// Refresh of one operation by how many transactions the studio has applied: the walk's length. Memory is the same.
+/// Refresh of one operation by how many transactions of the log the studio has applied: the walk's length. Memory is the same.
 pub fn refresh(race: &mut Race, wall: &Wall) -> Vec<Point> {
-    let mut at = |applied: u32| {
-        let mut behind = wall.clone();
+    let mut at = |walked: u32| {
+        let (mut behind, applied) = (wall.clone(), wall.control.retired + walked);
         behind.control.applied[0] = applied;
         behind.control.sent[0] = applied + 1;
-        point(race, "growth", applied, &behind, Call::Refresh { studio: wall::REFRESHED })
+        point(race, "growth", walked, &behind, Call::Refresh { studio: wall::REFRESHED })
     };
     [0, 63, 126, 252, 503].map(&mut at).into()
 }
 
-/// Commit of one operation by how many commits there are, in a log of 504 records.
+/// Commit of one operation by how many transactions there are in a log of 504 records.
 pub fn commit(race: &mut Race) -> Vec<Point> {
     let mut at = |each: usize| {
         let wall = Wall::full(504, each);
         let operations = units::retitle(1, &units::title(1, 64)).to_vec();
-        let commits = wall.control.commits;
-        point(race, "growth", commits, &wall, Call::Commit { session: wall::READER, operations })
+        let logged = wall.control.commits - wall.control.retired;
+        point(race, "growth", logged, &wall, Call::Commit { session: wall::READER, operations })
     };
     [8, 4, 2, 1].map(&mut at).into()
 }

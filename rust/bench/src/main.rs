@@ -47,8 +47,8 @@ fn rounds() -> u32 {
 
 /// Everything that is timed, in one race.
 struct Entered {
-    states: [Measured; 3],
-    full: [(&'static str, Layout); 2],
+    states: [Measured; 4],
+    full: [(&'static str, Layout); 3],
     setup: (Both, Entry),
     stages: Stages,
     growth: [(&'static str, Vec<Point>); 3],
@@ -58,17 +58,21 @@ struct Entered {
 }
 
 impl Entered {
-    fn enter(race: &mut Race, states: &[State; 3]) -> Entered {
-        let [_, typical, full] = states.each_ref().map(|state| &state.wall);
-        let layouts = [("full, 512 commits of 1", 1), ("full, 64 commits of 8", 8)];
+    fn enter(race: &mut Race, states: &[State; 4]) -> Entered {
+        let [_, typical, full, _] = states.each_ref().map(|state| &state.wall);
+        let layouts = [
+            ("full, 512 commits of 1", Wall::full(512, 1)),
+            ("full, 64 commits of 8", Wall::full(512, 8)),
+            ("full, 64 of 8, shuffled", Wall::full(512, 8).shuffled()),
+        ];
         Entered {
             states: states.each_ref().map(|state| Measured::enter(race, state)),
-            full: layouts.map(|(name, operations)| (name, Layout::enter(race, &measure::share(&Wall::full(512, operations))))),
+            full: layouts.map(|(name, wall)| (name, Layout::enter(race, &measure::share(&wall)))),
             setup: measure::setup(race, full),
             stages: Stages::enter(race, full),
             growth: [
-                ("refresh of 1 operation, by transactions applied before", growth::refresh(race, full)),
-                ("commit of 1 operation, by commits before", growth::commit(race)),
+                ("refresh of 1 operation, by transactions of the log applied before", growth::refresh(race, full)),
+                ("commit of 1 operation, by transactions in the log", growth::commit(race)),
                 ("read, by numbers asked", growth::numbers(race, full)),
             ],
             titles: titles::enter(race),
@@ -77,7 +81,7 @@ impl Entered {
         }
     }
 
-    fn print(&self, race: &Race, states: &[State; 3]) {
+    fn print(&self, race: &Race, states: &[State; 4]) {
         let mut bars = Bars::new();
         println!();
         println!("Layout test                   engine   tests/s    floor  x floor  simulator  x engine");
@@ -105,7 +109,7 @@ impl Entered {
 
 fn main() {
     let rounds = rounds();
-    let states = [states::empty(), states::typical(), states::full()];
+    let states = [states::empty(), states::typical(), states::full(), states::shuffled()];
     let tried: u32 = states.iter().map(|state| agree::on_layout(&state.wall)).sum();
     println!("Engine and floor agree on the layout of {tried} memories and controls, damaged ones included,");
     println!("and with the simulator on a part of them; engine and simulator agree on every call below.");

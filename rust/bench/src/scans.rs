@@ -71,7 +71,7 @@ pub fn time<I: ?Sized + 'static, A: 'static>(race: &mut Race, name: &'static str
 pub fn enter(race: &mut Race, typical: &Wall, full: &Wall) -> Vec<Scan> {
     let head_end = |wall: &Wall| wall.memory.library[..COPY].to_vec();
     vec![
-        scan(race, "all_zero, 93,440 bytes", ZERO, vec![0; LIBRARY + LOG + SESSION_MEMORY]),
+        scan(race, "all_zero, 103,680 bytes", ZERO, vec![0; LIBRARY + LOG + SESSION_MEMORY]),
         scan(race, "is_copy, empty", COPIES, vec![0; COPY]),
         scan(race, "is_copy, 40 held", COPIES, head_end(typical)),
         scan(race, "is_copy, 128 held", COPIES, head_end(full)),

@@ -20,12 +20,14 @@ pub struct Stage {
 
 impl Stages {
     pub fn enter(race: &mut Race, wall: &Wall) -> Stages {
-        let used = wall.control.used as usize;
+        // Records are taken in order, from the middle of the log on, so the last one used stands before the first free one.
+        let first_free = wall.control.free_first as usize - 1;
+        let last_free = wall.control.free_last as usize - 1;
         let damages: [&dyn Fn(&mut Wall); 6] = [
-            &|wall| wall.control.session_studios[15] = 9,
-            &|wall| wall.memory.library[5 * COPY - UNIT] = 9,
-            &|wall| wall.memory.log[UNIT * (used - 1)] = 9,
-            &|wall| wall.memory.log[UNIT * (used - 1) + 12] = 1,
+            &|wall| wall.control.applied[3] = u32::MAX,
+            &|wall| wall.memory.library[6 * COPY - UNIT] = 9,
+            &|wall| wall.memory.log[UNIT * (first_free - 1)] = 9,
+            &|wall| wall.memory.log[UNIT * last_free] = 9,
             &|wall| wall.memory.sessions[15 * UNIT + 4] = 9,
             &|_| (),
         ];
@@ -37,7 +39,7 @@ impl Stages {
         let ends = ends.collect();
         let shared = measure::share(wall);
         let floors = [
-            measure::floor(race, |m, c| floor::is_library(&m.library, c.studios), &shared),
+            measure::floor(race, |m, c| floor::is_library(&m.library, c), &shared),
             measure::floor(race, |m, c| floor::is_log(&m.log, c), &shared),
             measure::floor(race, |m, c| floor::are_sessions(&m.sessions, c), &shared),
         ];
@@ -50,13 +52,13 @@ impl Stages {
         let floor = |i: usize| Some(race.best(self.floors[i]));
         let stage = |name, engine, floor| Stage { name, engine, floor };
         vec![
-            stage("control, and the call itself", end(0), None),
-            stage("library: 640 carts", between(0, 1), floor(0)),
+            stage("control with its counts, and the call itself", end(0), None),
+            stage("library: 768 carts", between(0, 1), floor(0)),
             stage("log", between(1, 3), floor(1)),
-            stage("  of it the records' operations", between(1, 2), None),
-            stage("  of it the zeros after them, and the chain", between(2, 3), None),
+            stage("  of it the chain of 504 transactions", between(1, 2), None),
+            stage("  of it the chain of 8 free records", between(2, 3), None),
             stage("sessions", between(3, 4), floor(2)),
-            stage("counts of the studios", between(4, 5), None),
+            stage("what comes after them", between(4, 5), None),
         ]
     }
 }

@@ -30,6 +30,7 @@ pub enum Kind {
     ForwardTitle,
     Move,
     Load,
+    Retire,
     /// Every other call that begins with the layout test.
     Other,
 }
@@ -64,6 +65,7 @@ fn calls(letters: &[u8], operations: Vec<u8>, is_empty: bool) -> Vec<(&'static s
         calls.extend([
             ("send", Kind::Other, Call::Send { studio: wall::SENT }),
             ("refresh", Kind::Write, Call::Refresh { studio: wall::REFRESHED }),
+            ("retire", Kind::Retire, Call::Retire),
             ("read, waits", Kind::Other, Call::Read { session: wall::WAITING_READER, request: thirty_two }),
             ("collect, waits", Kind::Other, Call::Collect { session: wall::WAITING_COLLECTOR }),
             ("forward, head end, 1", Kind::Forward, by_head_end(units::by_numbers(1))),
@@ -90,7 +92,7 @@ pub fn typical() -> State {
     let retitle = |cart| units::retitle(cart, &units::title(cart, 20));
     State {
         name: "typical",
-        what: "2 studios, 40 carts, 60 commits of 1 or 2 operations",
+        what: "2 studios, 40 carts, 60 commits of 1 or 2 operations, 20 of them retired",
         wall: Wall::typical(),
         calls: calls(&letters, operations(retitle), false),
     }
@@ -101,8 +103,14 @@ pub fn full() -> State {
     let retitle = |cart| units::retitle(cart, &units::title(cart, 64));
     State {
         name: FULL,
-        what: "4 studios, 5 x 128 held carts, titles of 64, 504 commits of 1 operation, 16 sessions",
+        what: "4 studios, 6 x 128 held carts, titles of 64, 504 commits of 1 operation after 16 retired, 16 sessions",
         wall: Wall::full(504, 1),
         calls: calls(&units::title(7, 64), operations(retitle), false),
     }
+}
+
+/// The same with the log's records in another order.
+pub fn shuffled() -> State {
+    let full = full();
+    State { name: "shuffled", what: "the same memory, but that no record leads to its neighbour", wall: full.wall.shuffled(), ..full }
 }

@@ -3,7 +3,7 @@
 use crate::call::{self, Call};
 use crate::memory::Memory;
 use crate::units;
-use simulator::{Answer, CARTS, Control, LIBRARY, LOG, RECORDS, REFUSED, SESSION_MEMORY, UNIT};
+use simulator::{Answer, CARTS, Control, LIBRARY, LOG, RECORDS, REFUSED, SESSION_MEMORY, TRANSACTION_OPERATIONS, UNIT};
 
 #[derive(Clone)]
 pub struct Wall {
@@ -23,6 +23,9 @@ const EDITOR: u32 = 6;
 /// Studio 1 has one transaction sent and not applied; studio 2 has one not sent.
 pub const REFRESHED: u32 = 1;
 pub const SENT: u32 = 2;
+
+/// The transactions of full memory that are retired: they made its carts.
+pub const RETIRED: u32 = (CARTS / TRANSACTION_OPERATIONS) as u32;
 
 /// The studio that the reader moves to.
 pub const MOVED_TO: u32 = 2;
@@ -46,17 +49,24 @@ impl Wall {
         self.accept(&Call::Commit { session: EDITOR, operations: operations.concat() });
     }
 
-    /// Sends and applies what is committed, the last transaction apart, which is only sent, and to studio 1 only.
-    fn catch_up(&mut self) {
-        let last = self.control.commits;
-        for n in 1..last {
-            for studio in 1..=self.control.studios {
+    /// Every studio is sent and applies the first so many transactions.
+    fn apply(&mut self, count: u32) {
+        for studio in 1..=self.control.studios {
+            for _ in self.control.applied[studio as usize - 1]..count {
                 self.accept(&Call::Send { studio });
                 self.accept(&Call::Refresh { studio });
             }
-            debug_assert_eq!(self.control.applied[0], n);
         }
+    }
+
+    /// Sends and applies what is committed, the last transaction apart, which is only sent, and to studio 1 only.
+    fn catch_up(&mut self) {
+        self.apply(self.control.commits - 1);
         self.accept(&Call::Send { studio: REFRESHED });
+    }
+
+    fn retire(&mut self, count: usize) {
+        (0..count).for_each(|_| self.accept(&Call::Retire));
     }
 
     /// A session's number, and what it has waiting.
@@ -90,7 +100,7 @@ impl Wall {
         wall
     }
 
-    /// Two studios, six sessions, 40 carts with titles of 12 to 40 letters, 60 commits of 1 or 2 operations.
+    /// Two studios, six sessions, 40 carts with titles of 12 to 40 letters, 60 commits of 1 or 2 operations, 20 of them retired.
     pub fn typical() -> Wall {
         let mut wall = Wall::fresh(2, [1, 1, 1, 2, 2, 1, 0, 0, 0, 0, 0, 0, 0, 0, 0, 0]);
         let place = |i: usize| i * 29 % CARTS + 1;
@@ -106,12 +116,13 @@ impl Wall {
             wall.commit(&[units::recut(place(i), 900 + i as u32), retitled]);
         }
         wall.catch_up();
+        wall.retire(20);
         wall.put_sessions(EDITOR, &letters(place(7)));
         wall
     }
 
-    /// Four studios, sixteen sessions, five copies of 128 held carts with titles of 64 letters, and a log of so many
-    /// records in transactions of so many operations.
+    /// Four studios, sixteen sessions, six copies of 128 held carts with titles of 64 letters, and a log of so many records in transactions
+    /// of so many operations. The transactions that made the carts are retired, so that the log begins in its middle.
     pub fn full(records: usize, operations: usize) -> Wall {
         Wall::titled(records, operations, |cart| units::title(cart, 64))
     }
@@ -120,18 +131,47 @@ impl Wall {
     pub fn titled(records: usize, operations: usize, title: impl Fn(usize) -> Vec<u8>) -> Wall {
         assert!(records <= RECORDS && records.is_multiple_of(operations));
         let mut wall = Wall::fresh(4, [1, 1, 1, 2, 2, 1, 3, 4, 3, 4, 3, 4, 3, 4, 3, 4]);
-        let all: Vec<[u8; UNIT]> = (0..records)
-            .map(|i| {
-                let cart = i % CARTS + 1;
-                let make = if i < CARTS { units::new } else { units::retitle };
-                make(cart, &title(cart))
-            })
-            .collect();
-        for transaction in all.chunks(operations) {
-            wall.commit(transaction);
-        }
+        let carts: Vec<[u8; UNIT]> = (1..=CARTS).map(|cart| units::new(cart, &title(cart))).collect();
+        carts.chunks(TRANSACTION_OPERATIONS).for_each(|transaction| wall.commit(transaction));
+        wall.apply(RETIRED);
+        wall.retire(RETIRED as usize);
+        let cart = |i: usize| i % CARTS + 1;
+        let all: Vec<[u8; UNIT]> = (0..records).map(|i| units::retitle(cart(i), &title(cart(i)))).collect();
+        all.chunks(operations).for_each(|transaction| wall.commit(transaction));
         wall.catch_up();
         wall.put_sessions(16, &title(7));
         wall
+    }
+
+    /// The same memory with the log's records in another order: no link of either chain leads to a neighbour.
+    pub fn shuffled(&self) -> Wall {
+        let mut wall = self.clone();
+        for (record, unit) in self.memory.log.as_chunks::<UNIT>().0.iter().enumerate() {
+            let place = UNIT * elsewhere(record);
+            let moved = &mut wall.memory.log[place..place + UNIT];
+            moved.copy_from_slice(unit);
+            for at in [12, 14] {
+                let index = elsewhere_of(u32::from(unit[at]) | u32::from(unit[at + 1]) << 8);
+                moved[at..at + 2].copy_from_slice(&(index as u16).to_le_bytes());
+            }
+        }
+        let Control { oldest, free_first, free_last, .. } = &mut wall.control;
+        [oldest, free_first, free_last].into_iter().for_each(|index| *index = elsewhere_of(*index));
+        let Wall { memory, control } = &wall;
+        assert!(simulator::of_layout(&memory.library, &memory.log, &memory.sessions, control));
+        wall
+    }
+}
+
+/// Where a record, counted from 0, stands in a shuffled log.
+fn elsewhere(record: usize) -> usize {
+    (record * 197 + 61) % RECORDS
+}
+
+/// The same of an index, 0 being none.
+fn elsewhere_of(index: u32) -> u32 {
+    match index {
+        0 => 0,
+        _ => elsewhere(index as usize - 1) as u32 + 1,
     }
 }

@@ -6,10 +6,11 @@ use crate::message;
 use crate::random::Random;
 use crate::rows;
 use crate::wall::Wall;
+use simulator::Control;
 
 /// The kinds of call that have a weight, by their places among the weights.
-pub const CALLS: usize = 10;
-const COMMIT: usize = 0;
+pub const CALLS: usize = 11;
+pub const COMMIT: usize = 0;
 const SEND: usize = 1;
 const REFRESH: usize = 2;
 pub const READ: usize = 3;
@@ -19,6 +20,7 @@ pub const FORWARD: usize = 6;
 const VAN_WRITE: usize = 7;
 const MOVE: usize = 8;
 const LOAD: usize = 9;
+pub const RETIRE: usize = 10;
 
 /// The weights by which one kind alone is chosen.
 pub fn only(kind: usize) -> [usize; CALLS] {
@@ -30,7 +32,7 @@ pub fn only(kind: usize) -> [usize; CALLS] {
 /// How a list chooses its arguments.
 #[derive(Clone, Copy)]
 pub struct Taste {
-    /// Weights of commit, send, refresh, read, collect, preview, forward, van_write, move and load.
+    /// Weights of commit, send, refresh, read, collect, preview, forward, van_write, move, load and retire.
     pub weights: [usize; CALLS],
     /// Operations of a commit or a preview, from and to.
     pub sizes: (usize, usize),
@@ -67,6 +69,7 @@ pub fn call(random: &mut Random, maker: &Maker, taste: &Taste, wall: &Wall) -> C
         VAN_WRITE => van_write(random, taste, wall),
         MOVE => move_session(random, taste, wall),
         LOAD => Call::Load,
+        RETIRE => Call::Retire,
         _ => collect(random, taste, wall),
     }
 }
@@ -182,20 +185,20 @@ fn collect(random: &mut Random, taste: &Taste, wall: &Wall) -> Call {
 
 fn van_write(random: &mut Random, taste: &Taste, wall: &Wall) -> Call {
     let number = transaction(random, taste, wall);
-    let asked = message::output_asked(&wall.played, number);
+    let asked = message::output_asked(&wall.control, &wall.played, number);
     Call::VanWrite { number, output: output_near(random, taste, asked) }
 }
 
-/// The number of a transaction: often the first of which no message was written.
+/// The number of a transaction: often the first in the log of which no message was written, now and then one that is retired.
 fn transaction(random: &mut Random, taste: &Taste, wall: &Wall) -> u32 {
-    let commits = wall.control.commits;
-    let any = random.within(1, commits.max(1) as usize) as u32;
+    let Control { retired, commits, .. } = wall.control;
+    let any = random.within((retired + 1).min(commits) as usize, commits as usize) as u32;
     if random.percent(taste.fitting) {
-        let next = if wall.written < commits { wall.written + 1 } else { any };
-        return *random.pick(&[next, next, next, 1, commits, any]);
+        let next = if wall.next_message() <= commits { wall.next_message() } else { any };
+        return *random.pick(&[next, next, next, next, retired + 1, commits, any, 1]);
     }
-    let word = random.word();
-    *random.pick(&[0, 1, commits, commits + 1, commits + 1, 65_536 + any, 65_536 + commits, u32::MAX, word])
+    let (word, gone) = (random.word(), random.within(0, retired as usize) as u32);
+    *random.pick(&[0, 1, retired, gone, commits, commits + 1, commits + 1, 65_536 + any, 65_536 + commits, u32::MAX, word])
 }
 
 fn output_near(random: &mut Random, taste: &Taste, asked: usize) -> usize {

@@ -91,12 +91,12 @@ fn twisted(player: &mut Player<'_>, random: &mut Random, wall: &Wall, call: &Cal
 
 pub fn any_word(random: &mut Random) -> u32 {
     let any = random.word();
-    *random.pick(&[0, 1, 2, 4, 5, 31, 32, 33, 511, 512, 513, 65_536, 1 << 31, u32::MAX, any])
+    *random.pick(&[0, 1, 2, 4, 5, 31, 32, 33, 511, 512, 513, 65_534, 65_535, 65_536, 1 << 31, u32::MAX, any])
 }
 
-pub const WORDS: usize = 27;
+pub const WORDS: usize = 31;
 
-/// One word of the control, counted in its order from 0 to 26.
+/// One word of the control, counted in its order from 0 to 30.
 pub fn word(control: &mut Control, at: usize) -> &mut u32 {
     match at {
         0 => &mut control.studios,
@@ -104,6 +104,10 @@ pub fn word(control: &mut Control, at: usize) -> &mut u32 {
         17 => &mut control.used,
         18 => &mut control.commits,
         19..=22 => &mut control.sent[at - 19],
-        _ => &mut control.applied[at - 23],
+        23..=26 => &mut control.applied[at - 23],
+        27 => &mut control.retired,
+        28 => &mut control.oldest,
+        29 => &mut control.free_first,
+        _ => &mut control.free_last,
     }
 }

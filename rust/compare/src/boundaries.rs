@@ -3,38 +3,48 @@
 use crate::keys::{ACTED, PASSED_OVER, RECEIVE_AHEAD, RECEIVE_APPLIED, RECEIVE_BYTES, RECEIVE_CART, RECEIVE_COPY, RECEIVE_COUNT};
 use crate::keys::{ANSWERS, ANSWERS_MOVED, MOVE_ABOVE, MOVE_AHEAD, MOVE_BEHIND, MOVE_SESSION, MOVE_STUDIO};
 use crate::keys::{APPLIED, Asked, COLLECT_SPACES, COMMIT, DONE, Edit, Key, PREVIEW, READ, READ_ASKED, READ_SPACES, Reading, SENT_OVER};
-use crate::keys::{COLLECT_LOADED, COMMIT_LOADED, FIRST_SHOWN, FIRST_SHOWN_MOVED, LOADED, REFUSED_LOADED};
+use crate::keys::{BELOW_ALL, COLLECT_LOADED, COMMIT_LOADED, FIRST_SHOWN, FIRST_SHOWN_MOVED, LOADED, LOADED_RETIRED, REFUSED_LOADED};
 use crate::keys::{COLLECT_RAISES, FORWARD_RAISES, READ_RAISES};
 use crate::keys::{FORWARD_ASKED, FORWARD_COMMITS, FORWARD_HIGH, FORWARD_IN_LIST, FORWARD_NUMBER, FORWARD_RAISED, FORWARD_SPACES};
 use crate::keys::{FORWARD_STUDIO, FORWARD_UNMADE, HEAD_END, WAITED};
 use crate::keys::{HELD, RECEIVE_NUMBER, RECEIVE_OPERATION, RECEIVE_SPACED, RECEIVE_SPARE, REPEATED, RUN, RUN_HIGH};
-use crate::keys::{LOAD_APPLIED, LOAD_BEHIND, LOAD_COMMITS, LOAD_SENT, LOAD_SPACED, LOAD_STUDIOS, LOAD_USED, LOAD_WAITS};
+use crate::keys::{LOAD_APPLIED, LOAD_BEHIND, LOAD_BEYOND, LOAD_COMMITS, LOAD_LOGGED, LOAD_RETIRED, LOAD_SENT, LOAD_SPACED};
 use crate::keys::{LOAD_BYTE, LOAD_CART, LOAD_EARLIER, LOAD_LATER, LOAD_LESS, LOAD_LETTER, LOAD_LETTER_LAST, LOAD_MORE};
-use crate::keys::{LOAD_HEAD_END, LOAD_LAST, LOAD_STUDIO, LOAD_STUDIO_APPLIED, LOAD_STUDIO_BEHIND};
+use crate::keys::{LOAD_HEAD_END, LOAD_LAST, LOAD_STUDIO, LOAD_STUDIO_APPLIED, LOAD_STUDIO_BEHIND, LOAD_STUDIOS, LOAD_USED, LOAD_WAITS};
 use crate::keys::{LOAD_MISFIT, LOAD_MISFIT_IN, LOAD_MISFIT_LATER, LOAD_MISFIT_PLACE};
 use crate::keys::{NONE, ONE, SEARCH_BOTH, SEARCH_BYTE, SEARCH_BYTE_0, SEARCH_CART, SEARCH_COPY, SEARCH_DIFFERS, SEARCH_FOUND};
 use crate::keys::{RAISED_BEHIND, RAISED_FROM, RAISED_HIGH, REFUSED_AT, REFUSED_IN_LIST};
+use crate::keys::{RETIRE_ACTED, RETIRE_FREE, RETIRE_JOINED, RETIRE_LEAST, RETIRE_LEFT, RETIRE_OPERATIONS, RETIRE_PASSED_OVER};
+use crate::keys::{RETIRE_NEEDED, RETIRE_NEEDED_LAST, RETIRE_NEEDED_SENT, RETIRE_NONE, RETIRE_STUDIOS, RETIRED};
 use crate::keys::{SEARCH_LAST, SEARCH_LENGTH, SEARCH_LENGTH_BYTE, SEARCH_LETTERS, SEARCH_TITLE, SEVERAL, WRONG_LENGTH};
+use crate::keys::{TAKEN_ALONE, TAKEN_FIRST, TAKEN_LEFT, TAKEN_NEXT, VAN_WRITE_GONE, VAN_WRITE_RETIRED, WEEKS};
 use crate::keys::{VAN_WRITE_COMMITS, VAN_WRITE_COUNT, VAN_WRITE_NUMBER, VAN_WRITE_ROOM, VAN_WRITE_SPACED, VAN_WRITE_SPARE};
+use crate::lists::{FEW, MANY};
 use crate::torn;
 
 /// −1 as it is kept in a key.
 const LESS: u32 = u32::MAX;
 const HUGE: u32 = u32::MAX;
+/// The last commit number.
+const LAST: u32 = simulator::COMMITS;
 
 pub fn all() -> Vec<Key> {
     let spaces = [reading(&READ_SPACES, WAITED), reading(&COLLECT_SPACES, WAITED), reading(&FORWARD_SPACES, HEAD_END)].concat();
     let asked = [asked(&READ_ASKED, WAITED), asked(&FORWARD_ASKED, HEAD_END)].concat();
     let calls = [edit(&COMMIT), edit(&PREVIEW), taken(), asked, forward(), spaces, moves(), load(), van_write(), OTHERS.to_vec()].concat();
-    [calls, loaded(), searches(), receive()].concat()
+    [calls, loaded(), retire(), searches(), receive()].concat()
 }
 
 /// Those of a load. A byte that alone differs, in memory of the layout, is one of audio, length or title.
 fn load() -> Vec<Key> {
     let bytes: Vec<u32> = (4..12).chain(16..80).collect();
     numbered(&[
-        (LOAD_COMMITS, &[0, 1, 2, 511, 512], DONE),
-        (LOAD_COMMITS, &[0, 1, 512], 19),
+        (LOAD_COMMITS, &[0, 1, 2, 511, 512, LAST], DONE),
+        (LOAD_COMMITS, &[0, 1, 512, LAST], 19),
+        (LOAD_RETIRED, &[0, 1, 2, LAST], DONE),
+        (LOAD_RETIRED, &[0, 1, LAST], 19),
+        (LOAD_LOGGED, &[0, 1, 2], DONE),
+        (LOAD_BEYOND, &[0, 1, 2], DONE),
         (LOAD_USED, &[0, 1, 511, 512], DONE),
         (LOAD_USED, &[0, 1, 512], 19),
         (LOAD_STUDIOS, &[1, 2, 3, 4], DONE),
@@ -61,7 +71,31 @@ fn load() -> Vec<Key> {
         (LOAD_MISFIT_PLACE, &[1, 2, 3, 4, 5, 6, 7, 8], 19),
         (LOAD_MISFIT_IN, &[1, 2, 512], 19),
         (LOAD_MISFIT_LATER, &[0, 1, 2], 19),
-        (torn::SWEEP, &[0, 1, 2, 3, 4], DONE),
+        (torn::SWEEP, &[0, 1, 2, 3, 4, 5], DONE),
+    ])
+}
+
+/// Those of a retire, and of the records that commits take.
+fn retire() -> Vec<Key> {
+    numbered(&[
+        (RETIRED, &[1, 2, 255, 256, 257, 512, 513, LAST - 1, LAST], DONE),
+        (RETIRE_OPERATIONS, &[1, 2, 3, 4, 5, 6, 7, 8], DONE),
+        (RETIRE_LEFT, &[0, 1, 2], DONE),
+        (RETIRE_LEAST, &[1, 2], DONE),
+        (RETIRE_FREE, &[0, 1, 511], DONE),
+        (RETIRE_STUDIOS, &[1, 2, 3, 4], DONE),
+        (RETIRE_ACTED, &[1, 2, 3, 4], DONE),
+        (RETIRE_PASSED_OVER, &[1, 2, 3, 4], DONE),
+        (RETIRE_JOINED, &[LESS, 1, 2], DONE),
+        (RETIRE_NONE, &[0, 1, LAST], 20),
+        (RETIRE_NEEDED, &[1, 2, 3, 4], 20),
+        (RETIRE_NEEDED_LAST, &[1, 2, 3, 4], 20),
+        (RETIRE_NEEDED_SENT, &[0, 1, 2], 20),
+        (TAKEN_NEXT, &[LESS, 1, 2], DONE),
+        (TAKEN_FIRST, &[LESS, 1, 2], DONE),
+        (TAKEN_LEFT, &[0, 1], DONE),
+        (TAKEN_ALONE, &[0, 1, 2], DONE),
+        (WEEKS, &[FEW, MANY], DONE),
     ])
 }
 
@@ -69,7 +103,9 @@ fn load() -> Vec<Key> {
 fn loaded() -> Vec<Key> {
     let answers = [READ, HEAD_END].map(|end| numbered(&[(FIRST_SHOWN, &[0, 1, 2], end), (FIRST_SHOWN_MOVED, &[0, 1, 2], end)]));
     let others = numbered(&[
-        (LOADED, &[0, 1, 512], DONE),
+        (LOADED, &[0, 1, 512, LAST], DONE),
+        (LOADED_RETIRED, &[0, 1, 2], DONE),
+        (BELOW_ALL, &[0, 1], READ),
         (COLLECT_LOADED, &[1, 2], READ),
         (COLLECT_LOADED, &[1, 2], WAITED),
         (COMMIT_LOADED, &[1, 2], DONE),
@@ -81,7 +117,7 @@ fn loaded() -> Vec<Key> {
 /// Those of a move, of the numbers that answers raise, and of two answers to one session.
 fn moves() -> Vec<Key> {
     let raises = [READ_RAISES, COLLECT_RAISES, FORWARD_RAISES]
-        .map(|of| numbered(&[(of.from, &[0, 1], READ), (of.by, &[1, 2], READ), (of.high, &[0, 1, 2], READ)]));
+        .map(|of| numbered(&[(of.from, &[0, 1], READ), (of.by, &[1, 2], READ), (of.high, &[0, 1, 2, 255], READ)]));
     let answers = [READ, HEAD_END].map(|end| numbered(&[(ANSWERS, &[0, 1, 2], end), (ANSWERS_MOVED, &[0, 1, 2], end)]));
     let others = numbered(&[
         (MOVE_SESSION, &[1, 16], DONE),
@@ -103,8 +139,12 @@ fn moves() -> Vec<Key> {
 /// Those of a van_write.
 fn van_write() -> Vec<Key> {
     numbered(&[
-        (VAN_WRITE_NUMBER, &[1, 2, 255, 256, 257, 512], DONE),
+        (VAN_WRITE_NUMBER, &[1, 2, 255, 256, 257, 512, 513, LAST], DONE),
         (VAN_WRITE_NUMBER, &[0, 513, 65_536, 65_537, HUGE], 17),
+        (VAN_WRITE_NUMBER, &[1, 2, LAST], 21),
+        (VAN_WRITE_RETIRED, &[LESS, 0], 21),
+        (VAN_WRITE_RETIRED, &[1, 2], DONE),
+        (VAN_WRITE_GONE, &[0, 83, 84, 644], 21),
         (VAN_WRITE_COMMITS, &[LESS, 0], DONE),
         (VAN_WRITE_COMMITS, &[1], 17),
         (VAN_WRITE_COUNT, &[1, 2, 3, 4, 5, 6, 7, 8], DONE),
@@ -214,8 +254,8 @@ fn asked(of: &Asked, behind: u32) -> Vec<Key> {
 fn forward() -> Vec<Key> {
     let ends = [READ, HEAD_END].map(|end| {
         numbered(&[
-            (FORWARD_NUMBER, &[1, 512], end),
-            (FORWARD_COMMITS, &[1, 512], end),
+            (FORWARD_NUMBER, &[1, 512, LAST], end),
+            (FORWARD_COMMITS, &[1, 512, LAST], end),
             (FORWARD_STUDIO, &[1, 2, 3, 4], end),
             (FORWARD_UNMADE, &[1, 2], end),
             (FORWARD_IN_LIST, &[1, 2], end),
@@ -225,20 +265,20 @@ fn forward() -> Vec<Key> {
         (FORWARD_NUMBER, &[0], READ),
         (FORWARD_COMMITS, &[0], READ),
         (FORWARD_RAISED, &[0, 1, 2], HEAD_END),
-        (FORWARD_HIGH, &[0, 1, 2], HEAD_END),
+        (FORWARD_HIGH, &[0, 1, 2, 255], HEAD_END),
         (FORWARD_ASKED.found_by_numbers, &[0, 1, 32], HEAD_END),
         (FORWARD_ASKED.found_by_title, &[0, 1, 2, 3], HEAD_END),
     ]);
     [ends.concat(), others].concat()
 }
 
-/// Those of a commit refused with 8. Its commits are at most 511, since the last operation has to fit the log.
+/// Those of a commit refused with 8. Its commits are at most 65,534, since at 65,535 it is refused with 7.
 fn taken() -> Vec<Key> {
     numbered(&[
-        (REFUSED_AT, &[0, 1, 511], 8),
+        (REFUSED_AT, &[0, 1, 511, LAST - 1], 8),
         (REFUSED_IN_LIST, &[0, 1], 8),
         (RAISED_FROM, &[0, 1], 8),
-        (RAISED_HIGH, &[0, 1], 8),
+        (RAISED_HIGH, &[0, 1, 255], 8),
         (RAISED_BEHIND, &[0, 1, 2], 8),
     ])
 }
@@ -265,7 +305,9 @@ fn edit(of: &Edit) -> Vec<Key> {
         (of.session, &[0, 17, HUGE], 3),
         (of.size, &[80, 160, 240, 320, 400, 480, 560, 640], DONE),
         (of.size, &[0, 79, 81, 641, 720], 5),
-        (of.number, &[1, 512], DONE),
+        (of.number, &[1, 512, 513, LAST - 1, LAST], DONE),
+        (of.full, &[LESS], 7),
+        (of.ended, &[LESS, 0, 1], 7),
         (of.used, &[504, 505, 506, 507, 508, 509, 510, 511], DONE),
         (of.used, &[505, 506, 507, 508, 509, 510, 511, 512], 7),
         (of.used_after, &[511, 512], DONE),
@@ -320,6 +362,7 @@ const OTHERS: &[Key] = &[
     ("send, studio", 3, DONE),
     ("send, number", 1, DONE),
     ("send, number", 512, DONE),
+    ("send, number", LAST, DONE),
     ("send, studio − S", 0, DONE),
     ("send, studio − S", 1, 3),
     ("send, sent − applied", 31, DONE),
@@ -337,6 +380,7 @@ const OTHERS: &[Key] = &[
     ("refresh, studio", 3, DONE),
     ("refresh, number", 1, DONE),
     ("refresh, number", 512, DONE),
+    ("refresh, number", LAST, DONE),
     ("refresh, studio − S", 0, DONE),
     ("refresh, studio − S", 1, 3),
     (APPLIED, 1, DONE),
@@ -346,6 +390,8 @@ const OTHERS: &[Key] = &[
     ("read or collect, session number", 1, WAITED),
     ("read or collect, session number", 512, READ),
     ("read or collect, session number", 512, WAITED),
+    ("read or collect, session number", LAST, READ),
+    ("read or collect, session number", LAST, WAITED),
     ("read or collect, studio", 1, READ),
     ("read or collect, studio", 2, READ),
     ("read or collect, studio", 3, READ),

@@ -15,6 +15,7 @@ pub enum Call {
     VanWrite { number: u32, output: usize },
     Move { session: u32, studio: u32 },
     Load,
+    Retire,
 }
 
 impl Call {
@@ -31,6 +32,7 @@ impl Call {
             Call::VanWrite { .. } => "van_write",
             Call::Move { .. } => "move",
             Call::Load => "load",
+            Call::Retire => "retire",
         }
     }
 
@@ -43,9 +45,10 @@ impl Call {
             Call::Refresh { .. } => &[1, 2, 3, 11],
             Call::Read { .. } | Call::Forward { .. } => &[1, 2, 3, 4, 12, 13],
             Call::Collect { .. } => &[1, 2, 3, 14, 13],
-            Call::VanWrite { .. } => &[1, 2, 17],
+            Call::VanWrite { .. } => &[1, 2, 21, 17],
             Call::Move { .. } => &[1, 2, 3, 4],
             Call::Load => &[1, 2, 19],
+            Call::Retire => &[1, 2, 20],
         }
     }
 
@@ -99,6 +102,7 @@ impl fmt::Display for Call {
             Call::VanWrite { number, output } => write!(f, "van_write number={number} output={output}"),
             Call::Move { session, studio } => write!(f, "move session={session} studio={studio}"),
             Call::Load => write!(f, "load"),
+            Call::Retire => write!(f, "retire"),
         }
     }
 }

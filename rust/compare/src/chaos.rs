@@ -58,8 +58,11 @@ fn circles(random: &mut Random, wall: &mut Wall) {
         let to = *random.pick(&[1, 2, record + 1, record, 513, 65_535]) as u16;
         log[at..at + 2].copy_from_slice(&to.to_le_bytes());
     }
-    wall.control.used = *random.pick(&[wall.control.used, 512]);
-    wall.control.commits = *random.pick(&[wall.control.commits, 511, 512]);
+    let (any, control) = (random.within(1, 512) as u32, &mut wall.control);
+    control.used = *random.pick(&[control.used, 512]);
+    control.commits = *random.pick(&[control.commits, 511, 512, 65_535]);
+    control.oldest = *random.pick(&[control.oldest, any]);
+    control.free_first = *random.pick(&[control.free_first, control.oldest, any]);
 }
 
 /// One memory of one byte throughout.

@@ -3,9 +3,11 @@
 use crate::call::Call;
 use crate::keys::{Asked, COMMIT, DONE, Edit, FORWARD_ASKED, HEAD_END, Key, LENGTHS, MIXED, PREVIEW, READ, READ_ASKED, WAITED};
 use crate::lent::Lent;
+use crate::made::SIXTH;
+use crate::message;
 use crate::one_copy::History;
 use crate::rows;
-use simulator::{ANSWERED, Answer, Control, LIBRARY, LOG, REFUSED, SESSION_MEMORY, WAITS};
+use simulator::{ANSWERED, Answer, COMMITS, COPY, Control, LIBRARY, LOG, REFUSED, SESSION_MEMORY, WAITS};
 use std::collections::BTreeMap;
 
 /// Facts of a call's entry that are gone once it has been played.
@@ -14,6 +16,9 @@ pub struct Before {
     pub session: Vec<u8>,
     /// For a commit or a preview.
     pub head_end: Vec<u8>,
+    /// For a retire: the sixth copy, and the operations of the oldest transaction.
+    pub sixth: Vec<u8>,
+    pub oldest: Vec<u8>,
 }
 
 #[derive(Default)]
@@ -46,13 +51,20 @@ pub struct Coverage {
 }
 
 impl Coverage {
-    pub fn before(call: &Call, lent: &Lent) -> Before {
+    pub fn before(call: &Call, control: &Control, lent: &Lent) -> Before {
         let lengths = [lent.library.len(), lent.log.len(), lent.sessions.len()];
         let head_end = match call {
             Call::Commit { .. } | Call::Preview { .. } => rows::head_end(lent),
             _ => Vec::new(),
         };
-        Before { lengths, session: rows::stored(call, lent), head_end }
+        let (sixth, oldest) = match call {
+            Call::Retire => {
+                let oldest = message::operations_in_log(control, lent, control.retired.saturating_add(1));
+                (rows::library(lent)[SIXTH * COPY..].to_vec(), oldest.unwrap_or_default())
+            }
+            _ => (Vec::new(), Vec::new()),
+        };
+        Before { lengths, session: rows::stored(call, lent), head_end, sixth, oldest }
     }
 
     pub fn count(&mut self, key: Key) {
@@ -67,9 +79,9 @@ impl Coverage {
         if history.is_mixed() {
             self.count((MIXED, 0, DONE));
         }
-        if let Some(commits) = history.loaded_commits() {
+        if let Some(loaded) = history.loaded_counts() {
             self.loaded += 1;
-            self.loaded_transactions += u64::from(commits);
+            self.loaded_transactions += u64::from(loaded.commits - loaded.retired);
         }
     }
 
@@ -91,6 +103,8 @@ impl Coverage {
             self.note_move(call, control, before, answer);
             self.note_raise(call, before, answer);
             self.note_load(call, control, after, answer);
+            self.note_retire(call, control, before, answer);
+            self.note_taken(call, control, after, answer);
         }
     }
 
@@ -127,8 +141,8 @@ impl Coverage {
                 self.count(("collect, kind of read", u32::from(before.session[0]), end));
             }
             Call::Forward { .. } => self.note_asked(&FORWARD_ASKED, call, control, before, answer),
-            // `note_van_write` and `note_move` have their arguments; a load has none.
-            Call::VanWrite { .. } | Call::Move { .. } | Call::Load => {}
+            // `note_van_write` and `note_move` have their arguments; a load and a retire have none.
+            Call::VanWrite { .. } | Call::Move { .. } | Call::Load | Call::Retire => {}
         }
     }
 
@@ -169,6 +183,11 @@ impl Coverage {
             let after = control.used + (operations.len() / 80) as u32;
             self.count((of.used, control.used, end));
             self.count((of.used_after, after, end));
+        }
+        if end == 7 {
+            let spare = rows::free_records(control) as i64 - (operations.len() / 80) as i64;
+            let subject = if control.commits == COMMITS { of.ended } else { of.full };
+            self.count((subject, spare.clamp(-1, 1) as u32, end));
         }
         if matches!(end, 6 | 16 | DONE) {
             for unit in operations.chunks_exact(80) {
@@ -327,5 +346,6 @@ fn call_place(call: &Call) -> usize {
         Call::VanWrite { .. } => 8,
         Call::Move { .. } => 9,
         Call::Load => 10,
+        Call::Retire => 11,
     }
 }

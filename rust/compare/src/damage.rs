@@ -1,6 +1,7 @@
 //! Single fields put out of their rule: every kind of field of a cart, a
-//! record, a session and the control.
+//! record, a session and the control; and the log's chains, by `chains.rs`.
 
+use crate::chains::BREAKS;
 use crate::lent::Lent;
 use crate::places::{self, Place};
 use crate::random::Random;
@@ -17,25 +18,33 @@ pub const COPIES: &str = "damage to a cart of copy";
 #[derive(Clone, Copy)]
 pub struct Damage {
     pub name: &'static str,
-    /// The copy of a cart: 0 the head end's, else its studio's.
+    /// The copy of a cart: 0 the head end's, 5 the sixth, else its studio's.
     pub copy: Option<u32>,
 }
 
 /// Puts one field of a wall of the layout out of its rule; `None` when this
 /// wall has no place for the kind of damage chosen.
 pub fn damage(random: &mut Random, wall: &mut Wall) -> Option<Damage> {
-    let chosen = random.below(UNITS.len() + CONTROLS.len());
-    if chosen < UNITS.len() {
-        let (name, place, change) = UNITS[chosen];
-        let at = find(random, place, &mut wall.played, &wall.control)?;
-        let part = places::memory(place, &mut wall.played);
-        change(random, &mut part.lent_mut()[UNIT * at..UNIT * (at + 1)]);
-        let cart = part.len() == LIBRARY;
-        Some(Damage { name, copy: cart.then_some((at / CARTS) as u32) })
-    } else {
-        let (name, twist) = CONTROLS[chosen - UNITS.len()];
-        twist(random, &mut wall.control).then_some(Damage { name, copy: None })
+    let chosen = random.below(UNITS.len() + CONTROLS.len() + BREAKS.len());
+    let (control, chain) = (chosen.wrapping_sub(UNITS.len()), chosen.wrapping_sub(UNITS.len() + CONTROLS.len()));
+    if let Some((name, place, change)) = UNITS.get(chosen) {
+        return damage_unit(random, wall, *place, *change).map(|copy| Damage { name, copy });
     }
+    let (name, damaged) = match (CONTROLS.get(control), BREAKS.get(chain)) {
+        (Some((name, twist)), _) => (name, twist(random, &mut wall.control)),
+        (_, Some((name, change))) => (name, change(random, wall)),
+        _ => return None,
+    };
+    damaged.then_some(Damage { name, copy: None })
+}
+
+/// Changes one unit of a kind, if there is one; says of a cart in which copy it is.
+fn damage_unit(random: &mut Random, wall: &mut Wall, place: Place, change: Change) -> Option<Option<u32>> {
+    let at = find(random, place, &mut wall.played, &wall.control)?;
+    let part = places::memory(place, &mut wall.played);
+    change(random, &mut part.lent_mut()[UNIT * at..UNIT * (at + 1)]);
+    let cart = part.len() == LIBRARY;
+    Some(cart.then_some((at / CARTS) as u32))
 }
 
 /// Puts one field of a held cart of the layout out of its rule.
@@ -62,7 +71,8 @@ fn find(random: &mut Random, place: Place, lent: &mut Lent, control: &Control) -
 }
 
 pub fn names() -> impl Iterator<Item = &'static str> {
-    UNITS.iter().map(|(name, ..)| *name).chain(CONTROLS.iter().map(|(name, _)| *name))
+    let fields = UNITS.iter().map(|(name, ..)| *name).chain(CONTROLS.iter().map(|(name, _)| *name));
+    fields.chain(BREAKS.iter().map(|(name, _)| *name))
 }
 
 const UNITS: &[(&str, Place, Change)] = &[
@@ -77,10 +87,10 @@ const UNITS: &[(&str, Place, Change)] = &[
     ("held cart, byte after the title", Place::HeldCart, after_title),
     ("empty cart, one byte", Place::EmptyCart, |r, u| u[r.below(80)] = r.nonzero_byte()),
     ("cart above S, one byte", Place::CartAboveS, |r, u| u[r.below(80)] = r.nonzero_byte()),
-    ("cart above S, whole", Place::CartAboveS, |_, u| {
-        u[..9].copy_from_slice(&[1, 1, 1, 0, 1, 0, 0, 0, 1]);
-        u[16] = b'x';
-    }),
+    ("cart above S, whole", Place::CartAboveS, |_, u| whole_cart(u)),
+    ("cart of the sixth copy, nothing retired, one byte", Place::UnusedSixthCart, |r, u| u[r.below(80)] = r.nonzero_byte()),
+    ("cart of the sixth copy, nothing retired, whole", Place::UnusedSixthCart, |_, u| whole_cart(u)),
+    ("cart of the sixth copy", Place::SixthCart, cart),
     ("record, byte 0", Place::Record, |r, u| u[0] = *r.pick(&[0, 5, 6, 255])),
     ("record, another kind", Place::Record, |r, u| u[0] = 1 + (u[0] + r.below(3) as u8) % 4),
     ("record, cart 0", Place::Record, |_, u| u[2..4].fill(0)),
@@ -100,11 +110,15 @@ const UNITS: &[(&str, Place, Change)] = &[
     ("record, next operation", Place::Record, |r, u| other_link(r, u, 12)),
     ("first record, next transaction", Place::FirstRecord, |r, u| other_link(r, u, 14)),
     ("later record, bytes 14–15", Place::LaterRecord, |r, u| u[r.within(14, 15)] = r.nonzero_byte()),
-    ("unused record, one byte", Place::UnusedRecord, |r, u| u[r.below(80)] = r.nonzero_byte()),
-    ("unused record, whole", Place::UnusedRecord, |_, u| u[..3].copy_from_slice(&[4, 0, 1])),
+    ("free record, a byte before its link", Place::FreeRecord, |r, u| u[r.below(12)] = r.nonzero_byte()),
+    ("free record, a byte after its link", Place::FreeRecord, |r, u| u[r.within(14, 79)] = r.nonzero_byte()),
+    ("free record, an operation", Place::FreeRecord, |_, u| u[..3].copy_from_slice(&[4, 0, 1])),
+    ("free record, next free record", Place::FreeRecord, |r, u| other_link(r, u, 12)),
+    ("last free record, next free record", Place::LastFreeRecord, |r, u| other_link(r, u, 12)),
     ("session, byte 0", Place::Session, |r, u| u[0] = *r.pick(&[3, 4, 255])),
     ("session, number above commits", Place::Session, |r, u| {
-        u[2..4].copy_from_slice(&r.pick(&[513u16, 32_768, 65_535]).to_le_bytes());
+        let number = u16::from_le_bytes([u[2], u[3]]);
+        u[2..4].copy_from_slice(&r.pick(&[513, 32_768, 65_535, number.saturating_add(1)]).to_le_bytes());
     }),
     ("session, bytes 4–15", Place::Session, |r, u| u[r.within(4, 15)] = r.nonzero_byte()),
     ("idle session, byte 0", Place::IdleSession, |r, u| u[0] = *r.pick(&[1, 2])),
@@ -140,6 +154,26 @@ const CONTROLS: &[(&str, Twist)] = &[
     }),
     ("control, used another", |r, c| near(r, &mut c.used)),
     ("control, commits another", |r, c| near(r, &mut c.commits)),
+    ("control, retired another", |r, c| near(r, &mut c.retired)),
+    ("control, oldest another", |r, c| near(r, &mut c.oldest)),
+    ("control, free first another", |r, c| near(r, &mut c.free_first)),
+    ("control, free last another", |r, c| near(r, &mut c.free_last)),
+    ("control, oldest of more than 16 bits", |r, c| c.oldest > 0 && more_bits(r, &mut c.oldest)),
+    ("control, free first of more than 16 bits", |r, c| c.free_first > 0 && more_bits(r, &mut c.free_first)),
+    ("control, free last of more than 16 bits", |r, c| c.free_last > 0 && more_bits(r, &mut c.free_last)),
+    ("control, every count raised above 65,535 commits", |r, c| {
+        let above = *r.pick(&[65_536, 65_536, 65_537, 131_071]);
+        raise(c, above - c.commits);
+        true
+    }),
+    ("control, retired above one applied", |r, c| {
+        let i = r.below(c.studios as usize);
+        let (sent, applied) = (c.sent[i], c.applied[i]);
+        let fits = applied == c.retired && c.commits < 65_535;
+        raise(c, 1);
+        c.applied[i] = applied;
+        fits && put(&mut c.sent[i], sent)
+    }),
     ("control, sent below applied", |r, c| {
         let i = r.below(c.studios as usize);
         c.applied[i] > 0 && put(&mut c.sent[i], c.applied[i] - 1)
@@ -156,7 +190,7 @@ const CONTROLS: &[(&str, Twist)] = &[
     ("control, window of 33", |r, c| {
         let i = r.below(c.studios as usize);
         c.sent[i] = c.commits;
-        c.commits >= 33 && put(&mut c.applied[i], c.commits - 33)
+        c.commits - c.retired >= 33 && put(&mut c.applied[i], c.commits - 33)
     }),
     ("control, applied above sent", |r, c| {
         let i = r.below(c.studios as usize);
@@ -176,9 +210,28 @@ fn put(word: &mut u32, value: u32) -> bool {
     true
 }
 
+/// Raises every count of a control that is of the layout.
+fn raise(control: &mut Control, more: u32) {
+    let studios = control.studios as usize;
+    let counts = control.sent[..studios].iter_mut().chain(&mut control.applied[..studios]);
+    counts.chain([&mut control.commits, &mut control.retired]).for_each(|count| *count += more);
+}
+
+/// A word whose low 16 bits stay.
+fn more_bits(random: &mut Random, word: &mut u32) -> bool {
+    *word |= *random.pick(&[1 << 16, 1 << 24, 1 << 31]);
+    true
+}
+
 fn near(random: &mut Random, word: &mut u32) -> bool {
     let (more, less, far) = (*word + 1, word.saturating_sub(1), *word + 65_536);
     put(word, *random.pick(&[more, less, far, 0, 512, 513, 1 << 31, u32::MAX]))
+}
+
+/// A held cart 1.
+fn whole_cart(unit: &mut [u8]) {
+    unit[..9].copy_from_slice(&[1, 1, 1, 0, 1, 0, 0, 0, 1]);
+    unit[16] = b'x';
 }
 
 fn title_length(random: &mut Random, unit: &mut [u8]) {

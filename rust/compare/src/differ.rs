@@ -2,6 +2,7 @@
 
 use crate::delivery::Delivery;
 use crate::lent::{Lent, Part};
+use crate::made::SIXTH;
 use crate::message::HEAD;
 use crate::sought::Sought;
 use simulator::{Answer, COPY, Control, Search, UNIT, VanAnswer};
@@ -71,6 +72,7 @@ fn control_words(control: &Control) -> Vec<u32> {
     words.extend([control.used, control.commits]);
     words.extend(control.sent);
     words.extend(control.applied);
+    words.extend([control.retired, control.oldest, control.free_first, control.free_last]);
     words
 }
 
@@ -81,7 +83,11 @@ fn control_word_name(at: usize) -> String {
         17 => "used".to_string(),
         18 => "commits".to_string(),
         19..=22 => format!("sent of studio {}", at - 18),
-        _ => format!("applied of studio {}", at - 22),
+        23..=26 => format!("applied of studio {}", at - 22),
+        27 => "retired".to_string(),
+        28 => "oldest".to_string(),
+        29 => "free first".to_string(),
+        _ => "free last".to_string(),
     }
 }
 
@@ -99,6 +105,7 @@ fn part_difference(by: &str, name: &str, (right, played): (&Part, &Part), place:
 fn cart_place(at: usize) -> String {
     let copy = match at / COPY {
         0 => "head end".to_string(),
+        SIXTH => "the sixth copy".to_string(),
         studio => format!("studio {studio}"),
     };
     format!("{copy}, cart {}, byte {}", at % COPY / UNIT + 1, at % UNIT)

@@ -35,6 +35,7 @@ macro_rules! play {
             Call::VanWrite { number, .. } => $by::van_write(library, log, sessions, $control, number, output),
             Call::Move { session, studio } => $by::move_session(library, log, sessions, $control, session, studio),
             Call::Load => $by::load(library, log, sessions, $control),
+            Call::Retire => $by::retire(library, log, sessions, $control),
         }
     }};
 }

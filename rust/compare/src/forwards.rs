@@ -6,7 +6,7 @@ use crate::keys::{COLLECT_FORWARDED, COLLECT_KEPT, FORWARD_AGAIN, FORWARD_AGAIN_
 use crate::keys::{FORWARD_COMMITS, FORWARD_HIGH, FORWARD_NUMBER, FORWARD_RAISED, FORWARD_STUDIO, FORWARD_UNMADE};
 use crate::keys::{HEAD_END, READ, READ_FORWARDED, READ_FORWARDED_ALONE, READ_STRAIGHT, WAITED};
 use crate::lent::Lent;
-use crate::log;
+use crate::made::Log;
 use crate::rows;
 use crate::told::{Sessions, Told};
 use simulator::{Answer, COPY, Control};
@@ -29,7 +29,7 @@ impl Coverage {
         if end == HEAD_END && number < control.commits {
             self.count((FORWARD_HIGH, control.commits >> 8, end));
         }
-        if lent.library.lent()[..COPY] != log::copy_made(lent, control.used) {
+        if lent.library.lent()[..COPY] != Log::new(control, lent).library(control.commits) {
             self.count((FORWARD_UNMADE, u32::from(request[0]), end));
         }
     }

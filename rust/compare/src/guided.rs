@@ -1,19 +1,20 @@
 //! Lists from fresh systems, guided so that deep states are reached, and the lists over loaded memory that go on from them.
 
-use crate::arguments::{self, CALLS, PREVIEW, Taste};
+use crate::arguments::{self, CALLS, COMMIT, PREVIEW, RETIRE, Taste};
 use crate::asides;
 use crate::call::Call;
-use crate::keys::{DONE, LOADED_EARLIER};
+use crate::keys::{DONE, LOADED_EARLIER, WEEKS};
 use crate::lists;
 use crate::make::Maker;
+use crate::message;
 use crate::older;
 use crate::played::Played;
 use crate::player::{Mismatch, Player};
 use crate::random::Random;
 use crate::torn;
 use crate::wall::Wall;
-use crate::written::{self, Written};
-use simulator::Answer;
+use crate::written;
+use simulator::{Answer, DONE as ACCEPTED};
 
 /// In one of so many lists of a kind memory is loaded after each call, without the simulator in all.
 const LOADS_EACH: usize = 4;
@@ -42,6 +43,8 @@ pub enum Aim {
     Moves,
     /// Restarts while reads wait and studios are behind, some with a save from before, and lists over what is loaded.
     Restarts,
+    /// So many transactions, which are retired once the studios have them: the log's records serve again and again.
+    Weeks(u32),
 }
 
 /// One list being played.
@@ -61,7 +64,7 @@ pub struct Guide<'p, 'e> {
 pub fn play(player: &mut Player<'_>, seed: u64, aim: Aim) -> Result<(), Mismatch> {
     let mut random = Random::new(seed);
     let carts = match aim {
-        Aim::Titles | Aim::Waits | Aim::Older | Aim::Taken | Aim::Forwards | Aim::Moves | Aim::Restarts => 3,
+        Aim::Weeks(_) | Aim::Titles | Aim::Waits | Aim::Older | Aim::Taken | Aim::Forwards | Aim::Moves | Aim::Restarts => 3,
         Aim::Mixed => 40,
         _ => 10,
     };
@@ -103,23 +106,24 @@ impl Guide<'_, '_> {
 
     fn follow(&mut self, aim: Aim) -> Result<(), Mismatch> {
         match aim {
-            Aim::Mixed => self.halves(400, &taste([25, 20, 20, 25, 10, 8, 12, 12, 10, 4], (1, 8), 85)),
-            Aim::Waits => self.halves(350, &taste([22, 13, 13, 30, 22, 6, 15, 10, 8, 4], (1, 3), 93)),
-            Aim::Titles => self.halves(350, &taste([25, 18, 20, 30, 7, 6, 15, 10, 8, 4], (1, 3), 93)),
-            Aim::Eights => self.fill(&taste([66, 13, 13, 5, 3, 7, 4, 8, 3, 2], (8, 8), 97), 504),
+            Aim::Mixed => self.halves(400, &taste([25, 20, 20, 25, 10, 8, 12, 12, 10, 4, 10], (1, 8), 85)),
+            Aim::Waits => self.halves(350, &taste([22, 13, 13, 30, 22, 6, 15, 10, 8, 4, 5], (1, 3), 93)),
+            Aim::Titles => self.halves(350, &taste([25, 18, 20, 30, 7, 6, 15, 10, 8, 4, 6], (1, 3), 93)),
+            Aim::Eights => self.fill(&taste([66, 13, 13, 5, 3, 7, 4, 8, 3, 2, 3], (8, 8), 97), 504),
             // Few reads: a session that waits commits nothing, and the studios are far behind. Few arguments that do not fit: among them
             // are transactions of two.
             Aim::Ones => {
-                self.fill(&taste([85, 6, 6, 1, 1, 5, 3, 4, 2, 1], (1, 1), 99), 511)?;
+                self.fill(&taste([85, 6, 6, 1, 1, 5, 3, 4, 2, 1, 0], (1, 1), 99), 511)?;
                 self.write_all()
             }
-            Aim::Varied => self.fill(&taste([66, 13, 13, 5, 3, 7, 4, 6, 3, 2], (1, 8), 97), 500),
+            Aim::Varied => self.fill(&taste([66, 13, 13, 5, 3, 7, 4, 6, 3, 2, 3], (1, 8), 97), 500),
             Aim::Window => self.window(),
             Aim::Older => self.older(),
             Aim::Taken => self.taken(),
             Aim::Forwards => self.forwards(),
             Aim::Moves => self.moves(),
             Aim::Restarts => self.restarts(),
+            Aim::Weeks(transactions) => self.weeks(transactions),
         }
     }
 
@@ -131,9 +135,7 @@ impl Guide<'_, '_> {
             torn::play_aside(self.player, &mut self.random, &self.maker, &self.wall)?;
         }
         let call = arguments::call(&mut self.random, &self.maker, taste, &self.wall);
-        let answer = self.list.play(self.player, &mut self.wall, call)?;
-        self.load_after()?;
-        Ok(answer)
+        self.play(call)
     }
 
     /// In some lists memory is loaded after each call; with the simulator, which then takes long, less often where the log is long.
@@ -168,8 +170,7 @@ impl Guide<'_, '_> {
         self.player.coverage.note_loaded(&wall);
         if earlier.is_some() {
             self.player.coverage.count((LOADED_EARLIER, 0, DONE));
-            self.player.written = Written::before(&wall);
-            wall.written = 0;
+            self.player.written.go_back(&wall.control);
         }
         self.list = Played::over(&wall);
         self.wall = wall;
@@ -195,8 +196,9 @@ impl Guide<'_, '_> {
         (0..count).try_for_each(|_| self.step(taste).map(|_| ()))
     }
 
-    /// Commits until `used` reaches the mark, then every way of ending.
+    /// Commits until `used` reaches the mark, then every way of ending. Where nothing is retired on the way, nothing is later.
     fn fill(&mut self, filling: &Taste, mark: u32) -> Result<(), Mismatch> {
+        let retires = |weight: usize| if filling.weights[RETIRE] == 0 { 0 } else { weight };
         for _ in 0..1_200 {
             if self.wall.control.used >= mark {
                 break;
@@ -205,18 +207,18 @@ impl Guide<'_, '_> {
         }
         for _ in 0..60 {
             self.overfill()?;
-            self.step(&taste([50, 15, 15, 10, 10, 12, 10, 10, 5, 2], (1, 2), 90))?;
+            self.step(&taste([50, 15, 15, 10, 10, 12, 10, 10, 5, 2, retires(2)], (1, 2), 90))?;
         }
         self.restart_in(30)?;
-        self.steps(40, &taste([60, 12, 12, 10, 6, 12, 8, 8, 5, 2], (1, 8), 80))?;
+        self.steps(40, &taste([60, 12, 12, 10, 6, 12, 8, 8, 5, 2, retires(4)], (1, 8), 80))?;
         self.restart_in(30)?;
-        self.steps(150, &taste([5, 40, 40, 10, 5, 3, 6, 8, 6, 2], (1, 1), 95))
+        self.steps(150, &taste([5, 40, 40, 10, 5, 3, 6, 8, 6, 2, retires(20)], (1, 1), 95))
     }
 
     /// Now and then the messages of all transactions.
     fn write_all(&mut self) -> Result<(), Mismatch> {
         match self.random.percent(50) {
-            true => written::write_first(self.player, &mut self.wall, u32::MAX),
+            true => written::write_first(self.player, &mut self.wall, usize::MAX),
             false => Ok(()),
         }
     }
@@ -241,21 +243,21 @@ impl Guide<'_, '_> {
                 if self.wall.control.commits >= target {
                     break;
                 }
-                self.step(&taste([90, 2, 0, 6, 2, 4, 3, 4, 2, 2], (1, 1), 97))?;
+                self.step(&taste([90, 2, 0, 6, 2, 4, 3, 4, 2, 2, 2], (1, 1), 97))?;
             }
-            self.steps(80, &taste([2, 90, 0, 6, 2, 1, 3, 3, 2, 3], (1, 1), 95))?;
+            self.steps(80, &taste([2, 90, 0, 6, 2, 1, 3, 3, 2, 3, 2], (1, 1), 95))?;
             self.restart_in(30)?;
-            self.steps(60, &taste([8, 36, 40, 10, 6, 4, 6, 8, 6, 3], (1, 2), 90))?;
+            self.steps(60, &taste([8, 36, 40, 10, 6, 4, 6, 8, 6, 3, 10], (1, 2), 90))?;
         }
         Ok(())
     }
 
     /// Studios that have nearly caught up, then titles exchanged.
     fn older(&mut self) -> Result<(), Mismatch> {
-        let mixed = taste([30, 22, 22, 20, 8, 6, 10, 10, 6, 4], (1, 3), 93);
+        let mixed = taste([30, 22, 22, 20, 8, 6, 10, 10, 6, 4, 6], (1, 3), 93);
         self.steps(60, &mixed)?;
-        self.steps(80, &taste([2, 45, 45, 5, 3, 0, 3, 5, 3, 2], (1, 1), 95))?;
-        self.steps(5, &taste([80, 5, 5, 5, 5, 0, 5, 5, 0, 0], (1, 1), 97))?;
+        self.steps(80, &taste([2, 45, 45, 5, 3, 0, 3, 5, 3, 2, 6], (1, 1), 95))?;
+        self.steps(5, &taste([80, 5, 5, 5, 5, 0, 5, 5, 0, 0, 0], (1, 1), 97))?;
         let Guide { player, random, maker, wall, list, .. } = self;
         if older::exchange_titles(random, maker, wall, &mut list.history, &mut player.written) {
             player.coverage.count((older::NAME, 0, DONE));
@@ -266,12 +268,12 @@ impl Guide<'_, '_> {
     /// Edits; then studios that stay behind or catch up; then edits of carts in the wrong state, and reads.
     fn taken(&mut self) -> Result<(), Mismatch> {
         for _ in 0..10 {
-            self.steps(6, &taste([75, 5, 5, 5, 5, 5, 3, 5, 3, 2], (1, 3), 95))?;
+            self.steps(6, &taste([75, 5, 5, 5, 5, 5, 3, 5, 3, 2, 3], (1, 3), 95))?;
             if self.random.percent(50) {
-                self.steps(20, &taste([0, 45, 45, 0, 10, 0, 0, 0, 0, 2], (1, 1), 100))?;
+                self.steps(20, &taste([0, 45, 45, 0, 10, 0, 0, 0, 0, 2, 10], (1, 1), 100))?;
             }
             self.restart_in(5)?;
-            let mistaken = Taste { misfits: 70, ..taste([40, 5, 5, 30, 12, 8, 10, 5, 8, 3], (1, 3), 97) };
+            let mistaken = Taste { misfits: 70, ..taste([40, 5, 5, 30, 12, 8, 10, 5, 8, 3, 4], (1, 3), 97) };
             self.steps(10, &mistaken)?;
         }
         Ok(())
@@ -280,12 +282,12 @@ impl Guide<'_, '_> {
     /// Edits; then studios that stay behind or nearly catch up; then forwards, reads and collects, with edits and refreshes between them.
     fn forwards(&mut self) -> Result<(), Mismatch> {
         for _ in 0..10 {
-            self.steps(6, &taste([75, 5, 5, 5, 5, 0, 5, 5, 3, 2], (1, 3), 95))?;
+            self.steps(6, &taste([75, 5, 5, 5, 5, 0, 5, 5, 3, 2, 3], (1, 3), 95))?;
             if self.random.percent(50) {
-                self.steps(14, &taste([0, 45, 45, 0, 10, 0, 0, 0, 0, 2], (1, 1), 100))?;
+                self.steps(14, &taste([0, 45, 45, 0, 10, 0, 0, 0, 0, 2, 10], (1, 1), 100))?;
             }
             self.restart_in(5)?;
-            self.steps(14, &taste([12, 12, 14, 18, 14, 2, 28, 5, 8, 3], (1, 2), 97))?;
+            self.steps(14, &taste([12, 12, 14, 18, 14, 2, 28, 5, 8, 3, 5], (1, 2), 97))?;
         }
         Ok(())
     }
@@ -293,10 +295,10 @@ impl Guide<'_, '_> {
     /// Edits; then studios that catch up, one further than the other; then reads, collects and forwards with moves between them.
     fn moves(&mut self) -> Result<(), Mismatch> {
         for _ in 0..10 {
-            self.steps(6, &taste([75, 5, 5, 5, 5, 0, 5, 5, 5, 2], (1, 2), 95))?;
-            self.steps(10, &taste([0, 45, 45, 0, 10, 0, 0, 0, 10, 2], (1, 1), 100))?;
+            self.steps(6, &taste([75, 5, 5, 5, 5, 0, 5, 5, 5, 2, 3], (1, 2), 95))?;
+            self.steps(10, &taste([0, 45, 45, 0, 10, 0, 0, 0, 10, 2, 8], (1, 1), 100))?;
             self.restart_in(5)?;
-            self.steps(20, &taste([6, 8, 12, 25, 14, 2, 12, 3, 28, 3], (1, 2), 97))?;
+            self.steps(20, &taste([6, 8, 12, 25, 14, 2, 12, 3, 28, 3, 5], (1, 2), 97))?;
         }
         Ok(())
     }
@@ -304,22 +306,83 @@ impl Guide<'_, '_> {
     /// Edits; studios that catch up, one further than the other; reads, some of which wait; perhaps a save and then collects, edits and
     /// reads that are lost; then a restart, and all kinds of call over what is loaded.
     fn restarts(&mut self) -> Result<(), Mismatch> {
-        let waits = taste([16, 8, 10, 40, 6, 2, 6, 3, 8, 3], (1, 2), 97);
+        let waits = taste([16, 8, 10, 40, 6, 2, 6, 3, 8, 3, 5], (1, 2), 97);
         self.restart_in(10)?;
         for _ in 0..6 {
-            self.steps(6, &taste([75, 5, 5, 5, 5, 0, 5, 5, 5, 2], (1, 2), 95))?;
-            self.steps(8, &taste([0, 45, 45, 0, 10, 0, 0, 0, 5, 0], (1, 1), 100))?;
+            self.steps(6, &taste([75, 5, 5, 5, 5, 0, 5, 5, 5, 2, 3], (1, 2), 95))?;
+            self.steps(8, &taste([0, 45, 45, 0, 10, 0, 0, 0, 5, 0, 10], (1, 1), 100))?;
             self.steps(12, &waits)?;
             if self.random.percent(40) {
                 self.save();
-                self.steps(12, &taste([0, 30, 30, 0, 30, 0, 0, 0, 0, 2], (1, 1), 100))?;
+                self.steps(12, &taste([0, 30, 30, 0, 30, 0, 0, 0, 0, 2, 10], (1, 1), 100))?;
                 self.steps(12, &waits)?;
             }
             self.restart()?;
-            let mistaken = Taste { misfits: 20, ..taste([14, 8, 12, 24, 18, 4, 16, 4, 18, 4], (1, 2), 97) };
+            let mistaken = Taste { misfits: 20, ..taste([14, 8, 12, 24, 18, 4, 16, 4, 18, 4, 8], (1, 2), 97) };
             self.steps(20, &mistaken)?;
         }
         Ok(())
+    }
+}
+
+/// Weeks of a busy station.
+impl Guide<'_, '_> {
+    /// Edits; studios that keep up, or lag; messages written in turn; then what every studio has is retired, and all kinds of call follow.
+    fn weeks(&mut self, transactions: u32) -> Result<(), Mismatch> {
+        let edits = taste(arguments::only(COMMIT), (1, 8), 98);
+        let others = taste([4, 6, 6, 14, 8, 4, 8, 4, 6, 2, 8], (1, 8), 95);
+        for _ in 0..transactions {
+            if self.wall.control.commits >= transactions {
+                break;
+            }
+            let count = self.random.within(1, 24);
+            self.steps(count, &edits)?;
+            self.catch_up()?;
+            self.retire()?;
+            let count = self.random.within(0, 6);
+            self.steps(count, &others)?;
+            self.restart_in(4)?;
+        }
+        if self.wall.control.commits >= transactions {
+            self.player.coverage.count((WEEKS, transactions, DONE));
+        }
+        Ok(())
+    }
+
+    /// Every studio is sent and applies what it lacks; now and then one stays behind.
+    fn catch_up(&mut self) -> Result<(), Mismatch> {
+        for studio in 1..=self.wall.control.studios {
+            let behind = *self.random.pick(&[0, 0, 0, 1, 40]);
+            let place = studio as usize - 1;
+            while self.wall.control.applied[place] + behind < self.wall.control.commits {
+                self.play(Call::Send { studio })?;
+                if self.play(Call::Refresh { studio })?.kind != ACCEPTED {
+                    break;
+                }
+            }
+        }
+        Ok(())
+    }
+
+    /// Retires all that is not needed, each transaction after its message was written, or most of it.
+    fn retire(&mut self) -> Result<(), Mismatch> {
+        let most = *self.random.pick(&[1, 20, u32::MAX, u32::MAX]);
+        for _ in 0..most {
+            let number = self.wall.next_message();
+            if number <= self.wall.control.retired + 1 {
+                self.play(Call::VanWrite { number, output: message::MOST })?;
+            }
+            if self.play(Call::Retire)?.kind != ACCEPTED {
+                break;
+            }
+        }
+        Ok(())
+    }
+
+    fn play(&mut self, call: Call) -> Result<Answer, Mismatch> {
+        let answer = self.list.play(self.player, &mut self.wall, call)?;
+        self.load_after()?;
+        Ok(answer)
     }
 }
 
@@ -329,6 +392,7 @@ impl Aim {
         match self {
             Aim::Window | Aim::Waits | Aim::Older | Aim::Taken | Aim::Forwards => Some((1, 2)),
             Aim::Moves | Aim::Restarts => Some((2, 4)),
+            Aim::Weeks(_) => Some((1, 2)),
             _ => None,
         }
     }

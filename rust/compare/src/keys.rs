@@ -147,15 +147,54 @@ pub const LOAD_MISFIT_BY_ALL: &str = "load, copies right and one operation in a 
 /// A copy that differs, and an operation in a wrong state.
 pub const LOAD_BOTH: &str = "load, a copy that differs and an operation in a wrong state";
 
-/// A list that begins with loaded memory: by its commits; one whose memory was saved before other calls; one whose memory no list has left.
+/// Of a load that rows 1 and 2 let through: the count retired. Where that is not 0 and the load is accepted: the transactions in the log, 2
+/// standing for more too; and what a studio has applied beyond the retired ones, likewise.
+pub const LOAD_RETIRED: &str = "load, retired";
+pub const LOAD_LOGGED: &str = "load with retired transactions, transactions in the log";
+pub const LOAD_BEYOND: &str = "load with retired transactions, applied − retired";
+
+/// Of an accepted retire: the count retired, the operations, the transactions left in the log and how far the studio furthest behind was
+/// beyond those retired before (2 standing for more too in both), the free records before it, and S.
+pub const RETIRED: &str = "retire, count retired";
+pub const RETIRE_OPERATIONS: &str = "retire, operations";
+pub const RETIRE_LEFT: &str = "retire, transactions left in the log";
+pub const RETIRE_LEAST: &str = "retire, lowest applied − retired";
+pub const RETIRE_FREE: &str = "retire, free records before";
+pub const RETIRE_STUDIOS: &str = "retire, S";
+/// The kind of an operation that meets its cart in the sixth copy, and of one that does not. Then where the last free record leads: how much
+/// higher the record is that it names, between −1 and 2.
+pub const RETIRE_ACTED: &str = "retire, operation that meets its cart, kind";
+pub const RETIRE_PASSED_OVER: &str = "retire, operation in a wrong state, kind";
+pub const RETIRE_JOINED: &str = "retire, first record joined − last free record";
+/// Of one refused with 20: commits, where the log has none; else, where one studio alone needs the oldest, that studio, S if it is the last
+/// one, and sent less applied, 2 standing for more too.
+pub const RETIRE_NONE: &str = "retire with no transaction in the log, commits";
+pub const RETIRE_NEEDED: &str = "retire of what one studio alone needs, studio";
+pub const RETIRE_NEEDED_LAST: &str = "retire of what the last studio alone needs, S";
+pub const RETIRE_NEEDED_SENT: &str = "retire of what one studio alone needs, sent − applied";
+
+/// Of an accepted commit: how much higher the record of an operation is than that of the one before it, and its first than that of the
+/// transaction before it, both between −1 and 2; the free records left; and the count retired where the log had no transaction.
+pub const TAKEN_NEXT: &str = "commit, record of an operation − the one before";
+pub const TAKEN_FIRST: &str = "commit, first record − that of the transaction before";
+pub const TAKEN_LEFT: &str = "commit, free records left";
+pub const TAKEN_ALONE: &str = "commit with no transaction in the log, retired";
+
+/// A list of weeks, by the transactions that it was to have.
+pub const WEEKS: &str = "list of weeks, transactions";
+
+/// A list that begins with loaded memory: by its commits, and by the count retired, 2 standing for more too; one whose memory was saved before
+/// other calls; one whose memory no list has left.
 pub const LOADED: &str = "list over loaded memory, commits";
+pub const LOADED_RETIRED: &str = "list over loaded memory, retired";
 pub const LOADED_EARLIER: &str = "list over loaded memory that was saved before other calls";
 pub const LOADED_MADE: &str = "list over loaded memory that no list has left";
-/// In such a list, answers with a state below the loaded commits, which stand between the loaded transactions; and one with state 0.
+/// In such a list, answers with a state below the loaded commits, which stand between the loaded transactions; and one with the state that the
+/// single library begins with, before all of these, by the count retired, 1 standing for more too.
 pub const READ_BELOW: &str = "read over loaded memory, state below its commits";
 pub const COLLECT_BELOW: &str = "collect over loaded memory, state below its commits";
 pub const FORWARD_BELOW: &str = "forward over loaded memory, state below its commits";
-pub const BELOW_ALL: &str = "answer over loaded memory with commits, state 0";
+pub const BELOW_ALL: &str = "answer over loaded memory before its transactions, retired";
 /// A collect of a loaded request, by its kind; a commit, by its number less the loaded commits, 2 standing for more too, or refused with 8,
 /// by commits less those.
 pub const COLLECT_LOADED: &str = "collect of a loaded request, kind of read";
@@ -218,9 +257,12 @@ pub const SEARCH_AFTER: &str = "search, cart with the title and a byte after it"
 /// A byte outside 32 to 126 in a title that one cart has.
 pub const SEARCH_BYTE: &str = "search for a title with byte";
 
-/// Of a van_write that rows 1 and 2 let through: its number, that less commits, and one whose low 16 bits alone are a transaction's.
+/// Of a van_write that rows 1 and 2 let through: its number, that less commits, that less the count retired, and one whose low 16 bits alone
+/// are a transaction's. Of a retired transaction: output.
+pub const VAN_WRITE_GONE: &str = "van_write of a retired transaction, output";
 pub const VAN_WRITE_NUMBER: &str = "van_write, number";
 pub const VAN_WRITE_COMMITS: &str = "van_write, number − commits";
+pub const VAN_WRITE_RETIRED: &str = "van_write, number − retired";
 pub const VAN_WRITE_LOW: &str = "van_write, number of which the low 16 bits are a transaction's";
 /// Where there is the transaction: its operations, output less the message, and output for 8 operations.
 pub const VAN_WRITE_COUNT: &str = "van_write, operations";
@@ -250,11 +292,12 @@ pub const RECEIVE_OPERATION: &str = "receive, the one operation of eight out of 
 pub const RECEIVE_CART: &str = "receive, the one cart out of form";
 
 /// Lists for fresh vans: a repeat's number below applied, 2 standing for more too; a message applied that came too soon before; one
-/// written before later commits; one with a spaced title.
+/// written before later commits; one with a spaced title; one whose transaction is retired at the end of the list of calls.
 pub const REPEATED: &str = "van list, applied − number of a repeat";
 pub const ARRIVED_AGAIN: &str = "van list, message that came too soon before";
 pub const ARRIVED_LATE: &str = "van list, message written before later commits";
 pub const ARRIVED_SPACED: &str = "van list, message with a spaced title";
+pub const ARRIVED_RETIRED: &str = "van list, message of a transaction retired since";
 /// What is applied after the list, and its high byte; and where the run ends: the next was lost, came too soon, or there is none.
 pub const RUN: &str = "van list, applied";
 pub const RUN_HIGH: &str = "van list, high byte of applied";
@@ -307,6 +350,9 @@ pub struct Edit {
     pub number: &'static str,
     pub used: &'static str,
     pub used_after: &'static str,
+    /// Where row 7 stops it: free records less operations, between −1 and 1, below 65,535 commits and at these.
+    pub full: &'static str,
+    pub ended: &'static str,
     pub kind: &'static str,
     pub cart: &'static str,
     pub title_length: &'static str,
@@ -336,6 +382,8 @@ macro_rules! edit {
             number: concat!($call, ", number"),
             used: concat!($call, ", used"),
             used_after: concat!($call, ", used + operations"),
+            full: concat!($call, " refused with 7 below 65,535 commits, free records − operations"),
+            ended: concat!($call, " refused with 7 at 65,535 commits, free records − operations"),
             kind: concat!("operation of a ", $call, ", kind"),
             cart: concat!("operation of a ", $call, ", cart"),
             title_length: concat!("operation of a ", $call, ", title length"),
@@ -386,8 +434,8 @@ pub const SENT_OVER: &str = "send over spaced titles, studio";
 pub const APPLIED: &str = "refresh, record with a spaced title, kind";
 
 /// The subjects for the length of each memory, call by call: setup, commit, send, refresh, read, collect, preview, forward, van_write,
-/// move, load.
-pub const LENGTHS: [[&str; 3]; 11] = [
+/// move, load, retire.
+pub const LENGTHS: [[&str; 3]; 12] = [
     ["setup, library bytes", "setup, log bytes", "setup, session bytes"],
     ["commit, library bytes", "commit, log bytes", "commit, session bytes"],
     ["send, library bytes", "send, log bytes", "send, session bytes"],
@@ -399,4 +447,5 @@ pub const LENGTHS: [[&str; 3]; 11] = [
     ["van_write, library bytes", "van_write, log bytes", "van_write, session bytes"],
     ["move, library bytes", "move, log bytes", "move, session bytes"],
     ["load, library bytes", "load, log bytes", "load, session bytes"],
+    ["retire, library bytes", "retire, log bytes", "retire, session bytes"],
 ];

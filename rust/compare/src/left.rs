@@ -1,13 +1,16 @@
-//! What a refused call leaves, and what a read, a collect, a forward, a move, a load, a van_write and a receive answer and leave, by the
-//! words of 01 and 02 and not by the simulator (the form of one operation apart, of a receive). A refused call changes nothing, with one
-//! exception (02's S-3). A reading call that no row stops is answered by the session's studio, and raises its number (02's S-7), or it
-//! waits, or is answered by the head end (02's S-4). A move changes one word of control (02's S-7), a load nothing (02's S-8). A van_write
-//! changes nothing but output, a receive nothing but the van's copy (02's S-6).
+//! What a refused call leaves, and what a commit, a read, a collect, a forward, a move, a load, a retire, a van_write and a receive answer
+//! and leave, by the words of 01 and 02 and not by the simulator (the form of one operation apart, of a receive). A refused call changes
+//! nothing, with one exception (02's S-3). A commit takes the first free records, and a retire gives those of the oldest transaction back
+//! (02's S-9). A reading call that no row stops is answered by the session's studio, and raises its number (02's S-7), or it waits, or is
+//! answered by the head end (02's S-4). A move changes one word of control (02's S-7), a load nothing (02's S-8). A van_write changes nothing
+//! but output, a receive nothing but the van's copy (02's S-6).
 
 use crate::call::Call;
 use crate::delivery::Delivery;
 use crate::faults;
 use crate::lent::Lent;
+use crate::log;
+use crate::made::SIXTH;
 use crate::message;
 use crate::single;
 use simulator::{ANSWERED, Answer, COPY, Control, DONE, HELD, REFUSED, UNIT, VanAnswer, WAITS};
@@ -21,6 +24,39 @@ pub fn by_refusal(number: u32, call: &Call, control: Control, lent: &mut Lent) -
     // A refused setup has no control to hand back.
     let control = if matches!(call, Call::Setup { .. }) { Control::default() } else { control };
     Answer { kind: REFUSED, value: number, found: 0, control }
+}
+
+/// The answer of a commit that no row stops; `lent` is what it was lent, and becomes what it leaves. "Commit takes records from the front
+/// of the free chain."
+pub fn by_commit(session: u32, operations: &[u8], mut control: Control, lent: &mut Lent) -> Answer {
+    let mut transactions = log::transactions(lent.log.lent(), &control);
+    let free = log::free(lent.log.lent(), &control);
+    let (taken, free) = free.split_at(operations.len() / UNIT);
+    for (record, operation) in taken.iter().zip(operations.chunks_exact(UNIT)) {
+        lent.log.lent_mut()[UNIT * record..UNIT * (record + 1)].copy_from_slice(operation);
+        single::act(&mut lent.library.lent_mut()[..COPY], operation);
+    }
+    transactions.push(taken.to_vec());
+    log::put_chains(lent.log.lent_mut(), &mut control, &transactions, free);
+    control.commits += 1;
+    set_number(lent, session, control.commits);
+    Answer { kind: DONE, value: control.commits, found: 0, control }
+}
+
+/// The answer of a retire that no row stops; `lent` is what it was lent, and becomes what it leaves. "The oldest transaction, once every
+/// studio has applied it, acts on a sixth copy", and its records "join" the free chain's "end in the order of their operations".
+pub fn by_retire(mut control: Control, lent: &mut Lent) -> Answer {
+    let mut transactions = log::transactions(lent.log.lent(), &control);
+    let mut free = log::free(lent.log.lent(), &control);
+    let oldest = transactions.remove(0);
+    for record in &oldest {
+        let operation = &lent.log.lent()[UNIT * record..UNIT * (record + 1)];
+        single::act(&mut lent.library.lent_mut()[SIXTH * COPY..], operation);
+    }
+    free.extend(oldest);
+    log::put_chains(lent.log.lent_mut(), &mut control, &transactions, &free);
+    control.retired += 1;
+    Answer { kind: DONE, value: control.retired, found: 0, control }
 }
 
 /// The answer of a read that no row stops; `lent` is what it was lent, and becomes what it leaves. "If applied of the session's studio is
@@ -90,7 +126,7 @@ pub fn by_load(control: Control) -> Answer {
 /// The answer of a van_write that no row stops; `lent` is what it was lent, and becomes what it leaves. "The writer puts one message at
 /// its output's start, leaves later bytes, returns the message's length."
 pub fn by_van_write(number: u32, control: Control, lent: &mut Lent) -> Answer {
-    let operations = message::operations_in_log(lent, number).expect("the log is of the layout");
+    let operations = message::operations_in_log(&control, lent, number).expect("the log is of the layout");
     let message = message::of(number, &operations);
     lent.output.lent_mut()[..message.len()].copy_from_slice(&message);
     Answer { kind: DONE, value: message.len() as u32, found: 0, control }

@@ -2,7 +2,9 @@
 
 use crate::arguments::{self, CALLS, Taste};
 use crate::asides;
+use crate::chains::BREAKS;
 use crate::chaos;
+use crate::coverage::outcome;
 use crate::direct;
 use crate::guided::{self, Aim};
 use crate::keys::{ANSWERS_UNREACHED, DONE, LOADED_MADE, RAISED, RAISED_UNREACHED};
@@ -15,7 +17,7 @@ use crate::torn;
 use crate::wall::Wall;
 use crate::written::{self, Written};
 
-const KINDS: [&str; 23] = [
+const KINDS: [&str; 25] = [
     "mixed",
     "direct",
     "waits",
@@ -39,7 +41,14 @@ const KINDS: [&str; 23] = [
     "moves",
     "restarts",
     "loads",
+    "weeks",
+    "chains",
 ];
+
+/// The transactions of a list of weeks: more operations than the log holds; and in one of so many lists 2,000.
+pub const FEW: u32 = 150;
+pub const MANY: u32 = 2_000;
+const MANY_EACH: usize = 24;
 
 pub fn kind(seed: u64) -> &'static str {
     KINDS[(seed % KINDS.len() as u64) as usize]
@@ -66,7 +75,9 @@ pub fn play(player: &mut Player<'_>, seed: u64) -> Result<(), Mismatch> {
         "forwards" => guided::play(player, seed, Aim::Forwards),
         "moves" => guided::play(player, seed, Aim::Moves),
         "restarts" => guided::play(player, seed, Aim::Restarts),
+        "weeks" => guided::play(player, seed, Aim::Weeks(if turn % MANY_EACH == 1 { MANY } else { FEW })),
         "loads" => loads(player, seed),
+        "chains" => chains(player, seed),
         "direct" => unreached(player, seed),
         "damage" => damage(player, seed),
         "memory sweep" => sweep::memory(player, seed, turn),
@@ -82,14 +93,14 @@ pub fn play(player: &mut Player<'_>, seed: u64) -> Result<(), Mismatch> {
 pub fn play_fresh(player: &mut Player<'_>, seed: u64) -> Result<(), Mismatch> {
     player.begin_list(seed);
     let reads = [Aim::Waits, Aim::Titles, Aim::Mixed, Aim::Window, Aim::Older];
-    let aims = [&reads[..], &[Aim::Taken, Aim::Forwards, Aim::Moves, Aim::Restarts]].concat();
+    let aims = [&reads[..], &[Aim::Taken, Aim::Forwards, Aim::Moves, Aim::Restarts, Aim::Weeks(FEW)]].concat();
     guided::play(player, seed, aims[seed as usize % aims.len()])
 }
 
 /// Lists from memory of the layout that no list reaches. The messages of the last one go to vans, the first ones among them.
 fn unreached(player: &mut Player<'_>, seed: u64) -> Result<(), Mismatch> {
     let mut random = Random::new(seed);
-    let taste = Taste { weights: [25, 15, 30, 18, 12, 12, 16, 14, 14, 5], sizes: (1, 8), fitting: 92, misfits: 8 };
+    let taste = Taste { weights: [25, 15, 30, 18, 12, 12, 16, 14, 14, 5, 18], sizes: (1, 8), fitting: 92, misfits: 8 };
     let (raised, walked) = (player.coverage.met(&RAISED), player.coverage.watched_moved);
     for _ in 0..8 {
         let maker = Maker::new(&mut random, 6);
@@ -126,7 +137,7 @@ fn loads(player: &mut Player<'_>, seed: u64) -> Result<(), Mismatch> {
 
 /// A list over loaded memory.
 fn over(player: &mut Player<'_>, random: &mut Random, maker: &Maker, mut wall: Wall) -> Result<(), Mismatch> {
-    let taste = Taste { weights: [20, 12, 22, 22, 22, 4, 14, 6, 14, 2], sizes: (1, 3), fitting: 95, misfits: 20 };
+    let taste = Taste { weights: [20, 12, 22, 22, 22, 4, 14, 6, 14, 2, 12], sizes: (1, 3), fitting: 95, misfits: 20 };
     let mut list = Played::over(&wall);
     player.written = Written::before(&wall);
     player.coverage.note_loaded(&wall);
@@ -148,6 +159,29 @@ fn damage(player: &mut Player<'_>, seed: u64) -> Result<(), Mismatch> {
         for _ in 0..60 {
             let call = arguments::call(&mut random, &maker, &taste, &wall);
             asides::damaged(player, &mut random, &wall, &call)?;
+        }
+    }
+    Ok(())
+}
+
+/// The log's chains broken in every way, under every call.
+fn chains(player: &mut Player<'_>, seed: u64) -> Result<(), Mismatch> {
+    let mut random = Random::new(seed);
+    let maker = Maker::new(&mut random, 6);
+    for (name, change) in BREAKS {
+        let wall = loop {
+            let wall = direct::wall(&mut random, &maker);
+            if change(&mut random, &mut wall.clone()) {
+                break wall;
+            }
+        };
+        for kind in 0..CALLS {
+            let taste = Taste { weights: arguments::only(kind), sizes: (1, 8), fitting: 90, misfits: 5 };
+            let call = arguments::call(&mut random, &maker, &taste, &wall);
+            let answer = player.play_aside(&wall, &call, |wall| {
+                change(&mut random, wall);
+            })?;
+            player.coverage.count((name, 0, outcome(&answer)));
         }
     }
     Ok(())

@@ -3,16 +3,16 @@
 use crate::call::Call;
 use crate::coverage::{Coverage, outcome};
 use crate::keys::{BELOW_ALL, COLLECT_BELOW, DONE, FORWARD_BELOW, HEAD_END, READ, READ_BELOW, WAITED};
-use crate::keys::{COLLECT_LOADED, COMMIT_LOADED, LOADED, MOVE_LOADED, MOVE_STOPPED, REFUSED_LOADED};
+use crate::keys::{COLLECT_LOADED, COMMIT_LOADED, LOADED, LOADED_RETIRED, MOVE_LOADED, MOVE_STOPPED, REFUSED_LOADED};
 use crate::keys::{FIRST_FORWARD, FIRST_FORWARD_MOVED, FIRST_READ, FIRST_READ_MOVED, FIRST_SHOWN, FIRST_SHOWN_MOVED};
-use crate::keys::{LOAD_APPLIED, LOAD_BEHIND, LOAD_COMMITS, LOAD_SENT, LOAD_SPACED, LOAD_STUDIOS, LOAD_USED, LOAD_WAITS};
+use crate::keys::{LOAD_APPLIED, LOAD_BEHIND, LOAD_BEYOND, LOAD_COMMITS, LOAD_LOGGED, LOAD_RETIRED, LOAD_SENT, LOAD_SPACED};
 use crate::keys::{LOAD_BOTH, LOAD_BYTE, LOAD_CART, LOAD_EARLIER, LOAD_LATER, LOAD_LESS, LOAD_LETTER, LOAD_LETTER_LAST, LOAD_MORE};
-use crate::keys::{LOAD_HEAD_END, LOAD_LAST, LOAD_STUDIO, LOAD_STUDIO_APPLIED, LOAD_STUDIO_BEHIND};
+use crate::keys::{LOAD_HEAD_END, LOAD_LAST, LOAD_STUDIO, LOAD_STUDIO_APPLIED, LOAD_STUDIO_BEHIND, LOAD_STUDIOS, LOAD_USED, LOAD_WAITS};
 use crate::keys::{LOAD_MISFIT, LOAD_MISFIT_IN, LOAD_MISFIT_LATER, LOAD_MISFIT_PLACE};
 use crate::keys::{LOAD_MISFIT_BY_ALL, LOAD_MISFIT_BY_NONE, LOAD_MISFIT_BY_SOME};
 use crate::lent::Lent;
 use crate::made::{self, Faults, Log, Misfit};
-use crate::one_copy::History;
+use crate::one_copy::{History, Loaded};
 use crate::rows;
 use crate::walks::Walk;
 use crate::wall::Wall;
@@ -20,8 +20,7 @@ use simulator::{ANSWERED, Answer, COPY, Control, UNIT};
 
 /// A call of a list over loaded memory.
 pub struct Over {
-    /// The commits that were loaded.
-    commits: u32,
+    counts: Loaded,
     /// Before the call: its session's studio, number and walk, and the kind of the loaded request that a collect takes.
     studio: u32,
     number: u32,
@@ -38,6 +37,7 @@ impl Coverage {
         self.count((LOAD_COMMITS, control.commits, end));
         self.count((LOAD_USED, control.used, end));
         self.count((LOAD_STUDIOS, control.studios, end));
+        self.count((LOAD_RETIRED, control.retired, end));
         match end {
             DONE => self.note_whole(control, lent),
             _ => self.note_faults(control, lent, &made::faults(control, lent)),
@@ -47,8 +47,14 @@ impl Coverage {
     /// What an accepted load is lent.
     fn note_whole(&mut self, control: &Control, lent: &Lent) {
         let studios = if control.commits == 0 { 0 } else { control.studios as usize };
+        if control.retired > 0 {
+            self.count((LOAD_LOGGED, (control.commits - control.retired).min(2), DONE));
+        }
         for place in 0..studios {
             let (sent, applied) = (control.sent[place], control.applied[place]);
+            if control.retired > 0 {
+                self.count((LOAD_BEYOND, (applied - control.retired).min(2), DONE));
+            }
             self.count((LOAD_APPLIED, applied, DONE));
             self.count((LOAD_BEHIND, (control.commits - applied).min(2), DONE));
             self.count((LOAD_SENT, sent - applied, DONE));
@@ -143,12 +149,13 @@ impl Coverage {
     /// A list begins with this memory.
     pub fn note_loaded(&mut self, wall: &Wall) {
         self.count((LOADED, wall.control.commits, DONE));
+        self.count((LOADED_RETIRED, wall.control.retired.min(2), DONE));
         self.loaded_requests += wall.used_sessions().into_iter().filter(|session| wall.waiting(*session)).count() as u64;
     }
 
     /// A call of such a list.
     pub fn note_over(&mut self, call: &Call, over: &Over, answer: &Answer) {
-        let Over { commits, end, .. } = *over;
+        let Over { counts: Loaded { commits, .. }, end, .. } = *over;
         if answer.kind == ANSWERED {
             self.note_answer_over(call, over, answer.value);
         }
@@ -167,7 +174,7 @@ impl Coverage {
 
     /// An answer: where its state stands, and beside the session's loaded number if it is the session's first.
     fn note_answer_over(&mut self, call: &Call, over: &Over, state: u32) {
-        let Over { commits, walk, end, .. } = *over;
+        let Over { counts: Loaded { commits, retired }, walk, end, .. } = *over;
         if state < commits {
             let subject = match call {
                 Call::Read { .. } => READ_BELOW,
@@ -176,8 +183,8 @@ impl Coverage {
             };
             self.count((subject, 0, end));
         }
-        if state == 0 && commits > 0 {
-            self.count((BELOW_ALL, 0, end));
+        if state == retired && commits > retired {
+            self.count((BELOW_ALL, retired.min(1), end));
         }
         if walk.shown.is_none() {
             let above = state.saturating_sub(walk.loaded).min(2);
@@ -205,10 +212,10 @@ impl Coverage {
 impl Over {
     /// Before a call of a list, if that is over loaded memory.
     pub fn before(history: &History, wall: &Wall, call: &Call) -> Option<Over> {
-        let commits = history.loaded_commits()?;
+        let counts = history.loaded_counts()?;
         let (studio, number) = (rows::session_studio(call, &wall.control), rows::session_number(&rows::stored(call, &wall.played)));
         let request = rows::session_of(call).and_then(|session| history.loaded_request(session));
-        Some(Over { commits, studio, number, walk: wall.walks.of(call), request, end: 0 })
+        Some(Over { counts, studio, number, walk: wall.walks.of(call), request, end: 0 })
     }
 
     /// After it; an answered forward is the head end's or its studio's.

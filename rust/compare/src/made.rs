@@ -1,17 +1,17 @@
-//! What the log makes (02's S-8): 01's L(n), "the library that the first n transactions make from 128 empty carts", and what of a wall is
-//! not so. By the words of 01 and 02, on bytes and apart from the simulator; memory may have any bytes and any length.
+//! What the log makes (02's S-8): 01's L(n), which 02's S-9 works out from the sixth copy and the transactions that the log has, and what of
+//! a wall is not so. By the words of 01 and 02, on bytes and apart from the simulator; memory may have any bytes and any length.
 
 use crate::lent::Lent;
-use crate::log;
+use crate::message;
 use crate::rows;
 use crate::single;
 use simulator::{COPY, Control, UNIT};
-use std::ops::Range;
 
-/// A log, and where its transactions are.
+/// What the retired transactions made, how many they are, and the operations of each that the log has.
 pub struct Log {
-    records: Vec<u8>,
-    transactions: Vec<Range<usize>>,
+    sixth: Vec<u8>,
+    retired: u32,
+    transactions: Vec<Vec<u8>>,
 }
 
 /// A logged operation that met its cart in the wrong state.
@@ -25,30 +25,25 @@ pub struct Misfit {
 
 impl Log {
     pub fn new(control: &Control, lent: &Lent) -> Log {
-        let records = rows::log(lent).into_owned();
-        let transactions = log::transactions(&records, control.commits);
-        Log { records, transactions }
+        let sixth = rows::library(lent)[SIXTH * COPY..].to_vec();
+        Log { sixth, retired: control.retired, transactions: message::all_in_log(control, lent) }
     }
 
-    /// The operations of each transaction, with the links of their records.
-    fn operations(&self) -> impl Iterator<Item = &[u8]> {
-        self.transactions.iter().map(|records| &self.records[UNIT * records.start..UNIT * records.end])
-    }
-
-    /// L(n); of n above what there is, that of all.
+    /// L(n); of n above what there is, that of all; of n up to retired, the sixth copy.
     pub fn library(&self, n: u32) -> Vec<u8> {
-        let mut copy = vec![0; COPY];
-        let operations = self.operations().take(n as usize).flat_map(|operations| operations.chunks_exact(UNIT));
-        operations.for_each(|operation| single::act(&mut copy, operation));
+        let mut copy = self.sixth.clone();
+        let played = self.transactions.iter().take(n.saturating_sub(self.retired) as usize);
+        played.flat_map(|operations| operations.chunks_exact(UNIT)).for_each(|operation| single::act(&mut copy, operation));
         copy
     }
 
     /// The operations that met their carts in the wrong state.
     fn misfits(&self) -> Vec<Misfit> {
-        let (mut copy, mut misfits) = (vec![0; COPY], Vec::new());
-        for (transaction, operations) in (1..).zip(self.operations()) {
+        let (mut copy, mut misfits) = (self.sixth.clone(), Vec::new());
+        for (place_in_log, operations) in (1..).zip(&self.transactions) {
             for (place, operation) in (1..).zip(operations.chunks_exact(UNIT)) {
                 if !single::meets(&copy, operation) {
+                    let transaction = self.retired.saturating_add(place_in_log);
                     misfits.push(Misfit { transaction, place, kind: operation[0] });
                 }
                 single::act(&mut copy, operation);
@@ -57,6 +52,9 @@ impl Log {
         misfits
     }
 }
+
+/// The place of the sixth copy among the copies.
+pub const SIXTH: usize = 5;
 
 /// How many transactions the head end's copy has taken, for 0, or a studio's.
 pub fn taken(copy: usize, control: &Control) -> u32 {
@@ -107,7 +105,8 @@ mod tests {
 
     /// New cart 1; then a re-cut and a withdraw of it, in one transaction. Studio 1 has applied one of the two, studio 2 none.
     fn wall() -> (Control, Lent) {
-        let (mut lent, control) = (Lent::zeros(), Control { studios: 2, used: 3, commits: 2, applied: [1, 0, 0, 0], ..Control::default() });
+        let counts = Control { studios: 2, used: 3, commits: 2, oldest: 1, ..Control::default() };
+        let (mut lent, control) = (Lent::zeros(), Control { applied: [1, 0, 0, 0], ..counts });
         let log = lent.log.lent_mut();
         log[..9].copy_from_slice(&SHOWN);
         (log[16], log[14]) = (b'A', 2);
@@ -146,11 +145,32 @@ mod tests {
         assert_eq!(faults(&control, &lent), Faults { copies: vec![], misfits: vec![misfit] });
     }
 
+    /// The same with the first transaction retired.
+    fn retired() -> (Control, Lent) {
+        let (control, mut lent) = wall();
+        let library = Log::new(&control, &lent).library(1);
+        lent.library.lent_mut()[SIXTH * COPY..].copy_from_slice(&library);
+        (Control { used: 2, retired: 1, oldest: 2, applied: [1; 4], ..control }, lent)
+    }
+
+    #[test]
+    fn copies_are_made_from_the_sixth() {
+        let (control, mut lent) = retired();
+        assert_eq!(faults(&control, &lent).copies, [2], "studio 2 has applied the first");
+        make_copies(&control, &mut lent);
+        assert_eq!(faults(&control, &lent), Faults { copies: vec![], misfits: vec![] });
+        assert_eq!(lent.library.lent()[2 * COPY..3 * COPY], lent.library.lent()[SIXTH * COPY..]);
+        lent.library.lent_mut()[SIXTH * COPY..].fill(0);
+        let misfits = [1, 2].map(|place| Misfit { transaction: 2, place, kind: 2 + place as u8 });
+        assert_eq!(faults(&control, &lent), Faults { copies: vec![1, 2], misfits: misfits.to_vec() });
+    }
+
     #[test]
     fn memory_of_any_bytes_has_an_answer() {
         let (control, mut lent) = wall();
         let many = Control { studios: u32::MAX, commits: u32::MAX, applied: [u32::MAX; 4], ..control };
         assert_eq!(faults(&many, &lent).copies, [1], "L of all transactions is empty");
+        assert!(faults(&Control { retired: u32::MAX, oldest: u32::MAX, ..many }, &lent).misfits.is_empty());
         lent.log.lent_mut().fill(1);
         lent.library.set(&[1; 7]);
         assert!(faults(&many, &lent).any());

@@ -2,13 +2,16 @@
 //! (02's S-3) and its answered reads, forwards (02's S-4) among them, put into
 //! one order and played on the single library. A session's entries stand in its
 //! order whatever studios it was at (02's S-7). A list may begin with loaded
-//! memory (02's S-8): the loaded log's transactions are the first commits then.
+//! memory (02's S-8): the loaded log's transactions are the first commits then,
+//! and the single library begins with the sixth copy, "the retired count already
+//! played" (02's S-9).
 
 use crate::call::Call;
 use crate::lent::Lent;
+use crate::made::SIXTH;
 use crate::message;
 use crate::single::SingleLibrary;
-use simulator::{ANSWERED, Answer, Control, DONE, REFUSED, UNIT, WAITS};
+use simulator::{ANSWERED, Answer, COPY, Control, DONE, REFUSED, UNIT, WAITS};
 
 enum What {
     Commit {
@@ -54,28 +57,38 @@ impl Entry {
     }
 }
 
+/// The counts of loaded memory.
+#[derive(Clone, Copy, PartialEq, Eq, Debug)]
+pub struct Loaded {
+    pub commits: u32,
+    pub retired: u32,
+}
+
 /// The list H so far, from a fresh system or from loaded memory.
 pub struct History {
+    /// What the single library is before the first entry.
+    begun: SingleLibrary,
     entries: Vec<Entry>,
     /// Per session, its latest read that waited; before the first such read of H the request that was loaded for it.
     waited: Vec<Vec<u8>>,
     /// Whether that is still the loaded one.
     loaded_request: [bool; 17],
-    /// The commits of loaded memory.
-    loaded: Option<u32>,
+    loaded: Option<Loaded>,
 }
 
 impl History {
     pub fn new() -> History {
-        History { entries: Vec::new(), waited: vec![Vec::new(); 17], loaded_request: [false; 17], loaded: None }
+        let (begun, entries, waited) = (SingleLibrary::new(), Vec::new(), vec![Vec::new(); 17]);
+        History { begun, entries, waited, loaded_request: [false; 17], loaded: None }
     }
 
     /// Before the first call of H, which begins with this memory: "the loaded log's transactions, which belong to no session, are the
-    /// first commits of the one-copy order". Transactions to which the log's links do not lead have no operations.
+    /// first commits of the one-copy order", as far as the log's links lead to them.
     pub fn loaded(control: &Control, lent: &Lent) -> History {
-        let mut history = History { loaded: Some(control.commits), ..History::new() };
-        for number in 1..=control.commits {
-            let operations = message::operations_in_log(lent, number).unwrap_or_default();
+        let Control { commits, retired, .. } = *control;
+        let begun = SingleLibrary::begun(&lent.library.lent()[SIXTH * COPY..], retired);
+        let mut history = History { begun, loaded: Some(Loaded { commits, retired }), ..History::new() };
+        for (number, operations) in (retired + 1..).zip(message::all_in_log(control, lent)) {
             history.entries.push(Entry { call: 0, session: 0, what: What::Commit { operations, number } });
         }
         for (session, unit) in (1..).zip(lent.sessions.lent().chunks_exact(UNIT)).filter(|(_, unit)| unit[0] != 0) {
@@ -87,7 +100,7 @@ impl History {
     }
 
     /// Takes in one call of H; `output` is as it stood when the call ended. Waits, sends, refreshes, previews, written messages, moves,
-    /// loads and refusals have no entry, but for a commit's refusal 8.
+    /// loads, retires and refusals have no entry, but for a commit's refusal 8.
     pub fn note(&mut self, number: u64, call: &Call, answer: &Answer, output: &[u8]) {
         match (call, answer.kind) {
             (Call::Commit { session, operations }, DONE) => {
@@ -137,8 +150,8 @@ impl History {
         self.waited.iter_mut().filter(|asked| !asked.is_empty()).for_each(|asked| request(asked));
     }
 
-    /// The commits of loaded memory, if H begins with that.
-    pub fn loaded_commits(&self) -> Option<u32> {
+    /// The counts of loaded memory, if H begins with that.
+    pub fn loaded_counts(&self) -> Option<Loaded> {
         self.loaded
     }
 
@@ -186,7 +199,7 @@ impl History {
             }
             *before = entry.call;
         }
-        let mut library = SingleLibrary::new();
+        let mut library = self.begun.clone();
         for entry in order {
             replay(&mut library, entry).map_err(|words| (entry.call, words))?;
         }
@@ -382,7 +395,7 @@ mod tests {
 
     /// Cart 1 is new by commit 1 and withdrawn by commit 2, and session 1 waits for it with number 2: memory that a list begins with.
     fn loaded() -> History {
-        let (mut lent, control) = (Lent::zeros(), Control { commits: 2, ..Control::default() });
+        let (mut lent, control) = (Lent::zeros(), Control { commits: 2, oldest: 1, ..Control::default() });
         let log = lent.log.lent_mut();
         log[..80].copy_from_slice(&new_cart_1());
         log[14] = 2;
@@ -399,9 +412,29 @@ mod tests {
         history.note(2, &read_cart_1(2), &answer(ANSWERED, 1, 1), &new_cart_1());
         history.note(3, &Call::Load, &answer(DONE, 2, 0), &[]);
         history.note(4, &Call::Commit { session: 2, operations: new_cart_1() }, &answer(DONE, 3, 0), &[]);
-        assert_eq!((history.len(), history.loaded_commits(), history.check()), (5, Some(2), Ok(())));
+        assert_eq!((history.len(), history.loaded_counts(), history.check()), (5, Some(Loaded { commits: 2, retired: 0 }), Ok(())));
         history.note(5, &read_cart_1(2), &answer(ANSWERED, 2, 0), &[0; 80]);
         assert!(history.check().unwrap_err().1.contains("session 2 out of its order"));
+    }
+
+    /// Of five commits four are retired, and made cart 1; the fifth, in record 3, withdraws it.
+    fn loaded_retired() -> History {
+        let (mut lent, control) = (Lent::zeros(), Control { commits: 5, retired: 4, oldest: 3, ..Control::default() });
+        lent.library.lent_mut()[SIXTH * COPY..][..80].copy_from_slice(&new_cart_1());
+        lent.log.lent_mut()[160..163].copy_from_slice(&[4, 0, 1]);
+        History::loaded(&control, &lent)
+    }
+
+    #[test]
+    fn the_library_begins_with_the_sixth_copy_and_the_retired_count() {
+        let mut history = loaded_retired();
+        history.note(1, &read_cart_1(2), &answer(ANSWERED, 4, 1), &new_cart_1());
+        history.note(2, &read_cart_1(2), &answer(ANSWERED, 5, 0), &[0; 80]);
+        history.note(3, &Call::Retire, &answer(DONE, 5, 0), &[]);
+        history.note(4, &Call::Commit { session: 2, operations: new_cart_1() }, &answer(DONE, 6, 0), &[]);
+        assert_eq!((history.len(), history.loaded_counts(), history.check()), (4, Some(Loaded { commits: 5, retired: 4 }), Ok(())));
+        history.note(5, &read_cart_1(3), &answer(ANSWERED, 3, 0), &[0; 80]);
+        assert!(history.check().unwrap_err().1.contains("read state 3 found 0 is the library's state 4 found 1"), "before the sixth copy");
     }
 
     #[test]

@@ -95,7 +95,7 @@ impl<'e> Player<'e> {
     fn compare(&mut self, wall: &mut Wall, call: &Call) -> Result<Answer, Mismatch> {
         let control = wall.control;
         let mut holding = rows::holding(call, &control, &wall.simulated);
-        let before = Coverage::before(call, &wall.simulated);
+        let before = Coverage::before(call, &control, &wall.simulated);
         self.before.copy_from(&wall.simulated);
         let expected = simulate(call, control, &mut wall.simulated);
         let answer = self.engine.play(call, control, &mut wall.played);
@@ -305,15 +305,18 @@ impl<'e> Player<'e> {
         Err(self.mismatch(call.to_string(), words))
     }
 
-    /// A refused call, the reading calls, a move, a load and a van_write leave what `left.rs` says, apart from the simulator.
+    /// A refused call, a commit, the reading calls, a move, a load, a retire and a van_write leave what `left.rs` says, apart from the
+    /// simulator.
     fn check_left(&mut self, call: &Call, control: Control, answer: &Answer, played: &Lent) -> Result<(), Mismatch> {
         let right = match call {
             _ if answer.kind == REFUSED => left::by_refusal(answer.value, call, control, &mut self.before),
+            Call::Commit { session, operations } => left::by_commit(*session, operations, control, &mut self.before),
             Call::Read { session, request, .. } => left::by_read(*session, request, control, &mut self.before),
             Call::Collect { session, .. } => left::by_collect(*session, control, &mut self.before),
             Call::Forward { session, request, .. } => left::by_forward(*session, request, control, &mut self.before),
             Call::Move { session, studio } => left::by_move(*session, *studio, control),
             Call::Load => left::by_load(control),
+            Call::Retire => left::by_retire(control, &mut self.before),
             Call::VanWrite { number, .. } => left::by_van_write(*number, control, &mut self.before),
             _ => return Ok(()),
         };
@@ -376,7 +379,7 @@ mod tests {
 
     #[test]
     fn a_van_write_must_leave_nothing_but_its_message() {
-        let (control, call) = (Control { commits: 1, ..Control::default() }, Call::VanWrite { number: 1, output: 85 });
+        let (control, call) = (Control { commits: 1, oldest: 1, ..Control::default() }, Call::VanWrite { number: 1, output: 85 });
         let passes = |value: u32, later: u8, link: u8| {
             let mut engine = Simulated;
             let mut player = Player::new(&mut engine, Judge::All);
@@ -425,6 +428,65 @@ mod tests {
         assert!(!passes(0, control, 0), "commits are not returned");
         assert!(!passes(3, Control { sent: [0; 4], ..control }, 0), "control is another");
         assert!(!passes(3, control, 1), "a number is another");
+    }
+
+    /// A system with two commits of new cart 1, a re-cut and a withdraw of it, of which the first is applied.
+    fn two_commits() -> Wall {
+        let mut engine = Simulated;
+        let mut player = Player::new(&mut engine, Judge::Order);
+        let mut wall = Wall::zeros();
+        let mut new = [0; 80];
+        new[..17].copy_from_slice(&[1, 1, 1, 0, 5, 0, 0, 0, 6, 0, 0, 0, 0, 0, 0, 0, b'A']);
+        let later = [&[3, 0, 1, 0, 7, 0, 0, 0, 8][..], &[0; 71], &[4, 0, 1], &[0; 77]].concat();
+        let edits = [new.to_vec(), later].map(|operations| Call::Commit { session: 1, operations });
+        let calls = [&[Call::Setup { studios: 1, session_studios: vec![1; 16] }], &edits[..], &[Call::Send { studio: 1 }]].concat();
+        for call in calls.iter().chain(&[Call::Refresh { studio: 1 }]) {
+            assert_eq!(player.play(&mut wall, call).expect("no mismatch").kind, simulator::DONE);
+        }
+        wall.mirror();
+        wall
+    }
+
+    #[test]
+    fn a_retire_must_leave_what_02_says() {
+        type Change = fn(&mut Answer, &mut Lent);
+        let passes = |change: Change| {
+            let mut engine = Simulated;
+            let (mut wall, mut player) = (two_commits(), Player::new(&mut engine, Judge::All));
+            let control = wall.control;
+            player.before.copy_from(&wall.played);
+            let mut answer = simulate(&Call::Retire, control, &mut wall.played);
+            change(&mut answer, &mut wall.played);
+            player.check_left(&Call::Retire, control, &answer, &wall.played).is_ok()
+        };
+        assert!(passes(|_, _| ()), "as it is");
+        let wrong: [(&str, Change); 6] = [
+            ("the number of operations is returned", |answer, _| answer.value = 2),
+            ("used stays", |answer, _| answer.control.used = 3),
+            ("the free chain's last record stays", |answer, _| answer.control.free_last = 512),
+            ("the sixth copy is not acted on", |_, lent| lent.library.lent_mut()[5 * 10_240..].fill(0)),
+            ("the record is not cleared", |_, lent| lent.log.lent_mut()[0] = 1),
+            ("the record is not joined", |_, lent| lent.log.lent_mut()[511 * 80 + 12] = 0),
+        ];
+        wrong.into_iter().for_each(|(name, change)| assert!(!passes(change), "{name}"));
+    }
+
+    #[test]
+    fn a_commit_must_take_the_first_free_records() {
+        let (mut wall, control) = (two_commits(), two_commits().control);
+        let call = Call::Commit { session: 1, operations: [&[1, 1, 1, 0, 5, 0, 0, 0, 6][..], &[0; 7], b"A", &[0; 63]].concat() };
+        wall.lend(&call, 0);
+        let mut engine = Simulated;
+        let mut player = Player::new(&mut engine, Judge::All);
+        let before = wall.played.clone();
+        let answer = simulate(&call, control, &mut wall.played);
+        let mut passes = |played: &Lent| {
+            player.before.copy_from(&before);
+            player.check_left(&call, control, &answer, played).is_ok()
+        };
+        assert!(passes(&wall.played), "record 4, after 1 to 3");
+        wall.played.log.lent_mut().copy_within(3 * 80..4 * 80, 4 * 80);
+        assert!(!passes(&wall.played), "record 5 too");
     }
 
     #[test]

@@ -48,6 +48,12 @@ impl Random {
         &from[self.below(from.len())]
     }
 
+    /// The same items in any order.
+    pub fn shuffled<T>(&mut self, mut items: Vec<T>) -> Vec<T> {
+        items.sort_by_cached_key(|_| self.word());
+        items
+    }
+
     /// The place of one weight, as often as its weight says.
     pub fn weighted(&mut self, weights: &[usize]) -> usize {
         let mut left = self.below(weights.iter().sum());

@@ -3,13 +3,13 @@
 use crate::coverage::Coverage;
 use crate::delivery::Delivery;
 use crate::faults::{self, FAULTS};
-use crate::keys::{ACTED, ARRIVED_AGAIN, ARRIVED_LATE, ARRIVED_SPACED, PASSED_OVER, REPEATED, RUN, RUN_HIGH, RUN_LOST, RUN_SOON};
+use crate::keys::{ACTED, ARRIVED_AGAIN, ARRIVED_LATE, ARRIVED_RETIRED, ARRIVED_SPACED, PASSED_OVER, REPEATED, RUN, RUN_HIGH, RUN_LOST};
 use crate::keys::{DONE, HELD, RECEIVE, RECEIVE_AHEAD, RECEIVE_APPLIED, RECEIVE_BYTES, RECEIVE_CART, RECEIVE_COPY, RECEIVE_COUNT};
-use crate::keys::{RECEIVE_NUMBER, RECEIVE_OPERATION, RECEIVE_SPACED, RECEIVE_SPARE, RUN_WHOLE};
+use crate::keys::{RECEIVE_NUMBER, RECEIVE_OPERATION, RECEIVE_SPACED, RECEIVE_SPARE, RUN_SOON, RUN_WHOLE};
 use crate::message::{self, HEAD};
 use crate::rows::title_spaced;
 use crate::single;
-use crate::written::Message;
+use crate::written::{Message, Written};
 use simulator::{REFUSED, UNIT, VanAnswer};
 
 impl Coverage {
@@ -60,9 +60,8 @@ impl Coverage {
         }
     }
 
-    /// A message for a fresh van, with the numbers received before it; `applied` is the van's before it, `commits` those of the whole
-    /// list of calls.
-    pub fn note_arrived(&mut self, message: &Message, before: &[u32], applied: u32, commits: u32, answer: VanAnswer) {
+    /// A message for a fresh van, with the numbers received before it; `applied` is the van's before it.
+    pub fn note_arrived(&mut self, message: &Message, before: &[u32], applied: u32, written: &Written, answer: VanAnswer) {
         self.arrived += 1;
         let (number, end) = (message.number, end_of(answer));
         match end {
@@ -70,8 +69,11 @@ impl Coverage {
             DONE if before.contains(&number) => self.count((ARRIVED_AGAIN, 0, end)),
             _ => {}
         }
-        if message.commits < commits {
+        if message.commits < written.commits() {
             self.count((ARRIVED_LATE, 0, end));
+        }
+        if number <= written.retired {
+            self.count((ARRIVED_RETIRED, 0, end));
         }
         if message::operations(&message.bytes).any(title_spaced) {
             self.count((ARRIVED_SPACED, 0, end));

@@ -4,9 +4,9 @@ use crate::boundaries;
 use crate::damage;
 use crate::faults::FAULTS;
 use crate::keys::{ANSWERS_IN_LIST, ANSWERS_UNREACHED, COLLECT_MOVED, FORWARD_HELD, FORWARD_MOVED, READ_HELD, READ_MOVED};
-use crate::keys::{ARRIVED_AGAIN, ARRIVED_LATE, ARRIVED_SPACED, HELD, RECEIVE, RUN_LOST, RUN_SOON, RUN_WHOLE};
-use crate::keys::{BELOW_ALL, COLLECT_BELOW, FORWARD_BELOW, LOADED_EARLIER, LOADED_MADE, MOVE_LOADED, MOVE_STOPPED, READ_BELOW};
+use crate::keys::{ARRIVED_AGAIN, ARRIVED_LATE, ARRIVED_RETIRED, ARRIVED_SPACED, HELD, RECEIVE, RUN_LOST, RUN_SOON, RUN_WHOLE};
 use crate::keys::{BY_BOTH, BY_OUTSIDE, BY_STUDIO, BY_UNUSED, MOVE_AWAY, MOVE_HERE, UNMOVED};
+use crate::keys::{COLLECT_BELOW, FORWARD_BELOW, LOADED_EARLIER, LOADED_MADE, MOVE_LOADED, MOVE_STOPPED, READ_BELOW};
 use crate::keys::{COLLECT_FORWARDED, COLLECT_KEPT, FORWARD_AGAIN, FORWARD_AGAIN_ALONE, FORWARD_TOLD, MIXED};
 use crate::keys::{COLLECT_TOLD, RAISED, RAISED_UNREACHED, READ_TOLD, READ_TOLD_ALONE};
 use crate::keys::{DONE, HEAD_END, Key, LENGTHS, PREVIEWED, PREVIEWED_IN_LIST, READ, WAITED};
@@ -75,7 +75,7 @@ pub const EXCLUDED: [(&str, u32, u32, &str); 5] = [
 /// The rows of commit and of preview, by their numbers.
 const EDIT_ROWS: &[u32] = &[1, 2, 3, 4, 5, 6, 7, 8, 16];
 
-const CALLS: [(&str, &[u32], &[u32]); 11] = [
+const CALLS: [(&str, &[u32], &[u32]); 12] = [
     ("setup", &[1, 15], &[DONE]),
     ("commit", EDIT_ROWS, &[DONE]),
     ("preview", EDIT_ROWS, &[DONE]),
@@ -84,9 +84,10 @@ const CALLS: [(&str, &[u32], &[u32]); 11] = [
     ("read", &[1, 2, 3, 4, 12, 13], &[READ, WAITED]),
     ("collect", &[1, 2, 3, 13, 14], &[READ, WAITED]),
     ("forward", &[1, 2, 3, 4, 12, 13], &[READ, HEAD_END]),
-    ("van_write", &[1, 2, 17], &[DONE]),
+    ("van_write", &[1, 2, 17, 21], &[DONE]),
     ("move", &[1, 2, 3, 4], &[DONE]),
     ("load", &[1, 2, 19], &[DONE]),
+    ("retire", &[1, 2, 20], &[DONE]),
 ];
 
 /// Every line a run must have met.
@@ -104,11 +105,12 @@ pub fn lines() -> Vec<Line> {
     lines.extend(EDIT_ROWS.iter().chain(&[DONE]).map(|end| Line::Ended((PREVIEWED, 0, *end))));
     lines.extend([3, 4, 5, 6, 16, 7, 8, DONE].map(|end| Line::Ended((PREVIEWED_IN_LIST, 0, end))));
     for subjects in LENGTHS {
-        for (subject, right) in subjects.into_iter().zip([51_200, 40_960, 1_280]) {
+        for (subject, right) in subjects.into_iter().zip([61_440, 40_960, 1_280]) {
             lines.extend([0, right - 1, right + 1].map(|length| Line::Met((subject, length, 1))));
         }
+        lines.push(Line::Met((subjects[0], 51_200, 1)));
     }
-    lines.extend((0..5).map(|copy| Line::Met((damage::COPIES, copy, 2))));
+    lines.extend((0..6).map(|copy| Line::Met((damage::COPIES, copy, 2))));
     let sweeps = places::ALL.iter().map(|(_, name)| *name).chain(sweep::INPUTS).chain(van_sweep::SWEEPS);
     lines.extend(sweeps.map(|name| Line::Ended((name, 0, DONE))));
     lines.extend(damage::names().map(|name| Line::Ended((name, 0, 2))));
@@ -170,7 +172,7 @@ fn moved() -> Vec<Key> {
 
 /// What a load is refused for with no number beside it, and of lists over loaded memory what stands between the loaded transactions, moves,
 /// and what the loaded numbers alone hold back.
-fn loaded() -> [Key; 16] {
+fn loaded() -> [Key; 15] {
     [
         (LOAD_MISFIT_BY_NONE, 0, 19),
         (LOAD_MISFIT_BY_SOME, 0, 19),
@@ -181,7 +183,6 @@ fn loaded() -> [Key; 16] {
         (READ_BELOW, 0, READ),
         (COLLECT_BELOW, 0, READ),
         (FORWARD_BELOW, 0, READ),
-        (BELOW_ALL, 0, READ),
         (MOVE_LOADED, 0, DONE),
         (MOVE_STOPPED, 0, 4),
         (FIRST_READ, 0, WAITED),
@@ -198,7 +199,7 @@ fn faulty() -> impl Iterator<Item = Key> {
 }
 
 /// What has no number beside it: of van_write, of receives, and of the lists for fresh vans.
-fn vans() -> [Key; 14] {
+fn vans() -> [Key; 17] {
     [
         (VAN_WRITE_LOW, 0, 17),
         (VAN_WRITE_UNSENT, 0, DONE),
@@ -210,6 +211,9 @@ fn vans() -> [Key; 14] {
         (ARRIVED_LATE, 0, DONE),
         (ARRIVED_LATE, 0, HELD),
         (ARRIVED_LATE, 0, 18),
+        (ARRIVED_RETIRED, 0, DONE),
+        (ARRIVED_RETIRED, 0, HELD),
+        (ARRIVED_RETIRED, 0, 18),
         (ARRIVED_SPACED, 0, DONE),
         (RUN_LOST, 0, DONE),
         (RUN_SOON, 0, DONE),

@@ -5,14 +5,14 @@
 //! its length, operations are the whole 80-byte units, and an output is too
 //! short for an unknown request if it is shorter than 80, for an unknown
 //! transaction if it is shorter than the message of one operation. What the log
-//! makes is what its transactions make as far as links that go up lead.
+//! makes is what its transactions make as far as links lead.
 
 use crate::call::Call;
 use crate::lent::{Lent, Part};
 use crate::made;
 use crate::message;
 use crate::single;
-use simulator::{ANSWERED, Answer, COPY, Control, LIBRARY, LOG, SESSION_MEMORY, UNIT};
+use simulator::{ANSWERED, Answer, COMMITS, COPY, Control, LIBRARY, LOG, RECORDS, SESSION_MEMORY, UNIT};
 use std::borrow::Cow;
 
 /// The rows of this call that hold before it, row 2 apart.
@@ -55,11 +55,19 @@ fn row_holds(row: u32, call: &Call, control: &Control, lent: &Lent) -> bool {
             !(1..=4).contains(studios) || session_studios.len() != 16 || above
         }
         (17, Call::VanWrite { number, output }) => {
-            !(1..=control.commits).contains(number) || *output < message::output_asked(lent, *number)
+            !(1..=control.commits).contains(number) || *output < message::output_asked(control, lent, *number)
         }
         (19, _) => made::faults(control, lent).any(),
+        (20, _) => !is_retirable(control),
+        (21, Call::VanWrite { number, .. }) => (1..=control.retired).contains(number),
         _ => false,
     }
+}
+
+/// Whether row 20 lets a retire through: the log has a transaction, and "every studio has applied" the oldest.
+pub fn is_retirable(control: &Control) -> bool {
+    let studios = control.applied.iter().take(control.studios as usize);
+    control.retired < control.commits && studios.copied().all(|applied| applied > control.retired)
 }
 
 /// Row 3 by a studio: outside 1 to S.
@@ -144,9 +152,14 @@ fn edit_row_holds(row: u32, operations: &[u8], control: &Control, lent: &Lent) -
         5 => !length.is_multiple_of(UNIT) || !(80..=640).contains(&length),
         6 => operations.chunks_exact(UNIT).any(|unit| !simulator::operation_in_form(unit)),
         16 => spaced_title_met(operations),
-        7 => u64::from(control.used) + (length / UNIT) as u64 > 512,
+        7 => free_records(control) < length / UNIT || control.commits == COMMITS,
         _ => wrong_state_met(operations, lent),
     }
+}
+
+/// The records that the log's chain does not have.
+pub fn free_records(control: &Control) -> usize {
+    RECORDS.saturating_sub(control.used as usize)
 }
 
 fn in_form(operations: &[u8]) -> impl Iterator<Item = (usize, &[u8])> {
@@ -175,7 +188,7 @@ pub fn log(lent: &Lent) -> Cow<'_, [u8]> {
     sized(&lent.log, LOG)
 }
 
-/// The five copies, for memory of any length.
+/// The six copies, for memory of any length.
 pub fn library(lent: &Lent) -> Cow<'_, [u8]> {
     sized(&lent.library, LIBRARY)
 }

@@ -42,6 +42,7 @@ pub fn act(copy: &mut [u8], operation: &[u8]) {
     }
 }
 
+#[derive(Clone)]
 pub struct SingleLibrary {
     count: u32,
     carts: Vec<u8>,
@@ -49,7 +50,12 @@ pub struct SingleLibrary {
 
 impl SingleLibrary {
     pub fn new() -> SingleLibrary {
-        SingleLibrary { count: 0, carts: vec![0; 128 * UNIT] }
+        SingleLibrary::begun(&[0; 128 * UNIT], 0)
+    }
+
+    /// One that begins with these carts, so many commits already played (02's S-9).
+    pub fn begun(carts: &[u8], count: u32) -> SingleLibrary {
+        SingleLibrary { count, carts: carts.to_vec() }
     }
 
     /// The commit's number; for refusal 8 the count of commits at which it is refused.

@@ -72,7 +72,7 @@ impl Coverage {
     /// The records of the transaction just applied whose spaced title the studio's cart now has.
     fn note_spaced_records(&mut self, studio: u32, after: &Lent, answer: &Answer) {
         let copy = &after.library.lent()[COPY * studio as usize..];
-        let (_, operations) = log::transaction(after, answer.value);
+        let (_, operations) = log::transaction(&answer.control, after, answer.value);
         for unit in operations.iter().filter(|unit| title_spaced(unit)) {
             let shown = single::cart_at(unit).is_some_and(|at| title(&copy[at..at + UNIT]) == title(unit));
             if shown {

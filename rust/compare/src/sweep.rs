@@ -57,7 +57,7 @@ pub fn control(player: &mut Player<'_>, seed: u64) -> Result<(), Mismatch> {
     for at in 0..WORDS {
         let old = *asides::word(&mut wall.control.clone(), at);
         let near = [old.wrapping_add(1), old.wrapping_sub(1), old + 256, old + 65_536];
-        let ends = [0, 1, 2, 3, 4, 5, 31, 32, 33, 511, 512, 513, 1 << 31, u32::MAX];
+        let ends = [0, 1, 2, 3, 4, 5, 31, 32, 33, 511, 512, 513, 65_534, 65_535, 65_536, 1 << 31, u32::MAX];
         for value in near.into_iter().chain(ends) {
             let call = arguments::call(&mut random, &maker, &EVEN, &wall);
             let change = |wall: &mut Wall| *asides::word(&mut wall.control, at) = value;
@@ -138,7 +138,7 @@ pub fn lengths(player: &mut Player<'_>, seed: u64) -> Result<(), Mismatch> {
     let wall = direct::wall(&mut random, &maker);
     for kind in 0..=CALLS {
         for memory in 0..3 {
-            for length in 0..8 {
+            for length in 0..9 {
                 let call = call_of_kind(&mut random, &maker, &wall, kind);
                 player.play_aside(&wall, &call, |wall| set_length(wall, memory, length))?;
             }
@@ -163,6 +163,7 @@ fn set_length(wall: &mut Wall, memory: usize, length: usize) {
         _ => &mut lent.sessions,
     };
     let right = part.len();
-    let lengths = [0, 1, 80, right - 80, right - 1, right + 1, right + 80, 2 * right];
+    // Five sixths of the library are its length before 02's S-9.
+    let lengths = [0, 1, 80, right / 6 * 5, right - 80, right - 1, right + 1, right + 80, 2 * right];
     asides::resize(part, lengths[length]);
 }

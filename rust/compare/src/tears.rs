@@ -4,11 +4,11 @@
 use crate::keys::DONE;
 use crate::left;
 use crate::log;
-use crate::made::{self, Log};
+use crate::made::{self, Log, SIXTH};
 use crate::make::{Maker, Unit};
 use crate::random::Random;
 use crate::wall::Wall;
-use simulator::{CARTS, COPY, UNIT};
+use simulator::{CARTS, COPY, Control, UNIT};
 
 type Tear = fn(&mut Random, &Maker, &mut Wall);
 
@@ -32,6 +32,12 @@ pub const TORN: &[Torn] = &[
     torn("torn: a copy of an earlier state", &[19], earlier),
     torn("torn: a copy of a later state", &[19], later),
     torn("torn: two copies exchanged", &[19], exchanged),
+    torn("torn: a letter of the sixth copy", &[19], |r, m, w| in_sixth(r, m, w, letter)),
+    torn("torn: a cart of the sixth copy more or less", &[19], |r, m, w| in_sixth(r, m, w, any_cart)),
+    torn("torn: the sixth copy empty", &[19], |r, m, w| in_sixth(r, m, w, |_, _, copy| copy.fill(0))),
+    torn("torn: the sixth copy of a later state", &[19], sixth_later),
+    torn("torn: the sixth copy of another studio's state", &[19], sixth_of_studio),
+    torn("torn: another sixth copy, and copies that are made from it", &[19, DONE], sixth_and_copies),
     torn("torn: applied of another moment", &[19], applied),
     torn("torn: the log without its last transaction", &[19], without_last),
     torn("torn: the log empty", &[19], without_log),
@@ -47,6 +53,34 @@ fn in_copy(random: &mut Random, maker: &Maker, wall: &mut Wall, change: fn(&mut 
     let last = wall.control.studios as usize;
     let copy = *random.pick(&[0, last, random.clone().within(0, last)]);
     change(random, maker, &mut wall.played.library.lent_mut()[COPY * copy..COPY * (copy + 1)]);
+}
+
+/// A change of the sixth copy, where something is retired.
+fn in_sixth(random: &mut Random, maker: &Maker, wall: &mut Wall, change: fn(&mut Random, &Maker, &mut [u8])) {
+    if wall.control.retired > 0 {
+        change(random, maker, &mut wall.played.library.lent_mut()[SIXTH * COPY..]);
+    }
+}
+
+/// As if the oldest transaction had acted on it already.
+fn sixth_later(_: &mut Random, _: &Maker, wall: &mut Wall) {
+    let library = Log::new(&wall.control, &wall.played).library(wall.control.retired + 1);
+    if wall.control.retired > 0 {
+        wall.played.library.lent_mut()[SIXTH * COPY..].copy_from_slice(&library);
+    }
+}
+
+fn sixth_of_studio(random: &mut Random, _: &Maker, wall: &mut Wall) {
+    let studio = random.within(1, wall.control.studios as usize);
+    if wall.control.retired > 0 {
+        wall.played.library.lent_mut().copy_within(studio * COPY..(studio + 1) * COPY, SIXTH * COPY);
+    }
+}
+
+/// Nothing says that the sixth copy is not so.
+fn sixth_and_copies(random: &mut Random, maker: &Maker, wall: &mut Wall) {
+    in_sixth(random, maker, wall, any_cart);
+    made::make_copies(&wall.control, &mut wall.played);
 }
 
 /// A held cart of a copy; without one there is a cart more.
@@ -118,25 +152,25 @@ fn turn_cart(random: &mut Random, maker: &Maker, copy: &mut [u8], cart: usize) {
     }
 }
 
-/// A copy becomes that of `other`, which is given what the copy has taken and commits.
-fn to_state(random: &mut Random, wall: &mut Wall, other: fn(&mut Random, u32, u32) -> u32) {
+/// A copy becomes that of `other`, which is given what the copy has taken.
+fn to_state(random: &mut Random, wall: &mut Wall, other: fn(&mut Random, u32, &Control) -> u32) {
     let copy = random.below(wall.control.studios as usize + 1);
-    let n = other(random, made::taken(copy, &wall.control), wall.control.commits);
+    let n = other(random, made::taken(copy, &wall.control), &wall.control);
     let library = Log::new(&wall.control, &wall.played).library(n);
     wall.played.library.lent_mut()[COPY * copy..COPY * (copy + 1)].copy_from_slice(&library);
 }
 
 fn earlier(random: &mut Random, _: &Maker, wall: &mut Wall) {
-    to_state(random, wall, |random, n, _| match random.percent(70) {
+    to_state(random, wall, |random, n, control| match random.percent(70) {
         true => n.saturating_sub(1),
-        false => random.within(0, n as usize) as u32,
+        false => random.within(control.retired as usize, n as usize) as u32,
     });
 }
 
 fn later(random: &mut Random, _: &Maker, wall: &mut Wall) {
-    to_state(random, wall, |random, n, commits| match random.percent(70) {
-        true => commits.min(n + 1),
-        false => random.within(n as usize, commits as usize) as u32,
+    to_state(random, wall, |random, n, control| match random.percent(70) {
+        true => control.commits.min(n + 1),
+        false => random.within(n as usize, control.commits as usize) as u32,
     });
 }
 
@@ -150,41 +184,40 @@ fn exchanged(random: &mut Random, _: &Maker, wall: &mut Wall) {
 fn applied(random: &mut Random, _: &Maker, wall: &mut Wall) {
     let place = random.below(wall.control.studios as usize);
     let sent = wall.control.sent[place];
-    wall.control.applied[place] = random.within(sent.saturating_sub(32) as usize, sent as usize) as u32;
+    let least = sent.saturating_sub(32).max(wall.control.retired);
+    wall.control.applied[place] = random.within(least as usize, sent as usize) as u32;
 }
 
-/// Control and sessions are those of this many commits, so that memory stays of the layout.
-fn set_commits(wall: &mut Wall, commits: u32, used: u32) {
+/// The log keeps so many of its transactions, and the records of the others are free. Counts and sessions are those of this many commits,
+/// so that memory stays of the layout.
+fn keep_transactions(wall: &mut Wall, count: usize) {
+    let log = wall.played.log.lent_mut();
+    let (transactions, free) = (log::transactions(log, &wall.control), log::free(log, &wall.control));
+    let (kept, gone) = transactions.split_at(count.min(transactions.len()));
     let control = &mut wall.control;
-    (control.commits, control.used) = (commits, used);
-    control.sent.iter_mut().chain(&mut control.applied).for_each(|count| *count = commits.min(*count));
+    log::put_chains(log, control, kept, &[&free[..], &gone.concat()].concat());
+    control.commits = control.retired + kept.len() as u32;
+    control.sent.iter_mut().chain(&mut control.applied).for_each(|count| *count = control.commits.min(*count));
     for session in 1..=16 {
-        let number = commits.min(wall.number(session));
+        let number = wall.control.commits.min(wall.number(session));
         left::set_number(&mut wall.played, session, number);
     }
 }
 
 fn without_last(_: &mut Random, _: &Maker, wall: &mut Wall) {
-    let commits = wall.control.commits;
-    let transactions = log::transactions(wall.played.log.lent(), commits);
-    let Some(last) = transactions.last() else { return };
-    let log = wall.played.log.lent_mut();
-    log[UNIT * last.start..UNIT * last.end].fill(0);
-    if let [.., before, _] = &transactions[..] {
-        log[UNIT * before.start + 14..UNIT * before.start + 16].fill(0);
-    }
-    set_commits(wall, commits - 1, last.start as u32);
+    let count = (wall.control.commits - wall.control.retired) as usize;
+    keep_transactions(wall, count.saturating_sub(1));
 }
 
 fn without_log(_: &mut Random, _: &Maker, wall: &mut Wall) {
-    wall.played.log.lent_mut().fill(0);
-    set_commits(wall, 0, 0);
+    keep_transactions(wall, 0);
 }
 
-/// A record that is used, if there is one: often the first or the last.
+/// A record that is used, if there is one: often the first of the log's chain or the last.
 fn used_record(random: &mut Random, wall: &Wall) -> Option<usize> {
-    let last = (wall.control.used as usize).checked_sub(1)?;
-    Some(*random.pick(&[0, last, random.clone().within(0, last)]))
+    let records = log::transactions(wall.played.log.lent(), &wall.control).concat();
+    let last = records.len().checked_sub(1)?;
+    Some(records[*random.pick(&[0, last, random.clone().within(0, last)])])
 }
 
 /// A record's operation; its links stay.

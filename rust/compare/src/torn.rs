@@ -6,7 +6,8 @@ use crate::coverage::outcome;
 use crate::damage;
 use crate::direct;
 use crate::keys::DONE;
-use crate::made;
+use crate::log;
+use crate::made::{self, SIXTH};
 use crate::make::Maker;
 use crate::player::{Mismatch, Player};
 use crate::random::Random;
@@ -20,9 +21,14 @@ pub const SWEEP: &str = "sweep of a cart in a copy that the log makes, copy";
 /// A wall of the layout that the log makes.
 pub fn made_wall(studios: u32, random: &mut Random, maker: &Maker) -> Wall {
     let mut wall = direct::wall_of(studios, random, maker);
-    let (mut held, used) = ([false; 129], wall.control.used as usize);
-    for record in wall.played.log.lent_mut().chunks_exact_mut(UNIT).take(used) {
-        tears::put_operation(record, &maker.logged_fitting(random, &mut held));
+    let mut held = [false; 129];
+    for (cart, unit) in (1..).zip(wall.played.library.lent()[SIXTH * COPY..].chunks_exact(UNIT)) {
+        held[cart] = unit[0] == 1;
+    }
+    let log = wall.played.log.lent_mut();
+    for record in log::transactions(log, &wall.control).concat() {
+        let operation = maker.logged_fitting(random, &mut held);
+        tears::put_operation(&mut log[UNIT * record..UNIT * (record + 1)], &operation);
     }
     made::make_copies(&wall.control, &mut wall.played);
     wall.mirror();
@@ -97,16 +103,17 @@ pub fn play(player: &mut Player<'_>, random: &mut Random, maker: &Maker, wall: &
     Ok(())
 }
 
-/// Every byte of a held cart in each copy of a wall of four studios, and one byte of some other carts, changed and loaded.
+/// Every byte of a held cart in each copy of a wall of four studios, the sixth copy among them, and one byte of some other carts, changed and
+/// loaded.
 pub fn sweep(player: &mut Player<'_>, random: &mut Random) -> Result<(), Mismatch> {
     let wall = loop {
         let maker = Maker::new(random, 128);
         let wall = made_wall(4, random, &maker);
-        if wall.control.used <= 100 && made::copies(&wall.control).all(|copy| !held(&wall, copy).is_empty()) {
+        if wall.control.used <= 100 && (0..=SIXTH).all(|copy| !held(&wall, copy).is_empty()) {
             break wall;
         }
     };
-    for copy in made::copies(&wall.control) {
+    for copy in 0..=SIXTH {
         let swept = COPY * copy + UNIT * *random.pick(&held(&wall, copy));
         let others: Vec<usize> = (0..10).map(|_| COPY * copy + random.below(COPY)).collect();
         for at in (swept..swept + UNIT).chain(others) {

@@ -68,31 +68,41 @@ fn arriving<'a>(random: &mut Random, messages: &'a [Message]) -> Vec<&'a Message
     arriving
 }
 
-/// A list of messages for a fresh van.
+/// A list of messages for a fresh van. Where the list begins with retired transactions, the first is not among them.
 fn deliver(player: &mut Player<'_>, written: &Written, list: &[&Message]) -> Result<(), Mismatch> {
     let numbers: Vec<u32> = list.iter().map(|message| message.number).collect();
     let mut van = Delivery::new(&[0; COPY], 0, &[]);
+    let mut made = vec![0; COPY]; // L(applied)
     for (place, message) in list.iter().enumerate() {
         van.message.set(&message.bytes);
         let applied = van.applied;
         let answer = player.receive(&mut van)?;
         van.applied = answer.applied;
-        check(written, &numbers[..=place], &van).map_err(|words| player.mismatch(van.to_string(), words))?;
-        player.coverage.note_arrived(message, &numbers[..place], applied, written.commits(), answer);
+        let checked = check_run(&numbers[..=place], &van).and_then(|()| check_copy(written, applied, &van, &mut made));
+        checked.map_err(|words| player.mismatch(van.to_string(), words))?;
+        player.coverage.note_arrived(message, &numbers[..place], applied, written, answer);
     }
     player.coverage.note_run(&numbers, van.applied);
     Ok(())
 }
 
-/// "the van's copy is L(applied), and applied is exactly the longest run 1, 2, 3, … that can be picked from the list in its order".
-fn check(written: &Written, received: &[u32], van: &Delivery) -> Result<(), String> {
+/// "applied is exactly the longest run 1, 2, 3, … that can be picked from the list in its order".
+fn check_run(received: &[u32], van: &Delivery) -> Result<(), String> {
     let applied = van.applied;
-    if !runs::is_longest(applied, received) {
-        return Err(format!("fresh van: applied {applied} is not the longest run of {received:?}"));
-    }
-    match van.copy.lent() == written.library(applied) {
+    match runs::is_longest(applied, received) {
         true => Ok(()),
-        false => Err(format!("fresh van: the copy is not L({applied}) after {received:?}")),
+        false => Err(format!("fresh van: applied {applied} is not the longest run of {received:?}")),
+    }
+}
+
+/// "the van's copy is L(applied)"; `made` is L(before), and becomes it.
+fn check_copy(written: &Written, before: u32, van: &Delivery, made: &mut [u8]) -> Result<(), String> {
+    if van.applied > before {
+        written.play(before, van.applied, made);
+    }
+    match van.copy.lent() == made {
+        true => Ok(()),
+        false => Err(format!("fresh van: the copy is not L({}) after the message of {}", van.applied, van.number())),
     }
 }
 
@@ -116,7 +126,8 @@ fn play_any(player: &mut Player<'_>, random: &mut Random) -> Result<(), Mismatch
 /// A copy of the layout: L(n), or one that no list makes.
 fn copy(random: &mut Random, maker: &Maker, written: &Written) -> Vec<u8> {
     if random.percent(30) {
-        return written.library(random.within(0, written.commits() as usize) as u32);
+        let count = written.any_count(random);
+        return written.library(count);
     }
     let mut copy = vec![0; COPY];
     direct::fill_copy(random, maker, &mut copy);

@@ -16,7 +16,7 @@ pub struct Wall {
     pub previewed: Option<(Call, Answer)>,
     pub told: Sessions,
     pub walks: Walks,
-    /// How many of the messages 1, 2, 3, … were written in turn.
+    /// The last of the messages that were written in turn, retired transactions passed over.
     pub written: u32,
 }
 
@@ -39,13 +39,18 @@ impl Wall {
     /// Takes in a call that was played; `number` is its session's before it.
     pub fn follow(&mut self, call: &Call, number: u32, answer: &Answer) {
         self.walks.follow(call, number, rows::session_studio(call, &self.control), answer);
+        let next = self.next_message();
         self.control = answer.control;
         self.previewed = call.previewed().map(|commit| (commit, *answer));
         self.told.follow(call, number, answer);
-        let next = self.written + 1;
         if matches!((call, answer.kind), (Call::VanWrite { number, .. }, DONE) if *number == next) {
             self.written = next;
         }
+    }
+
+    /// The number of the next message to be written in turn.
+    pub fn next_message(&self) -> u32 {
+        self.written.max(self.control.retired).saturating_add(1)
     }
 
     /// Gives the simulator the engine's memory, after the latter was changed. What the sessions were told and shown is forgotten, but for

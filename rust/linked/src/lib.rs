@@ -7,15 +7,15 @@ use sulyobak_sys as sys;
 
 #[inline]
 fn passed(control: Control) -> sys::Control {
-    let Control { studios, session_studios, used, commits, sent, applied } = control;
-    sys::Control { studios, session_studios, used, commits, sent, applied }
+    let Control { studios, session_studios, used, commits, sent, applied, retired, oldest, free_first, free_last } = control;
+    sys::Control { studios, session_studios, used, commits, sent, applied, retired, oldest, free_first, free_last }
 }
 
 #[inline]
 fn handed_back(answer: sys::Answer) -> Answer {
     let sys::Answer { kind, value, found, control } = answer;
-    let sys::Control { studios, session_studios, used, commits, sent, applied } = control;
-    let control = Control { studios, session_studios, used, commits, sent, applied };
+    let sys::Control { studios, session_studios, used, commits, sent, applied, retired, oldest, free_first, free_last } = control;
+    let control = Control { studios, session_studios, used, commits, sent, applied, retired, oldest, free_first, free_last };
     Answer { kind, value, found, control }
 }
 
@@ -105,6 +105,12 @@ pub fn move_session(library: &mut [u8], log: &mut [u8], sessions: &mut [u8], con
 #[inline]
 pub fn load(library: &mut [u8], log: &mut [u8], sessions: &mut [u8], control: Control) -> Answer {
     call!(sulyobak_load, library, log, sessions, passed(control))
+}
+
+/// Retire.
+#[inline]
+pub fn retire(library: &mut [u8], log: &mut [u8], sessions: &mut [u8], control: Control) -> Answer {
+    call!(sulyobak_retire, library, log, sessions, passed(control))
 }
 
 /// The layout test alone.

@@ -5,7 +5,7 @@
 pub mod sizes;
 
 /// The version of the interface that these declarations are for: `SULYOBAK_VERSION`.
-pub const VERSION: u32 = 8;
+pub const VERSION: u32 = 9;
 
 /// The counts of a system. The engine is passed them and hands them back; any value may stand in any field, and each has its answer.
 ///
@@ -17,14 +17,22 @@ pub struct Control {
     pub studios: u32,
     /// The studio at which each session is; 0 for a session that is not in use.
     pub session_studios: [u32; sizes::SESSION_COUNT],
-    /// Records of the log that hold operations, up to 512.
+    /// Records of the log that hold operations, up to 512; the others are free.
     pub used: u32,
-    /// Transactions committed.
+    /// Transactions committed, retired ones included, up to 65,535.
     pub commits: u32,
     /// For each studio, how many transactions were sent to it.
     pub sent: [u32; sizes::STUDIOS],
     /// For each studio, how many of these its copy has taken.
     pub applied: [u32; sizes::STUDIOS],
+    /// Transactions retired: the first ones, no longer in the log; the sixth copy is what they made.
+    pub retired: u32,
+    /// First record of the oldest transaction that is in the log; 0 for none.
+    pub oldest: u32,
+    /// First record of the chain of free ones; 0 for none.
+    pub free_first: u32,
+    /// Last record of that chain; 0 for none.
+    pub free_last: u32,
 }
 
 /// What a call answers. Words that have no meaning for the kind are 0.
@@ -53,8 +61,8 @@ pub struct VanAnswer {
     pub applied: u32,
 }
 
-// The structs of the header have 27, 30 and 3 words.
-const _: () = assert!(core::mem::size_of::<Control>() == 27 * 4 && core::mem::size_of::<Answer>() == 30 * 4);
+// The structs of the header have 31, 34 and 3 words.
+const _: () = assert!(core::mem::size_of::<Control>() == 31 * 4 && core::mem::size_of::<Answer>() == 34 * 4);
 const _: () = assert!(core::mem::size_of::<VanAnswer>() == 3 * 4);
 
 /// Nothing was done, and no byte was changed (but a session's number, by a commit refused by 8).
@@ -218,7 +226,18 @@ extern "C" {
         control: Control,
     ) -> Answer;
 
-    /// Writes the message of a committed transaction, for a van.
+    /// Retires the oldest transaction of the log, which every studio has applied: its records are free again.
+    pub fn sulyobak_retire(
+        library: *mut u8,
+        library_len: usize,
+        log: *mut u8,
+        log_len: usize,
+        sessions: *const u8,
+        sessions_len: usize,
+        control: Control,
+    ) -> Answer;
+
+    /// Writes the message of a committed transaction that is not retired, for a van.
     pub fn sulyobak_van_write(
         library: *const u8,
         library_len: usize,

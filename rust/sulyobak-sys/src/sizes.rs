@@ -1,7 +1,7 @@
 //! The sizes of the memories, and how many there are of everything.
 
-/// Bytes of library memory: five copies, the head end's and those of studios 1 to 4.
-pub const LIBRARY: usize = 51_200;
+/// Bytes of library memory: six copies, the head end's, those of studios 1 to 4, and what is retired.
+pub const LIBRARY: usize = 61_440;
 /// Bytes of log memory: 512 records.
 pub const LOG: usize = 40_960;
 /// Bytes of session memory: 16 sessions.
@@ -28,7 +28,9 @@ pub const TITLE: usize = 64;
 pub const OPERATIONS: usize = 8;
 /// Cart numbers of a read at most.
 pub const NUMBERS: usize = 32;
-/// Operations that the log holds.
+/// Operations that the log holds; retired ones make room.
 pub const RECORDS: usize = 512;
+/// Transactions that can ever be committed.
+pub const COMMITS: usize = 65_535;
 /// Transactions that can be sent to a studio and not yet applied there.
 pub const WINDOW: usize = 32;

@@ -29,7 +29,8 @@ pub enum Refusal {
     Size,
     /// 6: an operation is out of form.
     Operation,
-    /// 7: the log has no room for the operations.
+    /// 7: the log has fewer free records than operations ([`Library::retire`](crate::Library::retire) makes room), or 65,535 transactions
+    /// were committed.
     LogFull,
     /// 8: an operation meets its cart in the wrong state. A commit refused so leaves its session's number at the count of commits, and
     /// changes nothing else; a preview changes nothing.
@@ -58,6 +59,11 @@ pub enum Refusal {
     /// 19: a copy is not what the log makes, or a logged operation met its cart in the wrong state. Only a load is refused so
     /// ([`Library::load`](crate::Library::load)).
     NotWhole,
+    /// 20: a studio has not applied the oldest transaction of the log yet, or the log has none. Only a retire is refused so
+    /// ([`Library::retire`](crate::Library::retire)).
+    NotRetirable,
+    /// 21: the transaction is retired, and no longer in the log: no message of it can be written.
+    Retired,
     /// A number that this version of the crate does not know.
     Unknown(u32),
     /// The linked engine is of this version of the interface, and this crate is for [`VERSION`](crate::VERSION): nothing was called.
@@ -66,7 +72,7 @@ pub enum Refusal {
 
 impl Refusal {
     // Every refusal, by its number from 1.
-    const ALL: [Refusal; 19] = [
+    const ALL: [Refusal; 21] = [
         Refusal::Lengths,
         Refusal::Layout,
         Refusal::Nobody,
@@ -86,6 +92,8 @@ impl Refusal {
         Refusal::Message,
         Refusal::MessageAhead,
         Refusal::NotWhole,
+        Refusal::NotRetirable,
+        Refusal::Retired,
     ];
 
     /// The refusal with this number of documents 01 and 02.
@@ -116,6 +124,8 @@ impl Refusal {
             Refusal::Message => 17,
             Refusal::MessageAhead => 18,
             Refusal::NotWhole => 19,
+            Refusal::NotRetirable => 20,
+            Refusal::Retired => 21,
             Refusal::Unknown(number) => number,
             Refusal::Version(_) => 0,
         }
@@ -132,7 +142,9 @@ impl Refusal {
             Refusal::Operation => {
                 "an operation is out of form: cart number 1 to 128, audio and length at least 1, title of 1 to 64 letters"
             }
-            Refusal::LogFull => "the log has no room for the operations",
+            Refusal::LogFull => {
+                "the log has fewer free records than there are operations (retire makes room), or 65,535 transactions were committed"
+            }
             Refusal::WrongState => "a new cart is there already, or the cart to retitle, re-cut or withdraw is empty",
             Refusal::AllSent => "every committed transaction was sent to this studio",
             Refusal::WindowFull => "32 transactions were sent to this studio and not yet applied; refresh it first",
@@ -149,6 +161,8 @@ impl Refusal {
             Refusal::NotWhole => {
                 "a copy is not what the log makes, or a logged operation met its cart in the wrong state: damaged, or not saved together"
             }
+            Refusal::NotRetirable => "a studio has not applied the oldest transaction of the log yet, or the log has none",
+            Refusal::Retired => "the transaction is retired, and no longer in the log",
             Refusal::Unknown(_) => "a number that this version of the crate does not have",
             Refusal::Version(_) => "the linked libsulyobak.a is of another version than this crate",
         }
@@ -262,12 +276,12 @@ mod tests {
 
     #[test]
     fn every_refusal_has_its_number() {
-        for number in 1..=19 {
+        for number in 1..=21 {
             let refusal = Refusal::from_number(number);
             assert_eq!(refusal.number(), number);
             assert!(!matches!(refusal, Refusal::Unknown(_)));
         }
-        for number in [0, 20, u32::MAX] {
+        for number in [0, 22, u32::MAX] {
             assert_eq!(Refusal::from_number(number), Refusal::Unknown(number));
         }
     }

@@ -7,7 +7,8 @@
 //! end refused it one because of a cart's state ([`Refusal::WrongState`]) or answered it, and the state that a read showed it. So nobody is
 //! handed an old cut that they have just replaced, or told or shown what the head end or a studio has and then shown a copy from before,
 //! also after a move to another studio ([`Library::move_session`]). A copy beyond a line that loses, repeats and reorders, in an
-//! outside-broadcast van, is kept by messages, one for each transaction ([`Library::van_write`], [`Van::receive`]).
+//! outside-broadcast van, is kept by messages, one for each transaction ([`Library::van_write`], [`Van::receive`]). The log has 512 records;
+//! a transaction that every studio has applied is retired, and its records serve again ([`Library::retire`]).
 //!
 //! The engine is written in Rattle and linked as a static library; each of its functions is proved to answer, and to leave in
 //! memory, exactly what its specification gives. This crate is a safe wrapper around it, with no dependency but the
@@ -43,6 +44,7 @@
 //! - sessions of another moment: a number too low shows its session an earlier copy;
 //! - in control, counts of sent and studios of sessions from another moment;
 //! - a byte of the log that no copy depends on any more, as a title that was replaced later;
+//! - a sixth copy that is not what the retired transactions made, where all the other copies fit it;
 //! - a whole system of an earlier moment.
 //!
 //! `examples/rust/restart.rs` saves to a file, reads it back, loads, goes on, and shows what torn files give.

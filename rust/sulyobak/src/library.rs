@@ -7,7 +7,8 @@ use crate::view::View;
 use std::fmt;
 use sulyobak_sys::{sizes, Control};
 
-/// A system that owns its memory: the head end's copy, up to four studios' copies, the log and the sessions (some 93 kB).
+/// A system that owns its memory: the head end's copy, up to four studios' copies and that of what is retired, the log and the sessions
+/// (some 104 kB).
 ///
 /// A call that changes something takes `&mut self`, so there is one at a time. See the [crate's page](crate) for an example.
 #[derive(Clone, PartialEq, Eq)]
@@ -21,7 +22,7 @@ pub struct Library {
 /// A library taken apart, to be saved together with [`VERSION`](crate::VERSION).
 #[derive(Clone, PartialEq, Eq)]
 pub struct Parts {
-    /// The five copies, [`sizes::LIBRARY`] bytes.
+    /// The six copies, [`sizes::LIBRARY`] bytes.
     pub library: Box<[u8]>,
     /// The log, [`sizes::LOG`] bytes.
     pub log: Box<[u8]>,
@@ -61,13 +62,14 @@ impl Library {
     /// Loads a system that was saved: the library with these parts, as they were read back. It goes on as if it had never stopped: sessions
     /// have their numbers, and waiting reads are collected. The [crate's page](crate#saving) says how to save.
     ///
-    /// Beyond the layout ([`Refusal::Lengths`], [`Refusal::Layout`]) it works out from the log what its transactions make. The head end's
-    /// copy must be what all of them make, each studio's what as many make as it has applied, and each operation must have met its cart in
-    /// the right state: else [`Refusal::NotWhole`]. Whatever calls leave is accepted, so a restart is safe at any moment.
+    /// Beyond the layout ([`Refusal::Lengths`], [`Refusal::Layout`]) it works out from the log what its transactions make, beginning with the
+    /// sixth copy, which is what the retired ones made. The head end's copy must be what all of them make, each studio's what they make up to
+    /// the number that it has applied, and each operation must have met its cart in the right state: else [`Refusal::NotWhole`]. Whatever
+    /// calls leave is accepted, so a restart is safe at any moment.
     ///
     /// A save that is torn, with a library, a log and a control of different moments, is refused wherever a copy then differs from what log
     /// and control make of it. What cannot be told, and is accepted: sessions of another moment, counts of sent and studios of sessions from
-    /// another moment, and a whole system of an earlier moment.
+    /// another moment, a sixth copy that is not what was retired where all the other copies fit it, and a whole system of an earlier moment.
     ///
     /// ```
     /// use sulyobak::{Library, Operation, Read, Refusal, Request, Title};
@@ -101,7 +103,7 @@ impl Library {
     /// The library with these parts, or [`Refusal::Lengths`] or [`Refusal::Layout`] where they are not of the layout. For parts that were
     /// saved call [`load`](Library::load), which tests more.
     ///
-    /// The layout is tested, as each call does: every field within its rule, the log's chain and the counts agreeing. Whether a copy is
+    /// The layout is tested, as each call does: every field within its rule, the log's two chains and the counts agreeing. Whether a copy is
     /// what the log makes is not seen.
     ///
     /// ```
@@ -131,7 +133,8 @@ impl Library {
         Parts { library, log, sessions, control }
     }
 
-    /// The counts: studios, commits, and for each studio what was sent and applied.
+    /// The counts: studios, commits, for each studio what was sent and applied, how many transactions are retired, and how many records of
+    /// the log are used. The others, [`sizes::RECORDS`] less these, are free: a commit takes one for each operation.
     pub fn control(&self) -> &Control {
         &self.control
     }
@@ -317,11 +320,66 @@ impl Library {
         self.memory().move_session(session, studio)
     }
 
-    /// Writes the message of a committed transaction, for a [`Van`](crate::Van), and changes nothing. The transaction need not have been
-    /// sent to any studio; a number outside 1 to commits is refused ([`Refusal::Message`]).
+    /// Retires the oldest transaction of the log, once every studio has applied it: its records are free again, so that later commits find
+    /// room. Returns how many are retired by now. Commit numbers, copies and sessions stay as they are.
     ///
-    /// The same number gives the same message for as long as the log stands, whatever is called in between: where one was lost on the way,
-    /// write it again.
+    /// While a studio still needs the oldest transaction, or the log has none, it is refused ([`Refusal::NotRetirable`]). So a station that
+    /// retires until that refusal, and whose studios keep up, never fills its log, until 65,535 transactions were committed. A retired
+    /// transaction can no longer be written for a van ([`Refusal::Retired`]): keep those that a van may still need.
+    ///
+    /// A busy station commits more than the log holds:
+    ///
+    /// ```
+    /// use sulyobak::{Library, Operation, Refusal, Title};
+    ///
+    /// # fn main() -> Result<(), Box<dyn std::error::Error>> {
+    /// let mut library = Library::new(1, &[1])?;
+    /// library.commit(1, &[Operation::New { cart: 7, title: Title::new("Top hour A")?, audio: 1, milliseconds: 8_000 }])?;
+    /// assert_eq!(library.retire(), Err(Refusal::NotRetirable), "studio 1 still needs it");
+    ///
+    /// for number in 2..=1_000 {
+    ///     assert_eq!(library.commit(1, &[Operation::Recut { cart: 7, audio: number, milliseconds: 8_000 }])?, number);
+    ///     library.send(1)?;
+    ///     library.refresh(1)?;
+    ///     assert_eq!(library.retire()?, number - 1);
+    /// }
+    /// assert_eq!((library.control().commits, library.control().retired, library.control().used), (1_000, 999, 1));
+    /// assert_eq!(library.retire(), Err(Refusal::NotRetirable), "transaction 1,000 is not applied yet");
+    /// # Ok(())
+    /// # }
+    /// ```
+    ///
+    /// Where the studios cannot be waited for, a commit tells that the log is full:
+    ///
+    /// ```
+    /// use sulyobak::{sizes, Library, Operation, Refusal};
+    ///
+    /// let mut library = Library::new(1, &[1])?;
+    /// let title = "News bed".parse().expect("a title");
+    /// library.commit(1, &[Operation::New { cart: 30, title, audio: 401, milliseconds: 60_000 }])?;
+    /// let recut = Operation::Recut { cart: 30, audio: 402, milliseconds: 60_000 };
+    /// while library.control().used < sizes::RECORDS as u32 {
+    ///     library.commit(1, &[recut])?;
+    /// }
+    /// assert_eq!(library.commit(1, &[recut]), Err(Refusal::LogFull));
+    ///
+    /// // Once the studio has applied the oldest one there is room again.
+    /// library.send(1)?;
+    /// library.refresh(1)?;
+    /// library.retire()?;
+    /// assert_eq!(library.commit(1, &[recut]), Ok(513));
+    /// # Ok::<(), Refusal>(())
+    /// ```
+    pub fn retire(&mut self) -> Result<u32, Refusal> {
+        self.memory().retire()
+    }
+
+    /// Writes the message of a committed transaction, for a [`Van`](crate::Van), and changes nothing. The transaction need not have been
+    /// sent to any studio; one that is retired is refused ([`Refusal::Retired`]), and a number outside 1 to commits too
+    /// ([`Refusal::Message`]).
+    ///
+    /// The same number gives the same message until the transaction is retired, whatever is called in between: where one was lost on the
+    /// way, write it again.
     ///
     /// ```
     /// use sulyobak::{Library, Operation, Refusal, Title, Van};

@@ -28,7 +28,7 @@ use sulyobak_sys::{self as sys, sizes, Control};
 /// # Ok::<(), Refusal>(())
 /// ```
 pub struct Memory<'a> {
-    /// The five copies, [`sizes::LIBRARY`] bytes.
+    /// The six copies, [`sizes::LIBRARY`] bytes.
     pub library: &'a mut [u8],
     /// The log, [`sizes::LOG`] bytes.
     pub log: &'a mut [u8],
@@ -48,7 +48,7 @@ macro_rules! ask {
 }
 
 impl Memory<'_> {
-    /// Sets up a fresh system: all memory zero, every cart empty, all counts zero.
+    /// Sets up a fresh system: every cart empty, nothing waiting, every record of the log free, all counts zero.
     ///
     /// There are 1 to 4 studios, and 16 bytes with the studio of each session; 0 leaves a session unused.
     /// A refused setup changes neither memory nor control, so a system that was live stays so. (The engine hands back a control of zeros
@@ -176,6 +176,13 @@ impl Memory<'_> {
         self.done(answer)
     }
 
+    /// Retires the oldest transaction of the log, once every studio has applied it. Returns how many are retired by now:
+    /// [`Library::retire`](crate::Library::retire) has examples.
+    pub fn retire(&mut self) -> Result<u32, Refusal> {
+        let answer = call!(as_mut_ptr, sulyobak_retire, self, *self.control);
+        self.done(answer)
+    }
+
     /// Writes the message of a committed transaction, for a van, and changes nothing: [`Library::van_write`](crate::Library::van_write) has
     /// an example.
     pub fn van_write(&self, number: u32) -> Result<Message, Refusal> {
@@ -198,7 +205,7 @@ impl Memory<'_> {
         bytes.map_or(0, Request::places_in).min(sizes::NUMBERS)
     }
 
-    // The answer of commit, send, refresh or move.
+    // The answer of commit, send, refresh, move or retire.
     fn done(&mut self, answer: sys::Answer) -> Result<u32, Refusal> {
         *self.control = answer.control;
         counted(&answer)

@@ -157,10 +157,10 @@ fn a_refused_setup_leaves_a_live_library_alone() {
 fn memory_is_shown_by_its_lengths() {
     let mut library = fresh();
     let shown = format!("{:?}", library.memory());
-    assert!(shown.starts_with("Memory { library: 51200 bytes, log: 40960 bytes, sessions: 1280 bytes, control: Control { studios: 2,"));
+    assert!(shown.starts_with("Memory { library: 61440 bytes, log: 40960 bytes, sessions: 1280 bytes, control: Control { studios: 2,"));
     assert!(shown.len() < 400, "{shown}");
-    assert!(format!("{library:?}").starts_with("Library { library: 51200 bytes"));
-    assert!(format!("{:?}", library.into_parts()).starts_with("Parts { library: 51200 bytes"));
+    assert!(format!("{library:?}").starts_with("Library { library: 61440 bytes"));
+    assert!(format!("{:?}", library.into_parts()).starts_with("Parts { library: 61440 bytes"));
 }
 
 #[test]
@@ -183,11 +183,15 @@ fn each_word_of_control_passes_the_boundary() {
         commits: word(),
         sent: std::array::from_fn(|_| word()),
         applied: std::array::from_fn(|_| word()),
+        retired: word(),
+        oldest: word(),
+        free_first: word(),
+        free_last: word(),
     };
     let mut control = passed;
     let mut memory = Memory { library: &mut [], log: &mut [], sessions: &mut [], control: &mut control };
     assert_eq!(memory.commit(1, &[new(1)]), Err(Refusal::Lengths));
     assert_eq!(memory.read(1, &Request::cart(1)), Err(Refusal::Lengths));
     assert_eq!(control, passed);
-    assert_eq!(std::mem::size_of::<Control>(), 108);
+    assert_eq!(std::mem::size_of::<Control>(), 124);
 }

@@ -35,6 +35,7 @@ fn version_and_sizes() {
         ("SULYOBAK_OPERATIONS", sizes::OPERATIONS),
         ("SULYOBAK_NUMBERS", sizes::NUMBERS),
         ("SULYOBAK_RECORDS", sizes::RECORDS),
+        ("SULYOBAK_COMMITS", sizes::COMMITS),
         ("SULYOBAK_WINDOW", sizes::WINDOW),
     ];
     for (name, value) in pairs {
@@ -44,7 +45,7 @@ fn version_and_sizes() {
 
 #[test]
 fn sentences() {
-    for number in 1..=19 {
+    for number in 1..=21 {
         let sentence = Refusal::from_number(number).sentence();
         assert!(HELPERS.contains(&format!("return \"{sentence}\";")), "{number}: {sentence}");
     }

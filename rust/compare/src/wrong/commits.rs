@@ -5,7 +5,7 @@ use super::mistake::{clear_waiting, session_unit};
 use crate::call::Call;
 use crate::left::set_number;
 use crate::lent::Lent;
-use crate::log::transaction;
+use crate::log::{self, NEXT_TRANSACTION, transaction};
 use crate::rows;
 use crate::single;
 use simulator::{Answer, Control, DONE};
@@ -63,11 +63,16 @@ fn first_acts(_: &mut Notes, call: &Call, control: Control, lent: &mut Lent) -> 
     answer
 }
 
+/// The records of the transaction before one that was committed, if that is in the log.
+fn previous(call: &Call, answer: &Answer, lent: &Lent) -> Option<Vec<usize>> {
+    let number = answer.value.checked_sub(1).filter(|number| committed(call, answer) && *number > answer.control.retired)?;
+    Some(transaction(&answer.control, lent, number).0)
+}
+
 fn no_previous_link(_: &mut Notes, call: &Call, control: Control, lent: &mut Lent) -> Answer {
     let answer = right(call, control, lent);
-    if committed(call, &answer) && answer.value > 1 {
-        let (first, _) = transaction(lent, answer.value - 1);
-        lent.log.lent_mut()[80 * first + 14..80 * first + 16].fill(0);
+    if let Some(records) = previous(call, &answer, lent) {
+        log::put_link(lent.log.lent_mut(), records[0], NEXT_TRANSACTION, None);
     }
     answer
 }
@@ -75,7 +80,7 @@ fn no_previous_link(_: &mut Notes, call: &Call, control: Control, lent: &mut Len
 fn operation_link_off(_: &mut Notes, call: &Call, control: Control, lent: &mut Lent) -> Answer {
     let answer = right(call, control, lent);
     if committed(call, &answer) && call.input().len() > 80 {
-        let first = 80 * control.used as usize;
+        let first = 80 * (control.free_first as usize - 1);
         lent.log.lent_mut()[first + 12] = lent.log.byte(first + 12).wrapping_add(1);
     }
     answer
@@ -83,9 +88,8 @@ fn operation_link_off(_: &mut Notes, call: &Call, control: Control, lent: &mut L
 
 fn transaction_link_off(_: &mut Notes, call: &Call, control: Control, lent: &mut Lent) -> Answer {
     let answer = right(call, control, lent);
-    if committed(call, &answer) && answer.value > 1 {
-        let (first, _) = transaction(lent, answer.value - 1);
-        let at = 80 * first + 14;
+    if let Some(records) = previous(call, &answer, lent) {
+        let at = 80 * records[0] + 14;
         lent.log.lent_mut()[at] = lent.log.byte(at).wrapping_sub(1);
     }
     answer
@@ -93,12 +97,9 @@ fn transaction_link_off(_: &mut Notes, call: &Call, control: Control, lent: &mut
 
 fn link_in_later_records(_: &mut Notes, call: &Call, control: Control, lent: &mut Lent) -> Answer {
     let answer = right(call, control, lent);
-    if committed(call, &answer) && answer.value > 1 {
-        let (first, operations) = transaction(lent, answer.value - 1);
-        let link = [lent.log.byte(80 * first + 14), lent.log.byte(80 * first + 15)];
-        for r in first + 1..first + operations.len() {
-            lent.log.lent_mut()[80 * r + 14..80 * r + 16].copy_from_slice(&link);
-        }
+    if let Some(records) = previous(call, &answer, lent) {
+        let next = log::named(log::link(lent.log.lent(), records[0], NEXT_TRANSACTION));
+        records[1..].iter().for_each(|record| log::put_link(lent.log.lent_mut(), *record, NEXT_TRANSACTION, next));
     }
     answer
 }
@@ -152,7 +153,7 @@ fn rows_5_6(_: &mut Notes, call: &Call, control: Control, lent: &mut Lent) -> An
 
 fn rows_6_7(_: &mut Notes, call: &Call, control: Control, lent: &mut Lent) -> Answer {
     let answer = right(call, control, lent);
-    if is_refused(&answer, 6) && control.used as usize + call.input().len() / 80 > 512 {
+    if is_refused(&answer, 6) && rows::holding(call, &control, lent).contains(&7) {
         return refused(7, control);
     }
     answer

@@ -4,7 +4,7 @@ use super::mistake::{Mistake, Notes, clear_waiting, copy_of, is_refused, mistake
 use crate::call::Call;
 use crate::left::set_number;
 use crate::lent::Lent;
-use crate::log;
+use crate::made::Log;
 use crate::rows;
 use crate::single;
 use simulator::{ANSWERED, Answer, Control};
@@ -259,7 +259,7 @@ fn one_commit_more(_: &mut Notes, call: &Call, control: Control, lent: &mut Lent
 
 fn from_log(_: &mut Notes, call: &Call, control: Control, lent: &mut Lent) -> Answer {
     changed_by_head_end(call, control, lent, |forward, control, lent, answer| {
-        show(single::read(&log::copy_made(lent, control.used), forward.request), lent, answer);
+        show(single::read(&Log::new(control, lent).library(control.commits), forward.request), lent, answer);
     })
 }
 

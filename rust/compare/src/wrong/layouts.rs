@@ -2,9 +2,11 @@
 //! right in a refused call's memory and playing it again.
 
 use super::mistake::{Mistake, Notes, copy_of, is_refused, mistake, refused, right};
+use crate::asides;
 use crate::call::Call;
 use crate::lent::Lent;
-use crate::single;
+use crate::log::{self, NEXT_TRANSACTION};
+use crate::made::{Log, SIXTH};
 use simulator::{Answer, COPY, Control, REFUSED};
 
 pub const MISTAKES: &[Mistake] = &[
@@ -15,7 +17,6 @@ pub const MISTAKES: &[Mistake] = &[
     mistake("layout: bytes after a title are left out", no_bytes_after_title),
     mistake("layout: title byte 127 is let through", title_byte_127),
     mistake("layout: audio 0 is let through", audio_0),
-    mistake("layout: unused records are left out", no_unused_records),
     mistake("layout: bytes 14–15 of later records are left out", no_later_links),
     mistake("layout: an unused session is left out", no_unused_sessions),
     mistake("layout: bytes 4–15 of a session are left out", no_session_zeros),
@@ -30,7 +31,7 @@ pub const MISTAKES: &[Mistake] = &[
 ];
 
 /// Plays the call; if it is refused 2, plays it again on what `mend` makes.
-fn lax(call: &Call, control: Control, lent: &mut Lent, mend: fn(&mut Lent, &mut Control)) -> Answer {
+pub fn lax(call: &Call, control: Control, lent: &mut Lent, mend: fn(&mut Lent, &mut Control)) -> Answer {
     let answer = right(call, control, lent);
     if !is_refused(&answer, 2) {
         return answer;
@@ -66,7 +67,7 @@ fn no_last_copy(_: &mut Notes, call: &Call, control: Control, lent: &mut Lent) -
 fn no_copies_above(_: &mut Notes, call: &Call, control: Control, lent: &mut Lent) -> Answer {
     lax(call, control, lent, |lent, control| {
         let first = COPY * (control.studios.min(4) as usize + 1);
-        lent.library.lent_mut()[first..].fill(0);
+        lent.library.lent_mut()[first..COPY * SIXTH].fill(0);
     })
 }
 
@@ -105,20 +106,11 @@ fn audio_0(_: &mut Notes, call: &Call, control: Control, lent: &mut Lent) -> Ans
     })
 }
 
-fn no_unused_records(_: &mut Notes, call: &Call, control: Control, lent: &mut Lent) -> Answer {
-    lax(call, control, lent, |lent, control| {
-        let used = 80 * (control.used as usize).min(512);
-        lent.log.lent_mut()[used..].fill(0);
-    })
-}
-
 fn no_later_links(_: &mut Notes, call: &Call, control: Control, lent: &mut Lent) -> Answer {
-    lax(call, control, lent, |lent, _| {
+    lax(call, control, lent, |lent, control| {
         let log = lent.log.lent_mut();
-        for r in 1..512 {
-            if log[80 * (r - 1) + 12..80 * (r - 1) + 14] != [0, 0] {
-                log[80 * r + 14..80 * r + 16].fill(0);
-            }
+        for records in log::transactions(log, control) {
+            records[1..].iter().for_each(|record| log::put_link(log, *record, NEXT_TRANSACTION, None));
         }
     })
 }
@@ -176,11 +168,9 @@ fn no_counts_above(_: &mut Notes, call: &Call, control: Control, lent: &mut Lent
 
 fn low_words(_: &mut Notes, call: &Call, control: Control, lent: &mut Lent) -> Answer {
     lax(call, control, lent, |_, control| {
-        control.studios &= 0xFFFF;
-        control.used &= 0xFFFF;
-        control.commits &= 0xFFFF;
-        let lists = [&mut control.session_studios[..], &mut control.sent, &mut control.applied];
-        lists.into_iter().flatten().for_each(|word| *word &= 0xFFFF);
+        for at in 0..asides::WORDS {
+            *asides::word(control, at) &= 0xFFFF;
+        }
     })
 }
 
@@ -192,15 +182,9 @@ fn no_session_studio(_: &mut Notes, call: &Call, control: Control, lent: &mut Le
 }
 
 fn head_end_replayed(_: &mut Notes, call: &Call, control: Control, lent: &mut Lent) -> Answer {
-    let mut made = vec![0; COPY];
-    if lent.right_lengths() && control.used <= 512 {
-        for unit in lent.log.lent().chunks_exact(80).take(control.used as usize) {
-            single::act(&mut made, unit);
-        }
-        let setup = matches!(call, Call::Setup { .. });
-        if !setup && copy_of(lent, 0) != made {
-            return refused(2, control);
-        }
+    let is_tested = lent.right_lengths() && !matches!(call, Call::Setup { .. });
+    if is_tested && Log::new(&control, lent).library(control.commits) != copy_of(lent, 0) {
+        return refused(2, control);
     }
     right(call, control, lent)
 }

@@ -43,7 +43,11 @@ pub const MISTAKES: &[Mistake] = &[
     mistake("load: row 19 before row 1", row_19_before_1),
     mistake("load: row 19 before row 2", row_19_before_2),
     mistake("load: a cart above S is refused with 19", above_s),
+    restart_mistake("load: copies are worked out from an empty library", from_empty),
+    mistake("load: a studio that has applied what is retired and no more is not compared", no_retired_studio),
+    restart_mistake("load: refused where something is retired", retired_refused),
     restart_mistake("load returns the records used", returns_used),
+    restart_mistake("load returns the transactions in the log", returns_logged),
     restart_mistake("load returns 0", returns_0),
     restart_mistake("load returns what studio 1 has applied", returns_applied),
     mistake("load refused with 19 hands back an empty control", empty_control),
@@ -267,6 +271,28 @@ fn spaced_refused(_: &mut Notes, call: &Call, control: Control, lent: &mut Lent)
     judged(call, control, lent, |control, lent| !lent.log.lent().chunks_exact(UNIT).any(rows::title_spaced) && is_whole(control, lent))
 }
 
+fn from_empty(_: &mut Notes, call: &Call, control: Control, lent: &mut Lent) -> Answer {
+    judged(call, control, lent, |control, lent| {
+        let mut emptied = lent.clone();
+        emptied.library.lent_mut()[COPY * made::SIXTH..].fill(0);
+        is_whole(control, &emptied)
+    })
+}
+
+fn no_retired_studio(_: &mut Notes, call: &Call, control: Control, lent: &mut Lent) -> Answer {
+    judged(call, control, lent, |control, lent| {
+        held_to(control, lent, |copy, control| taken(copy, control).filter(|n| copy == 0 || control.retired == 0 || *n > control.retired))
+    })
+}
+
+fn retired_refused(_: &mut Notes, call: &Call, control: Control, lent: &mut Lent) -> Answer {
+    judged(call, control, lent, |control, lent| control.retired == 0 && is_whole(control, lent))
+}
+
+fn returns_logged(_: &mut Notes, call: &Call, control: Control, lent: &mut Lent) -> Answer {
+    changed(call, control, lent, |control, _, answer| answer.value = control.commits - control.retired)
+}
+
 /// Where this row stops a load and row 19 holds too, 19 in its place.
 fn row_19_before(row: u32, call: &Call, control: Control, lent: &mut Lent) -> Answer {
     let answer = right(call, control, lent);
@@ -285,7 +311,8 @@ fn row_19_before_2(_: &mut Notes, call: &Call, control: Control, lent: &mut Lent
 fn above_s(_: &mut Notes, call: &Call, control: Control, lent: &mut Lent) -> Answer {
     let answer = right(call, control, lent);
     let above = COPY * (control.studios.min(4) as usize + 1);
-    let is_above = matches!(call, Call::Load) && is_refused(&answer, 2) && lent.library.lent()[above..].iter().any(|byte| *byte != 0);
+    let copies = above..COPY * made::SIXTH;
+    let is_above = matches!(call, Call::Load) && is_refused(&answer, 2) && lent.library.lent()[copies].iter().any(|byte| *byte != 0);
     if is_above { refused(19, control) } else { answer }
 }
 

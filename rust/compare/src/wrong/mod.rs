@@ -2,6 +2,7 @@
 //! worth something only if it catches every one of them.
 
 mod bounds;
+mod chains;
 mod commits;
 mod forwards;
 mod layouts;
@@ -12,6 +13,8 @@ mod previews;
 mod raises;
 mod reads;
 mod receives;
+mod records;
+mod retires;
 mod searches;
 mod setups;
 mod spaces;
@@ -40,7 +43,10 @@ pub fn all() -> Vec<Mistake> {
         moves::MISTAKES,
         raises::MISTAKES,
         loads::MISTAKES,
+        retires::MISTAKES,
+        records::MISTAKES,
         layouts::MISTAKES,
+        chains::MISTAKES,
         setups::MISTAKES,
         bounds::MISTAKES,
         searches::MISTAKES,

@@ -2,8 +2,10 @@
 
 use super::mistake::{Mistake, Notes, is_refused, mistake, right};
 use crate::call::Call;
-use crate::lent::Lent;
-use simulator::{Answer, Control, DONE};
+use crate::lent::{Lent, Part};
+use crate::log;
+use crate::made::SIXTH;
+use simulator::{Answer, COPY, Control, DONE, RECORDS};
 
 pub const MISTAKES: &[Mistake] = &[
     mistake("setup lets a studio byte above S pass", byte_above),
@@ -12,6 +14,10 @@ pub const MISTAKES: &[Mistake] = &[
     mistake("refused setup hands back the studio bytes", hands_back_bytes),
     mistake("refused setup clears the memory", refused_clears),
     mistake("setup leaves the log", leaves_log),
+    mistake("setup leaves the log's records unlinked", unlinked),
+    mistake("setup leaves the sixth copy", leaves_sixth),
+    mistake("setup's free chain begins at record 512", from_512),
+    mistake("refused setup hands back a free chain", hands_back_chain),
     mistake("setup answers with S", answers_s),
     mistake("setup: row 15 before row 1", row_15_first),
     mistake("lengths: a longer library is let through", longer_library),
@@ -81,6 +87,41 @@ fn leaves_log(_: &mut Notes, call: &Call, control: Control, lent: &mut Lent) -> 
     let answer = right(call, control, lent);
     if matches!(call, Call::Setup { .. }) {
         lent.log.copy_from(&before);
+    }
+    answer
+}
+
+/// Plays the call; after an accepted setup `change` makes the mistake. `before` is the library that it was lent.
+fn changed(call: &Call, control: Control, lent: &mut Lent, change: fn(before: &Part, &mut Lent, &mut Answer)) -> Answer {
+    let before = lent.library.clone();
+    let mut answer = right(call, control, lent);
+    if matches!(call, Call::Setup { .. }) && answer.kind == DONE {
+        change(&before, lent, &mut answer);
+    }
+    answer
+}
+
+fn unlinked(_: &mut Notes, call: &Call, control: Control, lent: &mut Lent) -> Answer {
+    changed(call, control, lent, |_, lent, _| lent.log.lent_mut().fill(0))
+}
+
+fn leaves_sixth(_: &mut Notes, call: &Call, control: Control, lent: &mut Lent) -> Answer {
+    changed(call, control, lent, |before, lent, _| {
+        lent.library.lent_mut()[COPY * SIXTH..].copy_from_slice(&before.lent()[COPY * SIXTH..]);
+    })
+}
+
+fn from_512(_: &mut Notes, call: &Call, control: Control, lent: &mut Lent) -> Answer {
+    changed(call, control, lent, |_, lent, answer| {
+        let free: Vec<usize> = (0..RECORDS).rev().collect();
+        log::put_chains(lent.log.lent_mut(), &mut answer.control, &[], &free);
+    })
+}
+
+fn hands_back_chain(_: &mut Notes, call: &Call, control: Control, lent: &mut Lent) -> Answer {
+    let mut answer = right(call, control, lent);
+    if matches!(call, Call::Setup { .. }) {
+        (answer.control.free_first, answer.control.free_last) = (1, 512);
     }
     answer
 }

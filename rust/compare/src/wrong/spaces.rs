@@ -63,9 +63,10 @@ fn let_through(call: &Call, control: Control, lent: &mut Lent) -> Answer {
         (unit[16], unit[last]) = (b'x', b'x');
     });
     let mut head_end = copy_of(lent, 0).to_vec();
+    let taken = log::free(lent.log.lent(), &control);
     let answer = with_operations(call, control, lent, &lettered);
     if matches!(call, Call::Commit { .. }) && answer.kind == DONE {
-        for (at, unit) in (control.used as usize..).zip(call.input().chunks_exact(80)) {
+        for (at, unit) in taken.into_iter().zip(call.input().chunks_exact(80)) {
             single::act(&mut head_end, unit);
             lent.log.lent_mut()[80 * at + 16..80 * (at + 1)].copy_from_slice(&unit[16..]);
         }
@@ -195,7 +196,7 @@ fn rows_6_16_in_turn(_: &mut Notes, call: &Call, control: Control, lent: &mut Le
 
 fn rows_16_7(_: &mut Notes, call: &Call, control: Control, lent: &mut Lent) -> Answer {
     let answer = right(call, control, lent);
-    match is_refused(&answer, 16) && control.used as usize + call.input().len() / 80 > 512 {
+    match is_refused(&answer, 16) && rows::holding(call, &control, lent).contains(&7) {
         true => refused(7, control),
         false => answer,
     }
@@ -248,7 +249,7 @@ fn record_passed_over(_: &mut Notes, call: &Call, control: Control, lent: &mut L
     if let Call::Refresh { studio } = call
         && answer.kind == DONE
     {
-        let (_, operations) = log::transaction(lent, answer.value);
+        let (_, operations) = log::transaction(&answer.control, lent, answer.value);
         lent.library.copy_from(&before);
         let copy = copy_of(lent, *studio);
         operations.iter().filter(|unit| !title_spaced(unit)).for_each(|unit| single::act(copy, unit));

@@ -42,10 +42,10 @@ fn remade(call: &Call, control: Control, lent: &mut Lent, remake: fn(&mut [u8], 
     let before = lent.library.clone();
     let answer = right(call, control, lent);
     if let Some(studio) = refreshed(call, &answer) {
-        let (_, operations) = transaction(lent, answer.value);
-        let earlier = match answer.value {
-            1 => Vec::new(),
-            number => transaction(lent, number - 1).1,
+        let (_, operations) = transaction(&control, lent, answer.value);
+        let earlier = match answer.value - 1 {
+            number if number > control.retired => transaction(&control, lent, number).1,
+            _ => Vec::new(),
         };
         lent.library.copy_from(&before);
         remake(copy_of(lent, studio), &operations, &earlier);
@@ -88,7 +88,7 @@ fn refresh_plays_next(_: &mut Notes, call: &Call, control: Control, lent: &mut L
     if let Some(studio) = refreshed(call, &answer)
         && answer.value < control.commits
     {
-        let (_, operations) = transaction(lent, answer.value + 1);
+        let (_, operations) = transaction(&control, lent, answer.value + 1);
         lent.library.copy_from(&before);
         play_on(copy_of(lent, studio), &operations);
     }
@@ -99,7 +99,7 @@ fn refresh_on_first_studio(_: &mut Notes, call: &Call, control: Control, lent: &
     let before = lent.library.clone();
     let answer = right(call, control, lent);
     if refreshed(call, &answer).is_some() {
-        let (_, operations) = transaction(lent, answer.value);
+        let (_, operations) = transaction(&control, lent, answer.value);
         lent.library.copy_from(&before);
         play_on(copy_of(lent, 1), &operations);
     }

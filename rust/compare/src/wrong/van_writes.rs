@@ -33,6 +33,11 @@ pub const MISTAKES: &[Mistake] = &[
     mistake("van_write: the transaction counts as sent", counts_as_sent),
     mistake("van_write: row 17 before row 1", row_17_before_1),
     mistake("van_write: row 17 before row 2", row_17_before_2),
+    mistake("van_write: row 17 before row 21", row_17_before_21),
+    mistake("van_write: 17 for a retired number", retired_17),
+    mistake("van_write: 17 for a retired number but the last", earlier_17),
+    mistake("van_write: 21 for number 0", number_0_21),
+    mistake("van_write: 21 for the oldest transaction of the log", oldest_21),
 ];
 
 /// A message that was written: its number, and the output before it.
@@ -75,30 +80,30 @@ fn numbered(call: &Call, control: Control, lent: &mut Lent, other: fn(u32) -> u3
 }
 
 /// Puts these bytes of each record into the message.
-fn leave(bytes: Range<usize>, message: &Message, lent: &mut Lent) {
-    let records = log::records(lent.log.lent(), message.number).expect("the log is of the layout");
-    for (place, record) in records.enumerate() {
+fn leave(bytes: Range<usize>, message: &Message, control: &Control, lent: &mut Lent) {
+    let (records, _) = log::transaction(control, lent, message.number);
+    for (place, record) in records.into_iter().enumerate() {
         let left = &lent.log.lent()[UNIT * record..][bytes.clone()];
         lent.output.lent_mut()[HEAD + UNIT * place..][bytes.clone()].copy_from_slice(left);
     }
 }
 
 fn links_left(_: &mut Notes, call: &Call, control: Control, lent: &mut Lent) -> Answer {
-    changed(call, control, lent, |message, _, lent, _| leave(12..16, message, lent))
+    changed(call, control, lent, |message, control, lent, _| leave(12..16, message, control, lent))
 }
 
 fn next_operation_left(_: &mut Notes, call: &Call, control: Control, lent: &mut Lent) -> Answer {
-    changed(call, control, lent, |message, _, lent, _| leave(12..14, message, lent))
+    changed(call, control, lent, |message, control, lent, _| leave(12..14, message, control, lent))
 }
 
 fn next_transaction_left(_: &mut Notes, call: &Call, control: Control, lent: &mut Lent) -> Answer {
-    changed(call, control, lent, |message, _, lent, _| leave(14..16, message, lent))
+    changed(call, control, lent, |message, control, lent, _| leave(14..16, message, control, lent))
 }
 
 fn links_cleared(_: &mut Notes, call: &Call, control: Control, lent: &mut Lent) -> Answer {
-    changed(call, control, lent, |message, _, lent, _| {
-        let records = log::records(lent.log.lent(), message.number).expect("the log is of the layout");
-        records.for_each(|record| lent.log.lent_mut()[UNIT * record..][12..16].fill(0));
+    changed(call, control, lent, |message, control, lent, _| {
+        let (records, _) = log::transaction(control, lent, message.number);
+        records.into_iter().for_each(|record| lent.log.lent_mut()[UNIT * record..][12..16].fill(0));
     })
 }
 
@@ -134,8 +139,8 @@ fn applied_only(_: &mut Notes, call: &Call, control: Control, lent: &mut Lent) -
 }
 
 fn spaced_refused(_: &mut Notes, call: &Call, control: Control, lent: &mut Lent) -> Answer {
-    refusing(call, control, lent, |number, _, lent| {
-        let operations = message::operations_in_log(lent, number).unwrap_or_default();
+    refusing(call, control, lent, |number, control, lent| {
+        let operations = message::operations_in_log(control, lent, number).unwrap_or_default();
         operations.chunks_exact(UNIT).any(rows::title_spaced)
     })
 }
@@ -167,7 +172,7 @@ fn write_what_fits(call: &Call, control: &Control, lent: &mut Lent, answer: &Ans
     if !is_refused(answer, 17) || !(1..=control.commits).contains(number) {
         return None;
     }
-    let message = message::of(*number, &message::operations_in_log(lent, *number)?);
+    let message = message::of(*number, &message::operations_in_log(control, lent, *number)?);
     if !short.contains(&(message.len() - output)) {
         return None;
     }
@@ -219,4 +224,42 @@ fn row_17_before_1(_: &mut Notes, call: &Call, control: Control, lent: &mut Lent
 
 fn row_17_before_2(_: &mut Notes, call: &Call, control: Control, lent: &mut Lent) -> Answer {
     row_17_before(2, call, control, lent)
+}
+
+fn row_17_before_21(_: &mut Notes, call: &Call, control: Control, lent: &mut Lent) -> Answer {
+    row_17_before(21, call, control, lent)
+}
+
+/// Plays the call; 17 in the place of 21 where `holds` says so of the number.
+fn in_place_of_21(call: &Call, control: Control, lent: &mut Lent, holds: fn(u32, &Control) -> bool) -> Answer {
+    let answer = right(call, control, lent);
+    match call {
+        Call::VanWrite { number, .. } if is_refused(&answer, 21) && holds(*number, &control) => refused(17, control),
+        _ => answer,
+    }
+}
+
+fn retired_17(_: &mut Notes, call: &Call, control: Control, lent: &mut Lent) -> Answer {
+    in_place_of_21(call, control, lent, |_, _| true)
+}
+
+fn earlier_17(_: &mut Notes, call: &Call, control: Control, lent: &mut Lent) -> Answer {
+    in_place_of_21(call, control, lent, |number, control| number < control.retired)
+}
+
+fn number_0_21(_: &mut Notes, call: &Call, control: Control, lent: &mut Lent) -> Answer {
+    let answer = right(call, control, lent);
+    match matches!(call, Call::VanWrite { number: 0, .. }) && is_refused(&answer, 17) && control.retired > 0 {
+        true => refused(21, control),
+        false => answer,
+    }
+}
+
+fn oldest_21(_: &mut Notes, call: &Call, control: Control, lent: &mut Lent) -> Answer {
+    let answer = refusing(call, control, lent, |number, control, _| number == control.retired + 1);
+    let is_oldest = matches!(call, Call::VanWrite { number, .. } if Some(*number) == control.retired.checked_add(1));
+    match is_oldest && is_refused(&answer, 17) {
+        true => refused(21, control),
+        false => answer,
+    }
 }

@@ -18,7 +18,7 @@ fn left(before: Library, session: u32, refusal: Refusal) -> Library {
     let mut parts = before.into_parts();
     if refusal == Refusal::WrongState {
         let number = sizes::CART * (session as usize - 1) + 2;
-        let commits = u16::try_from(parts.control.commits).expect("at most 512 commits");
+        let commits = u16::try_from(parts.control.commits).expect("at most 65,535 commits");
         parts.sessions[number..number + 2].copy_from_slice(&commits.to_le_bytes());
     }
     Library::from_parts(parts).expect("memory of the layout")
