@@ -62,7 +62,7 @@ impl Bars {
                 (Kind::Load, Bar::new("load / layout test, full memory", 3.0).only_on(FULL)),
                 (Kind::Retire, Bar::new("retire / layout test", 1.3)),
             ],
-            setup: Bar::new("setup / memset of 103,680 bytes", 1.5),
+            setup: Bar::new("setup / memset of 103,680 bytes and 512 links", 1.5),
             van_write: Bar::new("van_write / layout test, full memory", 1.4),
             van_receive: Bar::new("van_receive of 8 operations / form test of its copy", 1.5),
         }

@@ -1,6 +1,7 @@
 //! The layout test of documents 01 and 02 as fast as we could write it by hand for baseline x86-64 (SSE2): the floor
-//! that the engine is held to. It reads every byte once, the links of the log's records twice, and has no branch on a
-//! byte: each test leaves bits that are zero where it holds, and these are joined.
+//! that the engine is held to. It reads every byte once and has no branch on a byte but on the log's links: each test
+//! leaves bits that are zero where it holds, and these are joined. The log's records are read in the order of their
+//! chains, so that the wait for the next link falls into the form test of the records before.
 //!
 //! A title's field of n letters is tested by two instructions for 16 bytes: a letter b is right if b − 32 ≤ 94, a byte
 //! after the title if b − 0 ≤ 0, both without a sign. The numbers to subtract and to stay below are loaded from tables at
@@ -113,87 +114,57 @@ fn operation(unit: &Unit) -> (Lanes, bool) {
     (title(unit, n), ok)
 }
 
-/// What is wrong with a record's letters, and whether its other bytes are an operation's or, links apart, zero.
+/// The record of an index, if there is one that was not met before.
 #[inline(always)]
-fn record(unit: &Unit) -> (Lanes, bool) {
-    let (letters, is_operation) = operation(unit);
-    let is_free = (u64_at(unit, 0) == 0) & (u64_at(unit, 8) & !(0xffff << 32) == 0);
-    (letters, is_operation | is_free)
+fn meet<'a>(records: &'a [Unit], met: &mut [bool; RECORDS], index: u32) -> Option<&'a Unit> {
+    let place = index.wrapping_sub(1) as usize;
+    let is_new = !std::mem::replace(met.get_mut(place)?, true);
+    records.get(place).filter(|_| is_new)
 }
 
-/// A walk along the log's two chains, a record at a step, which meets each record once.
-struct Walk<'a> {
-    records: &'a [Unit],
-    met: [bool; RECORDS],
-    next: u32, // the record that is met next, from 1
-    last: u32, // the one met before it
-    ok: bool,
-}
-
-impl Walk<'_> {
-    /// Meets the next record, which holds an operation or does not: its links, to the next operation or free record and to the next
-    /// transaction.
-    #[inline(always)]
-    fn meet(&mut self, holds: bool) -> (u32, u32) {
-        let place = self.next.wrapping_sub(1);
-        self.ok &= place < RECORDS as u32;
-        let place = place.min(RECORDS as u32 - 1) as usize;
-        let unit = &self.records[place];
-        self.ok &= !self.met[place] & ((unit[0] != 0) == holds);
-        self.met[place] = true;
-        self.last = self.next;
-        (u16_at(unit, 12), u16_at(unit, 14))
+/// The log's chain has the records in use, in the transactions that are not retired; they are met.
+#[inline(always)]
+fn transactions(records: &[Unit], met: &mut [bool; RECORDS], control: &Control) -> bool {
+    let (mut bits, mut ok) = (Lanes::zero(), true);
+    let (mut first, mut count, mut used) = (control.oldest, 0, 0);
+    while first != 0 {
+        let (mut next, mut length) = (first, 0);
+        let mut claimed = 0;
+        while next != 0 {
+            let Some(unit) = meet(records, met, next) else { return false };
+            let (letters, is_right) = operation(unit);
+            bits = bits | letters;
+            let next_transaction = u16_at(unit, 14);
+            ok &= is_right & ((length == 0) | (next_transaction == 0));
+            claimed |= next_transaction;
+            next = u16_at(unit, 12);
+            length += 1;
+        }
+        ok &= length <= TRANSACTION_OPERATIONS;
+        (count, used, first) = (count + 1, used + length, claimed);
     }
+    ok & bits.is_zero() & (count == control.commits.wrapping_sub(control.retired)) & (used == control.used as usize)
 }
 
-/// The log's chain as far as it was walked.
-struct Transactions {
-    is_first: bool, // whether the next record is a transaction's first
-    length: u32,    // of the transaction so far
-    claimed: u32,   // the next transaction's first record, by the latest first record
-    firsts: u32,
-}
-
-impl Transactions {
-    #[inline(always)]
-    fn step(&mut self, walk: &mut Walk<'_>) {
-        let (next, next_transaction) = walk.meet(true);
-        walk.ok &= self.is_first | (next_transaction == 0);
-        self.claimed = if self.is_first { next_transaction } else { self.claimed };
-        self.length = if self.is_first { 1 } else { self.length + 1 };
-        self.firsts += u32::from(self.is_first);
-        walk.ok &= self.length <= TRANSACTION_OPERATIONS as u32;
-        self.is_first = next == 0;
-        walk.next = if self.is_first { self.claimed } else { next };
+/// The free chain has the other records, zero but for their links; they are met.
+#[inline(always)]
+fn free(records: &[Unit], met: &mut [bool; RECORDS], control: &Control) -> bool {
+    let (mut bits, mut ok) = (Lanes::zero(), true);
+    let (mut next, mut last, mut count) = (control.free_first, 0, 0);
+    while next != 0 {
+        let Some(unit) = meet(records, met, next) else { return false };
+        let zeros = |at| Lanes::load(unit, at);
+        bits = bits | (zeros(16) | zeros(32)) | (zeros(48) | zeros(64));
+        ok &= u64_at(unit, 0) | (u64_at(unit, 8) & !(0xffff << 32)) == 0;
+        (count, last, next) = (count + 1, next, u16_at(unit, 12));
     }
+    ok & bits.is_zero() & (count + control.used as usize == RECORDS) & (last == control.free_last)
 }
 
-/// The forms of the records are tested in their order and the chains walked in theirs, a record of each at a time: so the wait for the next
-/// link falls into the form test.
 #[inline(always)]
 fn log(bytes: &[u8], control: &Control) -> bool {
-    let records = bytes.as_chunks::<UNIT>().0;
-    let used = control.used.min(RECORDS as u32) as usize;
-    let (mut bits, mut ok) = (Lanes::zero(), control.used <= RECORDS as u32);
-    let mut form = |unit: &Unit| {
-        let (letters, is_right) = record(unit);
-        bits = bits | letters;
-        ok &= is_right;
-    };
-    let mut walk = Walk { records, met: [false; RECORDS], next: control.oldest, last: 0, ok: true };
-    let mut transactions = Transactions { is_first: true, length: 0, claimed: 0, firsts: 0 };
-    for unit in &records[..used] {
-        form(unit);
-        transactions.step(&mut walk);
-    }
-    let counted = transactions.firsts == control.commits.wrapping_sub(control.retired);
-    let log_ends = transactions.is_first & (walk.next == 0);
-    (walk.next, walk.last) = (control.free_first, 0);
-    for unit in &records[used..] {
-        form(unit);
-        walk.next = walk.meet(false).0;
-    }
-    ok & bits.is_zero() & walk.ok & counted & log_ends & (walk.next == 0) & (walk.last == control.free_last)
+    let (records, mut met) = (bytes.as_chunks().0, [false; RECORDS]);
+    transactions(records, &mut met, control) && free(records, &mut met, control)
 }
 
 #[inline(always)]

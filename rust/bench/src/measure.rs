@@ -7,7 +7,7 @@ use crate::states::State;
 use crate::undo::Undo;
 use crate::wall::Wall;
 use crate::{agree, floor};
-use simulator::Control;
+use simulator::{Control, RECORDS, UNIT};
 use std::cell::RefCell;
 use std::hint::black_box;
 use std::rc::Rc;
@@ -129,7 +129,7 @@ impl Measured {
     }
 }
 
-/// Setup, and clearing the same memory by memset. Nothing is put back.
+/// Setup, and clearing the same memory by memset and linking the log's records. Nothing is put back.
 pub fn setup(race: &mut Race, wall: &Wall) -> (Both, Entry) {
     let shared = share(wall);
     let places = [1, 1, 2, 2, 3, 3, 4, 4, 0, 0, 0, 0, 0, 0, 0, 0];
@@ -144,6 +144,9 @@ pub fn setup(race: &mut Race, wall: &Wall) -> (Both, Entry) {
         library.fill(0);
         log.fill(0);
         sessions.fill(0);
+        for (next, record) in (2u16..).zip(log.as_chunks_mut::<UNIT>().0.iter_mut().take(RECORDS - 1)) {
+            record[12..14].copy_from_slice(&next.to_le_bytes());
+        }
     });
     (both, clear)
 }

@@ -45,7 +45,7 @@ pub fn setup(race: &Race, (setup, clear): &(Both, Entry), bars: &mut Bars) {
     let clear = race.best(*clear);
     let (engine, simulator) = (setup.engine.time(race), setup.simulator.time(race));
     let each = 1e9 / engine;
-    println!("\nSetup: engine {engine:.0} ({each:.0} calls/s), simulator {simulator:.0}, memset {clear:.0}");
+    println!("\nSetup: engine {engine:.0} ({each:.0} calls/s), simulator {simulator:.0}, memset and links {clear:.0}");
     bars.setup.see(engine / clear, "any memory".to_string());
 }
 

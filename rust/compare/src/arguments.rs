@@ -117,7 +117,10 @@ fn unsettle(random: &mut Random, maker: &Maker, operations: &mut Vec<u8>) {
         }
         8 => {
             spoil(random, &mut operations[unit..unit + 80]);
-            operations.extend(maker.any(random));
+            match random.percent(50) {
+                true => operations.push(0),
+                false => operations.resize(720, 0),
+            }
         }
         _ => {
             let again = operations[..80].to_vec();
@@ -171,8 +174,10 @@ fn request(random: &mut Random, maker: &Maker, taste: &Taste) -> (Vec<u8>, usize
     (request, output)
 }
 
+/// A collect; now and then of a session that has nothing waiting.
 fn collect(random: &mut Random, taste: &Taste, wall: &Wall) -> Call {
-    let session = session(random, taste, wall, true);
+    let waiting = !random.percent(5);
+    let session = session(random, taste, wall, waiting);
     let asked = match session {
         1..=16 => {
             let start = 80 * (session as usize - 1);
@@ -210,11 +215,11 @@ fn output_near(random: &mut Random, taste: &Taste, asked: usize) -> usize {
 
 /// A session: fitting ones are used, and wait or do not as asked if any does.
 fn session(random: &mut Random, taste: &Taste, wall: &Wall, waiting: bool) -> u32 {
-    if !random.percent(taste.fitting) {
-        let any = random.word();
-        return *random.pick(&[0, 1, 2, 3, 15, 16, 17, 18, 257, 65_537, u32::MAX, any]);
-    }
     let used = wall.used_sessions();
+    if !random.percent(taste.fitting) {
+        let (any, unused) = (random.word(), (1..=16).find(|session| !used.contains(session)).unwrap_or(0));
+        return *random.pick(&[0, 1, 2, 15, 16, 17, 18, 257, 65_537, u32::MAX, any, unused, unused]);
+    }
     let suited: Vec<u32> = used.iter().copied().filter(|session| wall.waiting(*session) == waiting).collect();
     match (suited.is_empty(), used.is_empty()) {
         (false, _) => *random.pick(&suited),

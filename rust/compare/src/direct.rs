@@ -75,7 +75,7 @@ fn retired(random: &mut Random, logged: u32) -> u32 {
     if logged == 0 && random.percent(30) {
         return last;
     }
-    *random.pick(&[0, 0, 0, 0, 0, 0, 1, 2, any, last - 9, last - 2, last - 1, last - 1, last])
+    *random.pick(&[0, 0, 0, 0, 0, 0, 1, 2, any, last - 9, last - 2, last - 1, last - 1, last, last])
 }
 
 /// The sixth copy is filled only where something is retired.

@@ -270,7 +270,8 @@ impl Guide<'_, '_> {
         for _ in 0..10 {
             self.steps(6, &taste([75, 5, 5, 5, 5, 5, 3, 5, 3, 2, 3], (1, 3), 95))?;
             if self.random.percent(50) {
-                self.steps(20, &taste([0, 45, 45, 0, 10, 0, 0, 0, 0, 2, 10], (1, 1), 100))?;
+                self.catch_up()?;
+                self.steps(4, &taste([0, 5, 5, 0, 40, 0, 0, 0, 0, 2, 20], (1, 1), 100))?;
             }
             self.restart_in(5)?;
             let mistaken = Taste { misfits: 70, ..taste([40, 5, 5, 30, 12, 8, 10, 5, 8, 3, 4], (1, 3), 97) };
