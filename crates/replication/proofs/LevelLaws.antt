@@ -1,13 +1,11 @@
 -- Load compares a studio's copy when as many transactions have acted as the studio has applied.
-use Prim.Native.Nat.{ℕ, _+_, _*_, _-_, _≤_}
-use mathlib.Core.Path.{_≡_, _∙_}
+use Prim.Native.Nat.{ℕ, _+_, _-_, _≤_}
+use mathlib.Core.Path.{_≡_, ap, _∙_}
 use mathlib.Core.Bool.{Bool, true}
 use mathlib.Core.List.{List}
 use native.Mathlib.Omega.{arith}
 use native.Mathlib.Decide.{ℕ-discrete}
-use native.Mathlib.Nat.{add-sub-cancel-left}
 use lib.Dec.{eqb}
-use lib.ListN.{take, drop}
 use borrow.Author.Tests.{eq-eqb, ne-eqb}
 use Rattle.carts.specs.Bytes.{every, pairwise}
 use Rattle.carts.proofs.TestLaws.{pairwise-eq, pairwise-refl}
@@ -23,9 +21,9 @@ module _ (library copy : List ℕ) (n applied i : ℕ) where
   unfolding isLevel
   level-other ne = rw (ne-eqb applied n ne)
 
-  pub level-here : applied ≡ n → (same : Bool) → same ≡ pairwise eqb (take (10240 * i + 10240 - 10240 * i) (drop (10240 * i) library)) copy → same ≡ isLevel library copy n applied i
-  unfolding isLevel copyAt
-  level-here e same q = rw (eq-eqb applied n e) (q ∙ rw (add-sub-cancel-left (10240 * i) 10240))
+  pub level-here : applied ≡ n → (same : Bool) (x : List ℕ) → same ≡ pairwise eqb x copy → x ≡ copyAt library i → same ≡ isLevel library copy n applied i
+  unfolding isLevel
+  level-here e same x q l = rw (eq-eqb applied n e) (q ∙ ap (λ (z : List ℕ). pairwise eqb z copy) l)
 
 -- all of them
 abbrev pub levelAt : Control → List ℕ → List ℕ → ℕ → ℕ → Bool

@@ -49,8 +49,8 @@ module _ (log : List ℕ) (left r : ℕ) (h : 0 < left) where
   unfolding wholeFrom
   whole-next c library n copy = ap (λ (k : ℕ). wholeFrom c library log k n r copy) one-more
 
-pub whole-end : (c : Control) (library log : List ℕ) (left n r : ℕ) (copy : List ℕ) → left ≤ 0 → wholeFrom c library log left n r copy ≡ pairwise eqb (take 10240 library) copy
-unfolding wholeFrom copyAt
+pub whole-end : (c : Control) (library log : List ℕ) (left n r : ℕ) (copy : List ℕ) → left ≤ 0 → wholeFrom c library log left n r copy ≡ pairwise eqb (copyAt library 0) copy
+unfolding wholeFrom
 whole-end c library log left n r copy h = let z : left ≡ 0 = omega arith in rw z
 
 module _ (c : Control) (library log : List ℕ) (size : length log ≡ 40960) where

@@ -19,13 +19,11 @@ use Rattle.carts.proofs.titles.Found.{the-type}
 use Rattle.carts.proofs.TestLaws.{all-at, by-cond, within-low, within-high, every-at}
 use Rattle.carts.proofs.TitleLaws.{found-length, found-one, found-other, not-one}
 use Rattle.replication.specs.Request.{Request, nothing, byNumbers, byTitle, numbersIn, requestOf, numbersForm, requestFields, needed, foundIn, shownFrom}
-use Rattle.replication.specs.Memory.{copyAt}
 use Rattle.replication.specs.Values.{waitingValue, sessionValue}
 use Rattle.replication.specs.declared.session.Session.{Session}
 use Rattle.replication.specs.declared.session.Waiting.{Waiting}
 use Rattle.replication.specs.declared.session.Waiting.the-variants.{Nothing, Numbers, Title}
 use Rattle.replication.proofs.session.Waiting as WaitingType
-use Rattle.replication.proofs.LayoutLaws.{lent}
 use Rattle.replication.proofs.RequestLaws.{u16-behind, numbers-next, length-u16s}
 
 -- two parts side by side
@@ -182,12 +180,10 @@ module _ (copy x out : List ℕ) where
     unfolding foundIn needed shownFrom
     shows-title n e f g = let k : 16 + n - 16 ≡ n = add-sub-cancel-left 16 n in rw e (rw k at f, rw k at g)
 
--- the case that the code makes of a request, and the studio's copy that it lends
+-- the case that the code makes of a request, and the copy that it is handed
 pub value-waiting : (x : List ℕ) (v : Session) → v ≡ sessionValue x → v .waiting ≡ waitingValue x
 unfolding sessionValue
 value-waiting x v e = ap (λ (v : Session). v .waiting) e
 
-pub shown-lent : (library : List ℕ) (i : ℕ) (q : Request) (out : List ℕ) (r : ℕ) (new : List ℕ)
-    → Shown (take (10240 * i + 10240 - 10240 * i) (drop (10240 * i) library)) q out r new → Shown (copyAt library i) q out r new
-unfolding copyAt
-shown-lent library i q out r new h = rw (lent 10240 i library) at h
+pub shown-there : (copy there : List ℕ) (q : Request) (out : List ℕ) (r : ℕ) (new : List ℕ) → there ≡ copy → Shown there q out r new → Shown copy q out r new
+shown-there copy there q out r new e h = rw e at h

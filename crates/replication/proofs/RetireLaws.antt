@@ -1,22 +1,22 @@
 -- Laws of retire: its row, and the whole call.
 use Prim.Native.Nat.{ℕ, suc, _+_, _-_, _≤_, _<_}
-use mathlib.Core.Path.{_≡_, refl, sym, ap, _∙_}
+use mathlib.Core.Path.{_≡_, sym, _∙_}
 use mathlib.Core.Bool.{Bool, true, false, cond, _&&_, not}
-use mathlib.Core.List.{List, [], _∷_}
+use mathlib.Core.List.{List, []}
 use native.Mathlib.Omega.{arith}
 use lib.Dec.{eqb, ltb}
 use lib.ListN.{length, length-append}
 use borrow.Author.Tests.{lt-ltb, le-ltb}
-use Rattle.carts.specs.Bytes.{part, over, every}
+use Rattle.carts.specs.Bytes.{every}
 use Rattle.carts.specs.Operation.{actAll}
 use Rattle.log.specs.Log.{recordsOf, transactionAt, logRecords, nextTransaction, walk, upFrom}
 use Rattle.log.specs.Writes.{released}
 use Rattle.log.specs.Values.{usable, Ending, freedOf}
 use Rattle.log.specs.declared.free.Freed.{Freed}
-use Rattle.log.proofs.FreeLaws.{can-retire, oldest-small, last-small}
+use Rattle.log.proofs.FreeLaws.{can-retire, last-small}
 use Rattle.log.proofs.WalkLaws.{walk-here}
 use Rattle.replication.specs.Answer.{refused, done}
-use Rattle.replication.specs.Memory.{Memory, memory, nth, copyAt, withCopy}
+use Rattle.replication.specs.Memory.{Memory, memory, sixth, nth, copyAt, withCopy}
 use Rattle.replication.specs.Log.{logCount}
 use Rattle.replication.specs.Rows.{stopped, memoryRows, retireRows, retireStop}
 use Rattle.replication.specs.Calls.{after, retire, withLog, retiredControl}
@@ -25,7 +25,7 @@ use Rattle.replication.proofs.RowLaws.{row-stops, row-passes, decides, 
 use Rattle.replication.proofs.DecideLaws.{accepted}
 use Rattle.replication.proofs.Accepted.{retire-passed}
 use Rattle.replication.proofs.Formed.{Formed}
-use Rattle.replication.proofs.LogLaws.{log-walkable, log-used, used-few, transaction-usable, transaction-length}
+use Rattle.replication.proofs.LogLaws.{log-walkable, log-used, transaction-usable}
 
 -- a studio that has applied the oldest transaction, and all of them
 abbrev pub appliedBy : Control → ℕ → Bool
@@ -113,7 +113,7 @@ module _ (c : Control) (m : Memory) (v : ℕ) (e : v ≡ retireStop c m) where
   -- the sixth copy, the log and control as the code leaves them
   pub retire-accepted : v ≡ 0 → (freed : Freed) → freed ≡ freedOf (m .log) (c .oldest) → (link : ℕ) → link ≡ nextTransaction (m .log) (c .oldest) → (next : Control)
       → next ≡ withLog c (c .used - freed .count) (c .commits) (c .retired + 1) link (cond (eqb (c .«free_first») 0) (c .oldest) (c .«free_first»)) (freed .last)
-      → (copy log : List ℕ) → copy ≡ actAll (part (m .library) 51200 10240) (transactionAt (m .log) (c .oldest)) → log ≡ released (m .log) (c .oldest) (c .«free_last»)
-      → after (done (next .retired)) next (memory (over (m .library) 51200 10240 copy) log (m .sessions)) [] ≡ retire c m
-  unfolding retire retiredControl copyAt withCopy
-  retire-accepted z freed w link k next q copy log a b = rw (q, w, k, a, b) (unless-accepted _ _ _ (sym e ∙ z))
+      → (library log : List ℕ) → library ≡ withCopy (m .library) sixth (actAll (copyAt (m .library) sixth) (transactionAt (m .log) (c .oldest)))
+      → log ≡ released (m .log) (c .oldest) (c .«free_last») → after (done (next .retired)) next (memory library log (m .sessions)) [] ≡ retire c m
+  unfolding retire retiredControl
+  retire-accepted z freed w link k next q library log a b = rw (q, w, k, a, b) (unless-accepted _ _ _ (sym e ∙ z))

@@ -33,7 +33,9 @@ impl Control {
     // The head end's copy and the studios'.
     pub const COPIES: u32 = 5;
 
-    // The copy of the retired transactions, placed last.
+    // The copy of the retired transactions, placed last: its index, counted from 0, and its place.
+    pub const SIXTH: u32 = 5;
+
     pub const SIXTH_AT: usize = 51200;
 
     pub const LIBRARY_SIZE: usize = 61440;

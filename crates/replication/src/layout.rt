@@ -1,10 +1,10 @@
 // The test of control and the three memories: one pass over all their bytes.
 use crate::control::Control;
+use crate::copies;
 use crate::session;
 use crate::session::Session;
 use carts::bytes;
 use carts::cart;
-use carts::cart::Cart;
 use log::chain;
 ghost use mathlib.Core.Path.{_≡_};
 ghost use lib.ListN.{length};
@@ -45,9 +45,7 @@ fn are_replicas(library: &[u8], studios: u32) -> bool
     let mut ok = true;
     let mut i: u32 = 0;
     while i < Control::COPIES {
-        let start = Cart::COPY_SIZE * (i as usize);
-        let end = start + Cart::COPY_SIZE;
-        ok &= is_replica(&library[start..end], i, studios);
+        ok &= is_replica(copies::copy_at(library, i), i, studios);
         i += 1;
     }
     ok
@@ -97,10 +95,7 @@ pub fn is_layout(control: Control, library: &[u8], log: &[u8], sessions: &[u8]) 
     if !are_replicas(library, control.studios) {
         return false;
     }
-    if !is_sixth(
-        &library[Control::SIXTH_AT..Control::LIBRARY_SIZE],
-        control.retired,
-    ) {
+    if !is_sixth(copies::copy_at(library, Control::SIXTH), control.retired) {
         return false;
     }
     if !chain::are_chains(

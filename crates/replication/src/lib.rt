@@ -4,6 +4,7 @@ pub mod block;
 pub mod collect;
 pub mod commit;
 pub mod control;
+pub mod copies;
 pub mod forward;
 pub mod layout;
 pub mod load;

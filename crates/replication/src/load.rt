@@ -2,6 +2,7 @@
 use crate::answer::CountAnswer;
 use crate::answer::CountResult;
 use crate::control::Control;
+use crate::copies;
 use crate::rows;
 use carts::bytes;
 use carts::cart::Cart;
@@ -31,9 +32,7 @@ fn is_level(library: &[u8], copy: &[u8], n: u32, applied: u32, i: u32) -> bool
     if applied != n {
         return true;
     }
-    let start = Cart::COPY_SIZE * (i as usize);
-    let end = start + Cart::COPY_SIZE;
-    bytes::are_equal(&library[start..end], copy)
+    bytes::are_equal(copies::copy_at(library, i), copy)
 }
 
 // Each studio that has applied n transactions has this copy.
@@ -71,7 +70,7 @@ fn are_made(control: Control, library: &[u8], log: &[u8], copy: &mut [u8]) -> bo
         n += 1;
         ok &= are_level(control, library, copy, n);
     }
-    ok & bytes::are_equal(&library[0..Cart::COPY_SIZE], copy)
+    ok & bytes::are_equal(copies::copy_at(library, 0), copy)
 }
 
 // The number of the row that stops a load, or 0. The copy on the stack begins as the sixth (S-9).
@@ -83,10 +82,7 @@ pub fn decide_load(control: Control, library: &[u8], log: &[u8], sessions: &[u8]
         return stopped;
     }
     let mut copy = [0u8; Cart::COPY_SIZE];
-    bytes::copy_all(
-        &mut copy,
-        &library[Control::SIXTH_AT..Control::LIBRARY_SIZE],
-    );
+    bytes::copy_all(&mut copy, copies::copy_at(library, Control::SIXTH));
     if !are_made(control, library, log, &mut copy) {
         return 19;
     }

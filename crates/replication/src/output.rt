@@ -1,4 +1,5 @@
 // What an answered read writes to output, and how many carts it finds in a copy.
+use crate::copies;
 use crate::session::Session;
 use crate::session::Waiting;
 use carts::bytes;
@@ -93,9 +94,7 @@ pub fn answer(library: &[u8], copy: u32, request: &[u8], output: &mut [u8]) -> u
     ensures { λ r. ⌜ (r ≡ foundIn (copyAt (now (library .entry)) copy) (requestOf (now (request .entry))))
         × (now (output .exit) ≡ over (now (output .entry)) 0 (needed (requestOf (now (request .entry)))) (shownFrom (copyAt (now (library .entry)) copy) (requestOf (now (request .entry))))) ⌝ }
 {
-    let start = Cart::COPY_SIZE * (copy as usize);
-    let end = start + Cart::COPY_SIZE;
     let read = Session::from_bytes(request);
     let waiting = read.waiting;
-    show(&library[start..end], request, waiting, output)
+    show(copies::copy_at(library, copy), request, waiting, output)
 }

@@ -1,4 +1,3 @@
-use Rattle.replication.proofs.LayoutLaws.{lent, length-lent}
 use mathlib.Core.Path.{_≡_, refl, ap, _∙_}
 use mathlib.Core.Bool.{_&&_}
 use Prim.Native.Nat.{_≤_, _-_, _*_}
@@ -6,6 +5,7 @@ use native.Mathlib.Omega.{arith}
 use lib.ListN.{drop}
 use Rattle.carts.specs.Bytes.{eachPart}
 use Rattle.carts.proofs.RecordLaws.{each-more, each-done}
+use Rattle.replication.specs.Memory.{copyAt}
 use Rattle.replication.specs.Layout.{replicaForm}
 use Rattle.replication.proofs.layout.are_replicas.Statement.{statement}
 use Rattle.replication.proofs.layout.are_replicas.Tie as tie
@@ -19,26 +19,11 @@ abbrev μ-loop : tie.MeasureT-loop
 loop-holds : tie.Need-loop-holds Inv-loop μ-loop
 loop-holds c = (omega arith, refl)
 
-cast-start : tie.Need-cast-start Inv-loop μ-loop
-cast-start c = omega arith
-
-mul-start : tie.Need-mul-start Inv-loop μ-loop
-mul-start c = omega arith
-
-add-end : tie.Need-add-end Inv-loop μ-loop
-add-end c = omega arith
-
-sub-is-replica : tie.Need-sub-is-replica Inv-loop μ-loop
-sub-is-replica c = omega arith
-
-part-is-replica-start : tie.Need-part-is-replica-start Inv-loop μ-loop
-part-is-replica-start c = omega arith
-
-part-is-replica-end : tie.Need-part-is-replica-end Inv-loop μ-loop
-part-is-replica-end c = omega arith
+copy-at-requires : tie.Need-copy-at-requires Inv-loop μ-loop
+copy-at-requires c κs = let t = c .before in (t .before .before .pre, omega arith)
 
 is-replica-requires : tie.Need-is-replica-requires Inv-loop μ-loop
-is-replica-requires c κs = let t = c .before .before in length-lent 10240 (t .loop .i) (t .before .before .args .library .now) (omega arith)
+is-replica-requires c κs = c .copy-at .ensures .1
 
 add-i : tie.Need-add-i Inv-loop μ-loop
 add-i c = omega arith
@@ -47,10 +32,12 @@ loop-less : tie.Need-loop-less Inv-loop μ-loop
 loop-less c = omega arith
 
 loop-again : tie.Need-loop-again Inv-loop μ-loop
-loop-again c = let t = c .before .before .before in
+unfolding copyAt
+loop-again c = let l = c .before in
+    let t = l .before .before in
     let g = t .before .before .args in
     let s = g .library .now in
-    let e = c .is-replica .ensures ∙ ap (replicaForm (g .studios) (t .loop .i)) (lent 10240 (t .loop .i) s) in
+    let e = c .is-replica .ensures ∙ ap (replicaForm (g .studios) (t .loop .i)) (l .copy-at .ensures .0) in
     (omega arith, each-more (replicaForm (g .studios)) 10240 5 (t .loop .i) (t .loop .i) s (t .loop .ok) (omega arith) (t .loop .inv .1) (ap (λ b. t .loop .ok && b) e))
 
 returns : tie.Need-returns Inv-loop μ-loop
@@ -65,12 +52,7 @@ are-replicas-spec =
     Inv-loop
     μ-loop
     loop-holds
-    cast-start
-    mul-start
-    add-end
-    sub-is-replica
-    part-is-replica-start
-    part-is-replica-end
+    copy-at-requires
     is-replica-requires
     add-i
     loop-less

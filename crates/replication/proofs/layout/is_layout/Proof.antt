@@ -4,10 +4,8 @@ use Rattle.log.specs.Chains.{chainsForm}
 use Rattle.replication.specs.Log.{logCount}
 use borrow.Author.Tests.{not-true, not-false, le-leb, lt-leb}
 use Rattle.replication.specs.Memory.{copyAt}
-use Rattle.replication.specs.Layout.{layoutTests}
+use Rattle.replication.specs.Layout.{sixthForm, layoutTests}
 use Rattle.replication.proofs.LayoutLaws.{layout-fails, layout-last, retired-first}
-use native.Mathlib.Omega.{arith}
-use Rattle.carts.proofs.PartLaws.{length-part}
 use borrow.Author.Needs.{needs}
 use Rattle.replication.proofs.layout.is_layout.Statement.{statement}
 use Rattle.replication.proofs.layout.is_layout.Tie as tie
@@ -44,24 +42,22 @@ returns-5 : tie.Need-returns-5
 unfolding layoutTests
 returns-5 c = layout-fails _ _ 4 (sym (c .before .are-replicas .ensures) ∙ not-true (c .before .are-replicas .result) (c .if5 .taken))
 
-sub-is-sixth : tie.Need-sub-is-sixth
-sub-is-sixth c = search needs
+copy-at-requires : tie.Need-copy-at-requires
+copy-at-requires c κs = search needs
 
-part-is-sixth-start : tie.Need-part-is-sixth-start
-part-is-sixth-start c = search needs
-
-part-is-sixth-end : tie.Need-part-is-sixth-end
-part-is-sixth-end c = search needs
-
-abbrev start : tie.Else6 → tie.Start
-start c = c .before .before .before .before .before .before .before .before .before .before .before .before .before .before .before .before
+abbrev start : tie.After-copy-at → tie.Start
+start c = c .before .before .before .before .before .before .before .before .before .before .before .before .before .before
 
 is-sixth-requires : tie.Need-is-sixth-requires
-is-sixth-requires c κs = let g = c .before .before .before .before .before .before .before .before .before .before .before .before .before .before in length-part (g .args .library .now) 51200 10240 (omega (arith, g .pre .0))
+is-sixth-requires c κs = c .copy-at .ensures .1
+
+-- the sixth copy, as it is handed back
+sixth-is : (c : tie.After-is-sixth) → let g = start (c .before) .args in c .is-sixth .result ≡ sixthForm (g .control .retired) (copyAt (g .library .now) 5)
+sixth-is c = let g = start (c .before) .args in c .is-sixth .ensures ∙ ap (sixthForm (g .control .retired)) (c .before .copy-at .ensures .0)
 
 returns-6 : tie.Need-returns-6
-unfolding layoutTests copyAt
-returns-6 c = layout-fails _ _ 5 (sym (c .before .is-sixth .ensures) ∙ not-true (c .before .is-sixth .result) (c .if6 .taken))
+unfolding layoutTests
+returns-6 c = layout-fails _ _ 5 (sym (sixth-is (c .before)) ∙ not-true (c .before .is-sixth .result) (c .if6 .taken))
 
 log-count-requires : tie.Need-log-count-requires
 log-count-requires c κs =
@@ -71,12 +67,12 @@ log-count-requires c κs =
     (sym (counts .are-counts .ensures) ∙ not-false (counts .are-counts .result) (c .before .before .before .before .before .if4 .left))
 
 are-chains-requires : tie.Need-are-chains-requires
-are-chains-requires c κs = start (c .before) .pre .1 .0
+are-chains-requires c κs = start (c .before .before .before) .pre .1 .0
 
 -- the two chains, of as many transactions as control counts
-chains-are : (c : tie.After-are-chains) → let g = start (c .before .before) .args in
+chains-are : (c : tie.After-are-chains) → let g = start (c .before .before .before .before) .args in
     c .are-chains .result ≡ chainsForm (logCount (g .control)) (g .log .now) (g .control .used) (g .control .oldest) (g .control .«free_first») (g .control .«free_last»)
-chains-are c = let g = start (c .before .before) .args in
+chains-are c = let g = start (c .before .before .before .before) .args in
     c .are-chains .ensures ∙ ap (λ (n : ℕ). chainsForm n (g .log .now) (g .control .used) (g .control .oldest) (g .control .«free_first») (g .control .«free_last»)) (c .before .log-count .ensures)
 
 returns-7 : tie.Need-returns-7
@@ -87,7 +83,6 @@ are-sessions-requires : tie.Need-are-sessions-requires
 are-sessions-requires c κs = search needs
 
 returns-8 : tie.Need-returns-8
-unfolding copyAt
 returns-8 c =
     let e7 = c .before in
     let chains = e7 .before in
@@ -108,7 +103,7 @@ returns-8 c =
     (le-leb _ _ (e3 .if3 .left))
     (sym (counts .are-counts .ensures) ∙ not-false (counts .are-counts .result) (e4 .if4 .left))
     (sym (copies .are-replicas .ensures) ∙ not-false (copies .are-replicas .result) (e5 .if5 .left))
-    (sym (sixth .is-sixth .ensures) ∙ not-false (sixth .is-sixth .result) (e6 .if6 .left))
+    (sym (sixth-is sixth) ∙ not-false (sixth .is-sixth .result) (e6 .if6 .left))
     (sym (chains-are chains) ∙ not-false (chains .are-chains .result) (e7 .if7 .left))
 
 pub is-layout-spec : {M : Type 1} → statement M
@@ -124,9 +119,7 @@ is-layout-spec =
     returns-4
     are-replicas-requires
     returns-5
-    sub-is-sixth
-    part-is-sixth-start
-    part-is-sixth-end
+    copy-at-requires
     is-sixth-requires
     returns-6
     log-count-requires

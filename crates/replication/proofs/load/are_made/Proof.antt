@@ -1,19 +1,19 @@
 -- The loop takes the log transaction by transaction; what is left of the walk is `wholeFrom`.
 use mathlib.Core.Path.{_≡_, refl, sym, ap, _∙_}
 use mathlib.Core.Bool.{Bool, true, _&&_}
-use Prim.Native.Nat.{ℕ, _≤_, _+_, _-_}
+use Prim.Native.Nat.{ℕ, _+_, _-_}
 use native.Mathlib.Omega.{arith}
 use mathlib.Core.List.{List}
 use lib.ListN.{length}
-use lib.Seq.{length-take-le}
 use borrow.Author.Needs.{needs}
-use Rattle.carts.specs.Bytes.{every}
+use lib.Dec.{eqb}
+use Rattle.carts.specs.Bytes.{every, pairwise}
 use Rattle.log.specs.Log.{logRecords}
 use Rattle.log.specs.Values.{usable, walkable}
 use Rattle.log.specs.declared.record.Record.{Record}
 use Rattle.replication.specs.Log.{logCount}
 use Rattle.replication.specs.Values.{areLevel, wholeFrom}
-use Rattle.carts.proofs.ScanLaws.{test-more, test-end}
+use Rattle.carts.proofs.ScanLaws.{test-more}
 use Rattle.log.proofs.WalkLaws.{walk-here, walk-later}
 use Rattle.replication.proofs.LoadWalk.{usable-own, usable-rest, whole-next, whole-end}
 use Rattle.replication.proofs.load.are_made.Statement.{statement}
@@ -78,26 +78,21 @@ loop-again c = let a = c .before .before in
           (ap (λ (b : Bool). (t .loop .ok && y .try-transaction .result) && b) (c .are-level2 .ensures ∙ ap (λ (z : List ℕ). areLevel (g .control) (g .library .now) z (t .loop .n + 1)) (e .1)))),
     )
 
-sub-are-equal : tie.Need-sub-are-equal Inv-loop μ-loop
-sub-are-equal c = omega arith
-
-part-are-equal-start : tie.Need-part-are-equal-start Inv-loop μ-loop
-part-are-equal-start c = omega arith
-
-part-are-equal-end : tie.Need-part-are-equal-end Inv-loop μ-loop
-part-are-equal-end c = omega arith
+copy-at-requires : tie.Need-copy-at-requires Inv-loop μ-loop
+copy-at-requires c κs = (start (c .before) .pre .0 .0, omega arith)
 
 are-equal-requires : tie.Need-are-equal-requires Inv-loop μ-loop
-are-equal-requires c κs = let t = c .before .before .before in
-    length-take-le 10240 (start t .args .library .now) (omega (arith, start t .pre .0 .0)) ∙ sym (t .loop .inv .0)
+are-equal-requires c κs = let l = c .before in l .copy-at .ensures .1 ∙ sym (l .before .before .loop .inv .0)
 
 same-length : tie.Need-same-length Inv-loop μ-loop
 same-length c = omega arith
 
 returns : tie.Need-returns Inv-loop μ-loop
-returns c = let t = c .before .before .before .before in
+returns c = let l = c .before .before in
+    let t = l .before .before in
     let g = start t .args in
-    sym (t .loop .inv .3 ∙ ap (λ (b : Bool). t .loop .ok && b) (whole-end (g .control) (g .library .now) (g .log .now) _ (t .loop .n) (t .loop .r) (t .loop .copy) (omega arith) ∙ sym (c .are-equal .ensures)))
+    let same = c .are-equal .ensures ∙ ap (λ (x : List ℕ). pairwise eqb x (t .loop .copy)) (l .copy-at .ensures .0) in
+    sym (t .loop .inv .3 ∙ ap (λ (b : Bool). t .loop .ok && b) (whole-end (g .control) (g .library .now) (g .log .now) _ (t .loop .n) (t .loop .r) (t .loop .copy) (omega arith) ∙ sym same))
 
 pub are-made-spec : {M : Type 1} → statement M
 are-made-spec =
@@ -113,9 +108,7 @@ are-made-spec =
     are-level-requires-2
     loop-less
     loop-again
-    sub-are-equal
-    part-are-equal-start
-    part-are-equal-end
+    copy-at-requires
     are-equal-requires
     same-length
     returns)

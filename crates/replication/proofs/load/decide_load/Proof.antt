@@ -4,7 +4,6 @@ use mathlib.Core.List.{List}
 use Prim.Native.Nat.{ℕ}
 use lib.ListN.{length}
 use native.Mathlib.Omega.{arith}
-use Rattle.carts.proofs.PartLaws.{length-part}
 use borrow.Author.Needs.{needs}
 use borrow.Author.Tests.{not-true, not-false}
 use Rattle.replication.specs.Memory.{memory, copyAt}
@@ -32,23 +31,16 @@ known c = memory-formed _ _ _ (c .before .stopped-by-memory .ensures) (c .if1 .l
 
 -- the copy is as long as a copy
 long : (c : tie.After-copy-all) → length (c .copy-all .last .0) ≡ 10240
-long c = let e = c .before .before .before in
-    ap length (c .copy-all .ensures) ∙ length-part (e .before .before .before .before .before .args .library .now) 51200 10240 (omega (arith, known e .library .size))
+long c = ap length (c .copy-all .ensures) ∙ c .before .copy-at .ensures .1
 
 slice-aggregate-copy-all : tie.Need-slice-aggregate-copy-all
 slice-aggregate-copy-all c = search needs
 
-sub-copy-all : tie.Need-sub-copy-all
-sub-copy-all c = search needs
-
-part-copy-all-start : tie.Need-part-copy-all-start
-part-copy-all-start c = search needs
-
-part-copy-all-end : tie.Need-part-copy-all-end
-part-copy-all-end c = let f = known (c .before) in omega (arith, f .library .size)
+copy-at-requires : tie.Need-copy-at-requires
+copy-at-requires c κs = let f = known (c .before) in (f .library .size, omega arith)
 
 copy-all-requires : tie.Need-copy-all-requires
-copy-all-requires c κs = let e = c .before .before in let f = known e in sym (length-part (e .before .before .before .before .before .args .library .now) 51200 10240 (omega (arith, f .library .size)))
+copy-all-requires c κs = sym (c .copy-at .ensures .1)
 
 slice-aggregate-are-made : tie.Need-slice-aggregate-are-made
 slice-aggregate-are-made c = let a = c .before .before in sym (long a)
@@ -63,10 +55,10 @@ are-made-requires c κs = let a = c .before .before in
 walked : (c : tie.After-are-made) → let g = c .before .before .before .before .before .before .before .before .before .before .before .args in let base = copyAt (g .library .now) 5 in
     (areLevel (g .control) (g .library .now) base (g .control .retired) && wholeFrom (g .control) (g .library .now) (g .log .now) (logCount (g .control)) (g .control .retired) (g .control .oldest) base)
     ≡ c .are-made .result
-unfolding copyAt
 walked c = let g = c .before .before .before .before .before .before .before .before .before .before .before .args in
+    let a = c .before .before .before in
     sym (c .are-made .ensures ∙ ap (λ (x : List ℕ). areLevel (g .control) (g .library .now) x (g .control .retired)
-    && wholeFrom (g .control) (g .library .now) (g .log .now) (logCount (g .control)) (g .control .retired) (g .control .oldest) x) (c .before .before .before .copy-all .ensures))
+    && wholeFrom (g .control) (g .library .now) (g .log .now) (logCount (g .control)) (g .control .retired) (g .control .oldest) x) (a .copy-all .ensures ∙ a .before .copy-at .ensures .0))
 
 returns-2 : tie.Need-returns-2
 returns-2 c = let a = c .before .before in
@@ -85,9 +77,7 @@ decide-load-spec =
     stopped-by-memory-requires
     returns
     slice-aggregate-copy-all
-    sub-copy-all
-    part-copy-all-start
-    part-copy-all-end
+    copy-at-requires
     copy-all-requires
     slice-aggregate-are-made
     are-made-requires

@@ -1,8 +1,6 @@
-use mathlib.Core.Path.{_≡_, sym, ap, _∙_}
+use mathlib.Core.Path.{ap}
 use native.Mathlib.Omega.{arith}
 use borrow.Author.Needs.{needs}
-use borrow.Rule.Slice.PartMut.{same-len-mid}
-use Rattle.carts.proofs.PartLaws.{length-part}
 use Rattle.log.specs.declared.record.Record.{Record}
 use Rattle.replication.specs.Memory.{memory}
 use Rattle.replication.proofs.RetireLaws.{Retirable, retire-refused, retire-known, retire-accepted}
@@ -31,19 +29,8 @@ known c = retire-known _ _ _ (c .before .decide-retire .ensures) (c .if1 .left)
 at-requires : tie.Need-at-requires
 at-requires c κs = let k = known (c .before) in (k .log, (k .low, k .high))
 
-sub-apply-transaction : tie.Need-sub-apply-transaction
-sub-apply-transaction c = search needs
-
-part-apply-transaction-start : tie.Need-part-apply-transaction-start
-part-apply-transaction-start c = search needs
-
-part-apply-transaction-end : tie.Need-part-apply-transaction-end
-part-apply-transaction-end c = let k = known (c .before .before) in omega (arith, k .library)
-
-apply-transaction-requires : tie.Need-apply-transaction-requires
-apply-transaction-requires c κs = let e = c .before .before .before .before in
-    let k = known e in
-    (length-part (start (e .before) .args .library .now) 51200 10240 (omega (arith, k .library)), (k .log, k .acts))
+apply-to-sixth-requires : tie.Need-apply-to-sixth-requires
+apply-to-sixth-requires c κs = let k = known (c .before .before .before .before) in (k .library, (k .log, k .acts))
 
 retire-transaction-requires : tie.Need-retire-transaction-requires
 retire-transaction-requires c κs = let k = known (c .before .before .before .before .before .before .before .before) in ((k .log, k .ends), (omega (arith, k .high), k .last))
@@ -52,7 +39,7 @@ after-retire-requires : tie.Need-after-retire-requires
 after-retire-requires c κs = let k = known (c .before .before .before .before .before .before .before .before .before .before .before) in (rw (c .before .before .retire-transaction .ensures .1) (k .held), k .few)
 
 same-length-3 : tie.Need-same-length-3
-same-length-3 c = same-len-mid 51200 10240 (start (c .before .before .before .before .before .before .before .before .before .before .before .before .before) .args .library .now) (c .before .before .before .before .before .before .before .apply-transaction .last .0) (c .before .before .before .before .before .before .before .apply-transaction .kept .0)
+same-length-3 c = c .before .before .before .before .before .before .before .apply-to-sixth .kept .0
 
 same-length-4 : tie.Need-same-length-4
 same-length-4 c = c .before .before .before .retire-transaction .kept .0
@@ -61,7 +48,7 @@ returns-2 : tie.Need-returns-2
 returns-2 c = let e = c .before .before .before .before .before .before .before .before .before .before .before .before in
     let r = c .before .before .before .retire-transaction .ensures in
     retire-accepted _ _ _ (e .before .decide-retire .ensures) (e .if1 .left) _ (r .1) _ (ap (λ (x : Record). x .«next_transaction») (c .before .before .before .before .before .before .before .before .before .before .at .ensures .0)) _ (c .after-retire .ensures) _ _
-    (c .before .before .before .before .before .before .before .apply-transaction .ensures) (r .0)
+    (c .before .before .before .before .before .before .before .apply-to-sixth .ensures) (r .0)
 
 pub retire-spec : {M : Type 1} → statement M
 retire-spec =
@@ -72,10 +59,7 @@ retire-spec =
     same-length-2
     returns
     at-requires
-    sub-apply-transaction
-    part-apply-transaction-start
-    part-apply-transaction-end
-    apply-transaction-requires
+    apply-to-sixth-requires
     retire-transaction-requires
     after-retire-requires
     same-length-3
