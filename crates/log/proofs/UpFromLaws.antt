@@ -1,5 +1,5 @@
 -- Records that follow one another: setup's free chain.
-use Prim.Native.Nat.{ℕ, zero, suc, _+_, _-_, _<_, _≤_}
+use Prim.Native.Nat.{ℕ, zero, suc, _+_, _*_, _-_, _<_, _≤_}
 use mathlib.Core.Path.{_≡_, refl, sym, ap, _∙_}
 use mathlib.Core.Bool.{Bool, true, false, cond, _&&_}
 use mathlib.Core.List.{List, [], _∷_, _++_}
@@ -9,15 +9,16 @@ use native.Mathlib.Decide.{ℕ-discrete}
 use lib.ListN.{length, drop, replicate, length-append, length-replicate}
 use lib.Dec.{leb, eqb}
 use borrow.Author.Tests.{eq-eqb, eqb-true, leb-true}
-use Rattle.carts.specs.Bytes.{zeros, over, u16Bytes, within, all, every, pairwise}
+use Rattle.carts.specs.Bytes.{zeros, part, over, u16Bytes, within, all, every, pairwise}
 use Rattle.carts.proofs.TestLaws.{and-left, and-right, all-at, within-low, within-high, within-of, pairwise-eq}
-use Rattle.carts.proofs.ZeroLaws.{length-zeros}
+use Rattle.carts.proofs.ZeroLaws.{length-zeros, part-zeros}
 use Rattle.log.specs.Log.{recordAt, withRecord, nextOperation, nextTransaction, recordsOf, upFrom, front, logRecords, freeRecords, back}
 use Rattle.log.specs.Writes.{writeAll, freshLog}
 use Rattle.log.specs.Chains.{freeForm, count, chainsForm}
+use Rattle.log.proofs.LinkLaws.{length-linked}
 use Rattle.log.proofs.ListLaws.{Linked}
 use Rattle.log.proofs.OnceLaws.{Once, count-nil, count-here, count-other, upFrom-every}
-use Rattle.log.proofs.WriteLaws.{Distinct, Wrote, wrote, written-linked}
+use Rattle.log.proofs.WriteLaws.{Distinct, Wrote, wrote, record-other, written-linked}
 use Rattle.log.proofs.HoldLaws.{joined, Stand, Holds, of-holds}
 use Rattle.log.proofs.AppendLaws.{joined-none}
 use Rattle.log.proofs.RetireLaws.{blank-sizes, cleared-free}
@@ -125,7 +126,14 @@ fresh-chains = rw (joined-none [] refl, front-nil, first, last) at (of-holds fre
     last : back 0 (upFrom 1 512) ≡ 512
     last = let e = back-upFrom 0 1 512 (omega arith) in omega arith
 
--- setup's loop: r records are free, the others as they were
+-- setup's loop: r records are free, the others zero
+abbrev pub Blank : ℕ → List ℕ → Type 0
+Blank r log = (q : ℕ) → r < q → q ≤ 512 → recordAt log q ≡ zeros 80
+
+pub blank-start : (log : List ℕ) → log ≡ zeros 40960 → Blank 0 log
+unfolding recordAt
+blank-start log e q low high = ap (λ (s : List ℕ). part s (80 * (q - 1)) 80) e ∙ part-zeros 40960 (80 * (q - 1)) 80 (omega arith)
+
 module _ (r : ℕ) (log : List ℕ) where
   abbrev pub ToFree : List ℕ
   ToFree = writeAll (upFrom (r + 1) (512 - r)) (replicate (512 - r) (zeros 80)) log
@@ -134,10 +142,18 @@ module _ (r : ℕ) (log : List ℕ) where
   unfolding upFrom writeAll
   free-done h = let e : 512 - r ≡ 0 = omega arith in rw e
 
-  pub free-one : r < 512 → (next : ℕ) → next ≡ front (upFrom (r + 1 + 1) (512 - (r + 1))) → (new : List ℕ) → new ≡ withRecord log (r + 1) (over (zeros 80) 12 2 (u16Bytes next))
-      → ToFree ≡ writeAll (upFrom (r + 1 + 1) (512 - (r + 1))) (replicate (512 - (r + 1)) (zeros 80)) new
-  unfolding upFrom writeAll
-  free-one h next q new w = let e : 512 - r ≡ suc (512 - (r + 1)) = omega arith in rw (e, w, q)
+  -- the next record gets its link
+  module _ (size : length log ≡ 40960) (h : r < 512) (blank : Blank r log) (next : ℕ) (new : List ℕ) (w : new ≡ withRecord log (r + 1) (over (recordAt log (r + 1)) 12 2 (u16Bytes next))) where
+    written : new ≡ withRecord log (r + 1) (over (zeros 80) 12 2 (u16Bytes next))
+    written = w ∙ ap (λ (x : List ℕ). withRecord log (r + 1) (over x 12 2 (u16Bytes next))) (blank (r + 1) (omega arith) (omega arith))
+
+    pub free-one : next ≡ front (upFrom (r + 1 + 1) (512 - (r + 1))) → ToFree ≡ writeAll (upFrom (r + 1 + 1) (512 - (r + 1))) (replicate (512 - (r + 1)) (zeros 80)) new
+    unfolding upFrom writeAll
+    free-one q = let e : 512 - r ≡ suc (512 - (r + 1)) = omega arith in rw (e, written, q)
+
+    pub blank-one : Blank (r + 1) new
+    blank-one q low high = ap (λ (s : List ℕ). recordAt s q) written
+        ∙ record-other log size (r + 1) (omega arith) (omega arith) _ (length-linked next (zeros 80) (length-zeros 80)) q (omega arith) (λ e. omega arith) ∙ blank q (omega arith) high
 
 pub fresh-start : (log : List ℕ) → log ≡ zeros 40960 → freshLog ≡ ToFree 0 log
 unfolding freshLog

@@ -17,7 +17,7 @@ pub struct Freed {
 }
 
 // Record r becomes free: zero but for the index of the next one.
-pub fn free_record(log: &mut [u8], r: u32, next: u32)
+fn free_record(log: &mut [u8], r: u32, next: u32)
     requires { ⌜ (length (now log) ≡ logSize) × ((1 ≤ r) × ((r ≤ recordCount) × (next < 65536))) ⌝ }
     ensures { λ _. ⌜ now (log .exit) ≡ withRecord (now (log .entry)) r (over (zeros recordSize) linksAt 2 (u16Bytes next)) ⌝ }
 {

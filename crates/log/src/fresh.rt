@@ -1,5 +1,5 @@
 // The log that setup leaves: a free chain of all its records, in order.
-use crate::free;
+use crate::cell;
 use crate::record::Record;
 use carts::bytes;
 ghost use mathlib.Core.Path.{_≡_};
@@ -29,6 +29,6 @@ pub fn make_fresh(log: &mut [u8])
     while r < Record::COUNT {
         r += 1;
         let next = next_free(r);
-        free::free_record(log, r, next);
+        cell::put(log, r, Record::NEXT_OPERATION, next);
     }
 }
