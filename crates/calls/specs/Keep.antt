@@ -1,6 +1,6 @@
 -- What is kept in the journal of what came of a line.
 use Rattle.std.specs.Prelude.{List, ℕ, ◌*◌}
-use Rattle.log.specs.Log.{record_size}
+use Rattle.edit_log.specs.Log.{record_size}
 use Rattle.lines.specs.Text.{part_in}
 use Rattle.journal.specs.Progress.{Kept, kept, stepped, after_setup, after_count, after_commit, after_read, after_receive}
 use Rattle.journal.specs.declared.progress.Progress.{Progress}

@@ -2,7 +2,7 @@
 -- are documents 01's and 02's, by crates/replication/specs/Calls.antt; the van's receiver is that of crates/van/specs/Receive.antt.
 use Rattle.std.specs.Prelude.{Bool, true, false, cond, List, ℕ, ◌+◌, ◌*◌, ◌-◌}
 use Rattle.carts.specs.Bytes.{zeros, part, over}
-use Rattle.log.specs.Log.{record_size, most_operations}
+use Rattle.edit_log.specs.Log.{record_size, most_operations}
 use Rattle.replication.specs.Answer.{Answer, refused, done, waits, answered, setup_answer, count_answer, read_answer}
 use Rattle.replication.specs.Memory.{Memory, session_count, session_size}
 use Rattle.replication.specs.Calls.{After, setup, commit, preview, send, refresh, read, collect, forward, write, move, load, retire}

@@ -8,7 +8,7 @@ ghost use Rattle.calls.specs.Make.{told, made, beside, copy_after, van_leaves};
 
 use carts::bytes;
 use lines::text;
-use log::record::Record;
+use edit_log::record::Record;
 use replication::answer::{CountAnswer, SetupAnswer};
 use replication::control::Control;
 use report::turn::{Came, Turn};

@@ -6,7 +6,7 @@ ghost use Rattle.calls.specs.Keep.{came_kept};
 
 use journal::progress::Progress;
 use lines::text;
-use log::record::Record;
+use edit_log::record::Record;
 use replication::answer::{CountAnswer, CountResult, ReadResult, SetupResult};
 use report::turn::{Came, Turn};
 

@@ -1,7 +1,7 @@
 // The calls of a transcript, made on the engine.
 ghost use Rattle.std.specs.Prelude.{◌≡◌, true, false, [], ◌*◌, length};
 ghost use Rattle.carts.specs.Cart.{copy_size};
-ghost use Rattle.log.specs.Log.{record_size};
+ghost use Rattle.edit_log.specs.Log.{record_size};
 ghost use Rattle.replication.specs.Memory.{memory, session_count, session_size};
 ghost use Rattle.replication.specs.Answer.{read_answer};
 ghost use Rattle.replication.specs.Calls.{after, commit, preview, send, refresh, move, load};
@@ -15,7 +15,7 @@ use journal::history::Entry;
 use journal::{history, progress};
 use lines::parse::Call;
 use lines::text;
-use log::record::Record;
+use edit_log::record::Record;
 use replication::answer::ReadResult;
 use replication::collect::collect;
 use replication::commit::commit;

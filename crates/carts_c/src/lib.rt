@@ -1,4 +1,6 @@
 // Scans of carts and the title search, exported for measuring and tests: include/carts.h says the same to C.
+#![tactic(auto)]
+
 ghost use Rattle.std.specs.Prelude.{◌≡◌, ◌&&◌, length, eqb};
 ghost use Rattle.carts.specs.Bytes.{every, all_zero};
 ghost use Rattle.carts.specs.Cart.{copy_size, copy_form};

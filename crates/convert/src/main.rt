@@ -1,5 +1,7 @@
 // Converts a wall file of the thirty-two-character edition to one copy of ours, or a copy to such a file: convert FROM TO. The input
 // tells which way. Document 02, S-10.
+#![tactic(auto)]
+
 mod fault;
 mod held;
 mod outcome;

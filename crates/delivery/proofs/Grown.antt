@@ -8,7 +8,7 @@ use Rattle.carts.specs.Operation.{operations_of}
 use Rattle.carts.specs.Transaction.{Transaction}
 use Rattle.carts.proofs.TestLaws.{by_cond}
 use Rattle.carts.proofs.OperationLaws.{Operations}
-use Rattle.log.proofs.WriteLaws.{givens}
+use Rattle.edit_log.proofs.WriteLaws.{givens}
 use Rattle.replication.specs.Memory.{Memory, session_at, sequence_of, nth, studio_of}
 use Rattle.replication.specs.Log.{log_count, logged}
 use Rattle.replication.specs.Request.{Request}

@@ -13,7 +13,7 @@ use Rattle.replication.specs.Answer.{done}
 use Rattle.carts.proofs.TestLaws.{by_cond, within_low, within_of}
 use Rattle.carts.proofs.OperationLaws.{Operations}
 use Rattle.replication.specs.Memory.{Memory, copy_at, nth}
-use Rattle.log.specs.Log.{up_from}
+use Rattle.edit_log.specs.Log.{up_from}
 use Rattle.replication.specs.Log.{logged}
 use Rattle.replication.specs.Message.{message_in}
 use Rattle.replication.specs.Call.{Call, run, final}

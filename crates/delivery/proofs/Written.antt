@@ -14,7 +14,7 @@ use Rattle.carts.proofs.TestLaws.{or_false_both, within_low, within_high, within
 use Rattle.replication.specs.Answer.{refused, done}
 use Rattle.replication.specs.Memory.{Memory}
 use Rattle.replication.specs.Log.{log_count, logged}
-use Rattle.log.specs.Log.{walk}
+use Rattle.edit_log.specs.Log.{walk}
 use Rattle.replication.specs.Message.{message_of, message_in}
 use Rattle.replication.specs.Rows.{stopped, unless, write_rows, write_stop}
 use Rattle.replication.specs.Calls as Bytes
@@ -24,7 +24,7 @@ use Rattle.replication.proofs.RowLaws.{memory_passes, unless_case, passed}
 use Rattle.replication.proofs.DecideLaws.{accepted}
 use Rattle.replication.proofs.Formed.{Formed, retired_known}
 use Rattle.replication.proofs.LogLaws.{transaction_length, transaction_operations}
-use Rattle.log.proofs.TransactionLaws.{length_transactions, length_handed_in, transactions_at, handed_operations}
+use Rattle.edit_log.proofs.TransactionLaws.{length_transactions, length_handed_in, transactions_at, handed_operations}
 use Rattle.refinement.specs.Represents.{OfLayout}
 use Rattle.replication.proofs.MessageLaws.{same_message, not_retired}
 use Rattle.refinement.proofs.Refused.{not_done}

@@ -6,7 +6,7 @@ use Rattle.carts.specs.Transaction.{Transaction, L}
 use Rattle.replication.specs.Answer.{Answer, refused, done, waits, answered}
 use Rattle.replication.specs.Memory.{Memory}
 use Rattle.replication.specs.Log.{logged}
-use Rattle.log.specs.Log.{up_from}
+use Rattle.edit_log.specs.Log.{up_from}
 use Rattle.replication.specs.Call.{Call}
 use Rattle.replication.specs.Calls as Bytes
 use Rattle.replication.specs.Calls.{After, after_calls}

@@ -1,1 +1,3 @@
 // Theory without code: what a van has after any list of messages.
+#![tactic(auto)]
+

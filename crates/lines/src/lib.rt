@@ -1,4 +1,6 @@
 // Lines of a transcript: read as calls, with the bytes of their operations, requests and studios.
+#![tactic(auto)]
+
 pub mod build;
 pub mod cursor;
 pub mod input;

@@ -12,8 +12,8 @@ use borrow.Author.Tests.{not-false, lt-ltb, le-ltb, lt-leb}
 use Rattle.carts.specs.Bytes.{any, every}
 use Rattle.carts.specs.Operation.{operation_form, spaced, operations_of, meets_all}
 use Rattle.carts.specs.Transaction.{Transaction, records_used}
-use Rattle.log.specs.Log.{most_operations}
-use Rattle.log.proofs.OnceLaws.{up_from_every}
+use Rattle.edit_log.specs.Log.{most_operations}
+use Rattle.edit_log.proofs.OnceLaws.{up_from_every}
 use Rattle.replication.specs.Memory.{most_commits, nth}
 use Rattle.replication.specs.Log.{no_room}
 use Rattle.replication.specs.Answer.{refused, done}

@@ -7,7 +7,7 @@ use Rattle.carts.specs.Cart.{cart_at, printable, title_form, has_title, no_title
 use Rattle.carts.specs.Operation.{operation_fields, operation_form, spaced, operations_of, made, retitled, recut, meets_cart, effect, acted_on, meets, act, meets_all, act_all}
 use Rattle.carts.specs.Transaction.{replay, L, met_from, records_used}
 use Rattle.carts.specs.Title.{shown_by_numbers, found_by_numbers, same_letter, titled, titled_from, titled_in, the_one}
-use Rattle.log.specs.Log.{up_from}
+use Rattle.edit_log.specs.Log.{up_from}
 use Rattle.replication.specs.Log.{no_room}
 use Rattle.replication.specs.Message.{joined, message_of}
 use Rattle.replication.specs.Request.{numbers_in, request_of, numbers_form, request_fields, request_form, is_waiting, needed, found_in, shown_from}

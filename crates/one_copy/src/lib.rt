@@ -1,4 +1,6 @@
 // The one-copy order of a transcript's entries, replayed on a single library.
+#![tactic(auto)]
+
 pub mod fault;
 pub mod order;
 pub mod replay;

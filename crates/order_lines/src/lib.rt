@@ -1,3 +1,5 @@
 // The one-copy order: in words, and printed.
+#![tactic(auto)]
+
 pub mod entries;
 pub mod order;

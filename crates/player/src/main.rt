@@ -1,5 +1,7 @@
 // Plays a transcript, the file that its first argument names or standard input: each call's answer, a summary, and the
 // one-copy order replayed on a single library. docs/TRANSCRIPT.md has the format and the limits.
+#![tactic(auto)]
+
 mod play;
 
 ghost use Rattle.std.specs.Prelude.{◌≡◌, ◌≤◌, length};
@@ -11,7 +13,7 @@ use journal::history::Entry;
 use journal::progress::Progress;
 use lines::text::Class;
 use lines::{input, parse, text};
-use log::record::Record;
+use edit_log::record::Record;
 use replication::control::Control;
 use replication::session::Session;
 

@@ -1,4 +1,6 @@
 // What came of a line, the one-copy order and the end of a transcript, on standard output.
+#![tactic(auto)]
+
 pub mod answer;
 pub mod end;
 pub mod order;

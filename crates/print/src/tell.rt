@@ -5,7 +5,7 @@ ghost use Rattle.journal.specs.History.{most_entries};
 use crate::answer;
 use journal::progress::Progress;
 use lines::text;
-use log::record::Record;
+use edit_log::record::Record;
 use replication::answer::{CountAnswer, SetupAnswer};
 use report::show;
 use report::turn::Came;

@@ -12,9 +12,9 @@ use Rattle.carts.specs.Transaction.{Transaction, L, records_used}
 use Rattle.carts.proofs.OperationLaws.{Operations, operations_of_law}
 use Rattle.carts.proofs.KeepLaws.{Copy, act_all_copy}
 use Rattle.replication.specs.Memory.{Memory, Arrays, copy_at, with_copy, session_at, with_number, nth, studio_of}
-use Rattle.log.specs.Log.{follow}
+use Rattle.edit_log.specs.Log.{follow}
 use Rattle.replication.specs.Log.{log_count, logged}
-use Rattle.log.specs.Writes.{appended}
+use Rattle.edit_log.specs.Writes.{appended}
 use Rattle.replication.specs.Request.{request_of}
 use Rattle.replication.specs.Layout.{replica_form}
 use Rattle.replication.specs.Rows.{Row, stopped, commit_rows, commit_stop}
@@ -23,7 +23,7 @@ use Rattle.replication.specs.Calls.{After, with_sessions, told_sessions, committ
 use Rattle.replication.specs.declared.control.Control.{Control}
 use Rattle.replication.proofs.CopyLaws.{length_copy_at, length_with_copy, copy_same, copy_other}
 use Rattle.replication.proofs.CommitLaws.{operations_few}
-use Rattle.log.proofs.WriteLaws.{Givens, givens}
+use Rattle.edit_log.proofs.WriteLaws.{Givens, givens}
 use Rattle.replication.proofs.LogLaws.{log_used, committed_log, committed_transactions}
 use Rattle.replication.proofs.Formed.{Formed, applied_known, retired_known, counts_more, studio_copy, copy_in_use}
 use Rattle.replication.proofs.RowLaws.{memory_passes, unless_case, unless_both}

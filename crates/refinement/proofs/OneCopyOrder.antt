@@ -11,7 +11,7 @@ use Rattle.carts.specs.Transaction.{Transaction}
 use Rattle.carts.proofs.ZeroLaws.{length_zeros, part_zeros}
 use Rattle.replication.specs.Answer.{done}
 use Rattle.replication.specs.Memory.{Memory, copy_at, session_at}
-use Rattle.log.specs.Log.{transactions_from}
+use Rattle.edit_log.specs.Log.{transactions_from}
 use Rattle.replication.specs.Log.{log_count}
 use Rattle.replication.specs.Request.{Request, nothing, request_of, is_waiting}
 use Rattle.replication.specs.Rows.{setup_stop}

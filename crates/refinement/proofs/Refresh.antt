@@ -14,7 +14,7 @@ use Rattle.carts.proofs.OperationLaws.{Operations}
 use Rattle.carts.proofs.KeepLaws.{Copy, act_all_copy}
 use Rattle.replication.specs.Memory.{Memory, Arrays, copy_at, with_copy, nth, studio_of}
 use Rattle.replication.specs.Log.{log_count, transaction_after}
-use Rattle.log.specs.Log.{transaction_at, handed_in, transactions_from, walk}
+use Rattle.edit_log.specs.Log.{transaction_at, handed_in, transactions_from, walk}
 use Rattle.replication.specs.Layout.{replica_form, session_form, counts_form}
 use Rattle.replication.specs.Rows.{Row, stopped, refresh_rows, refresh_stop}
 use Rattle.replication.specs.Calls as Bytes
@@ -25,7 +25,7 @@ use Rattle.replication.proofs.LogLaws.{transaction_operations}
 use Rattle.replication.proofs.Formed.{Formed, Counts, counts_of, of_counts, few, studio_copy, copy_in_use}
 use Rattle.replication.proofs.RowLaws.{memory_passes, unless_case, unless_both}
 use Rattle.replication.proofs.Accepted.{RefreshAccepted, refresh_passed}
-use Rattle.log.proofs.TransactionLaws.{length_transactions, transactions_at, handed_act_all}
+use Rattle.edit_log.proofs.TransactionLaws.{length_transactions, transactions_at, handed_act_all}
 use Rattle.machine.specs.Machine as Plain
 use Rattle.machine.specs.Machine.{Session, Machine}
 use Rattle.machine.proofs.Libraries.{L-next}

@@ -10,7 +10,7 @@ use Rattle.replication.specs.Memory.{Memory}
 use Rattle.replication.specs.Log.{log_count, logged}
 use Rattle.replication.specs.declared.control.Control.{Control}
 use Rattle.replication.proofs.Formed.{retired_known}
-use Rattle.log.proofs.TransactionLaws.{length_transactions}
+use Rattle.edit_log.proofs.TransactionLaws.{length_transactions}
 use Rattle.machine.specs.Machine.{Session, Machine, machine, commits}
 use Rattle.refinement.specs.Represents.{Represents}
 use Rattle.refinement.proofs.Arrays.{formed}

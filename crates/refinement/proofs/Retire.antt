@@ -15,9 +15,9 @@ use Rattle.carts.specs.Operation.{act_all}
 use Rattle.carts.specs.Transaction.{Transaction, L}
 use Rattle.carts.proofs.OperationLaws.{Operations, forms_fields}
 use Rattle.carts.proofs.KeepLaws.{Copy, act_all_copy, copy_empty}
-use Rattle.log.specs.Log.{transaction_at, handed_in, walk}
-use Rattle.log.specs.Writes.{released}
-use Rattle.log.proofs.TransactionLaws.{handed_act_all, handed_operations}
+use Rattle.edit_log.specs.Log.{transaction_at, handed_in, walk}
+use Rattle.edit_log.specs.Writes.{released}
+use Rattle.edit_log.proofs.TransactionLaws.{handed_act_all, handed_operations}
 use Rattle.replication.specs.Memory.{Memory, Arrays, copy_at, with_copy, nth, studio_of}
 use Rattle.replication.specs.Log.{logged}
 use Rattle.replication.specs.Layout.{sixth_form, session_form, counts_form}

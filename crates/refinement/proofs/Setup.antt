@@ -14,14 +14,14 @@ use Rattle.carts.proofs.KeepLaws.{copy_empty}
 use Rattle.replication.specs.Answer.{done}
 use Rattle.replication.specs.Memory.{Memory, Arrays, lengths_form, copy_at, session_at, sequence_of, studio_of}
 use Rattle.replication.specs.Log.{log_count}
-use Rattle.log.specs.Log.{transactions_from}
+use Rattle.edit_log.specs.Log.{transactions_from}
 use Rattle.replication.specs.Request.{nothing, request_of}
 use Rattle.replication.specs.Layout.{replica_form, sixth_form, session_form, session_form_of, counts_form}
 use Rattle.replication.specs.Rows.{stopped, lengths_row, setup_rows, setup_stop}
 use Rattle.replication.specs.Calls as Bytes
 use Rattle.replication.specs.Calls.{After, control_of, fresh_memory}
 use Rattle.replication.specs.declared.control.Control.{Control}
-use Rattle.log.proofs.UpFromLaws.{fresh_size, fresh_chains}
+use Rattle.edit_log.proofs.UpFromLaws.{fresh_size, fresh_chains}
 use Rattle.replication.proofs.Formed.{Formed}
 use Rattle.replication.proofs.RowLaws.{row_passes, unless_case, unless_both}
 use Rattle.replication.proofs.Accepted.{SetupAccepted, setup_passed}

@@ -17,7 +17,7 @@ use Rattle.carts.proofs.OperationLaws.{Operations, forms_fields}
 use Rattle.replication.specs.Answer.{refused, done}
 use Rattle.replication.specs.Memory.{Memory, Arrays, copy_at, session_at, sequence_of, nth, studio_of}
 use Rattle.replication.specs.Log.{log_count, logged}
-use Rattle.log.specs.Log.{transaction_at, handed_in, transactions_from, walk, up_from}
+use Rattle.edit_log.specs.Log.{transaction_at, handed_in, transactions_from, walk, up_from}
 use Rattle.replication.specs.Request.{nothing, request_of}
 use Rattle.replication.specs.Layout.{replica_form, sixth_form}
 use Rattle.replication.specs.Rows.{Row, stopped, unless, load_rows, copies_form, load_stop}
@@ -29,9 +29,9 @@ use Rattle.replication.proofs.DecideLaws.{KnownSession}
 use Rattle.replication.proofs.Formed.{Formed, counts_of, counts_known, counts_none, retired_known, studio_known, few}
 use Rattle.replication.proofs.LoadLaws.{Copies, load_passed}
 use Rattle.replication.proofs.LogLaws.{transaction_operations}
-use Rattle.log.proofs.UpFromLaws.{length_up_from}
+use Rattle.edit_log.proofs.UpFromLaws.{length_up_from}
 use Rattle.replication.proofs.ShownLaws.{Askable, waiting_askable}
-use Rattle.log.proofs.TransactionLaws.{handed_operations, length_transactions, transactions_at}
+use Rattle.edit_log.proofs.TransactionLaws.{handed_operations, length_transactions, transactions_at}
 use Rattle.machine.specs.Machine as Plain
 use Rattle.machine.specs.Machine.{Session, session, Machine, Step, commits}
 use Rattle.machine.proofs.Libraries.{L-from}

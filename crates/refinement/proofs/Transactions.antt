@@ -13,8 +13,8 @@ use Rattle.carts.proofs.TestLaws.{and_left, and_right, all_at, all_cons, all_nil
 use Rattle.carts.proofs.OperationLaws.{Operations}
 use Rattle.machine.proofs.Sort.{All}
 use Rattle.refinement.specs.Represents.{fields_form}
-use Rattle.log.specs.Log.{next_transaction, records_of, transactions_from, log_records}
-use Rattle.log.proofs.TransactionLaws.{length_handed_in}
+use Rattle.edit_log.specs.Log.{next_transaction, records_of, transactions_from, log_records}
+use Rattle.edit_log.proofs.TransactionLaws.{length_handed_in}
 
 -- the records of the transactions are those that the chain passes
 pub records_used_law : (n : ℕ) (log : List ℕ) (r : ℕ) → records_used (transactions_from n log r) ≡ length (log_records n log r)

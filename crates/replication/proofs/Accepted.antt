@@ -11,8 +11,8 @@ use borrow.Author.Tests.{eqb-true, eqb-false, ltb-true, ltb-false, leb-false, no
 use Rattle.carts.specs.Bytes.{within, all, every, any}
 use Rattle.carts.specs.Operation.{operation_form, spaced, operations_of, meets_all}
 use Rattle.carts.proofs.TestLaws.{all_at, and_left, and_right}
-use Rattle.log.specs.Log.{up_from}
-use Rattle.log.proofs.OnceLaws.{every_up_from}
+use Rattle.edit_log.specs.Log.{up_from}
+use Rattle.edit_log.proofs.OnceLaws.{every_up_from}
 use Rattle.replication.specs.Memory.{Memory, lengths_form, nth}
 use Rattle.replication.specs.Log.{no_room}
 use Rattle.replication.specs.Request.{Request, nothing, by_numbers, by_title, request_of, request_form, is_waiting, needed}

@@ -12,9 +12,9 @@ use Rattle.carts.proofs.TestLaws.{all_at, within_low, within_high}
 use Rattle.carts.proofs.OperationLaws.{forms_fields}
 use Rattle.replication.specs.Answer.{refused, done}
 use Rattle.replication.specs.Memory.{Memory, memory, copy_at, with_copy, session_at, with_number, studio_of}
-use Rattle.log.specs.Log.{follow}
-use Rattle.log.specs.Writes.{appended}
-use Rattle.log.specs.Values.{walkable, Takeable}
+use Rattle.edit_log.specs.Log.{follow}
+use Rattle.edit_log.specs.Writes.{appended}
+use Rattle.edit_log.specs.Values.{walkable, Takeable}
 use Rattle.replication.specs.Log.{log_count, no_room}
 use Rattle.replication.specs.Request.{request_of, is_waiting}
 use Rattle.replication.specs.Rows.{row, stopped, size_form, lengths_row, memory_rows, session_row, operation_rows, commit_rows, commit_stop}
@@ -23,8 +23,8 @@ use Rattle.replication.specs.declared.control.Control.{Control}
 use Rattle.replication.proofs.RowLaws.{lacks, row_stops, row_passes, session_numbered, unless_stopped, unless_accepted}
 use Rattle.replication.proofs.DecideLaws.{by_rest, by_own_rows, accepted}
 use Rattle.replication.proofs.Accepted.{commit_passed, CommitTold, commit_told}
-use Rattle.log.proofs.CommitLaws.{length_operations, free_takeable}
-use Rattle.log.proofs.FreeLaws.{first_small}
+use Rattle.edit_log.proofs.CommitLaws.{length_operations, free_takeable}
+use Rattle.edit_log.proofs.FreeLaws.{first_small}
 use Rattle.replication.proofs.SessionLaws.{session_placed}
 use Rattle.replication.proofs.LogLaws.{log_walkable}
 use Rattle.replication.proofs.Formed.{Formed, retired_known}

@@ -10,7 +10,7 @@ use Rattle.carts.specs.Operation.{operation_fields, operation_form, spaced, oper
 use Rattle.carts.specs.Transaction.{met_from}
 use Rattle.carts.proofs.Samples.{u32_bytes, operation, new_cart, withdraw_cart, top_hour_a, news, long_title}
 use Rattle.replication.specs.Memory.{session_at, with_session, sequence_of, with_sequence, studio_of}
-use Rattle.log.specs.Log.{up_from}
+use Rattle.edit_log.specs.Log.{up_from}
 use Rattle.replication.specs.Log.{log_count, no_room}
 use Rattle.replication.specs.Request.{nothing, by_numbers, by_title, numbers_in, request_of, numbers_form, request_fields, request_form, is_waiting, needed}
 use Rattle.replication.specs.Layout.{waiting_form, session_form, session_form_of, counts_form}

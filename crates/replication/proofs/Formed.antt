@@ -11,7 +11,7 @@ use lib.ListN.{length, get_or}
 use Rattle.carts.specs.Bytes.{within, all, every}
 use Rattle.carts.specs.Cart.{copy_form}
 use Rattle.replication.specs.Memory.{Memory, lengths_form, copy_at, session_at, nth, studio_of}
-use Rattle.log.specs.Chains.{chains_form}
+use Rattle.edit_log.specs.Chains.{chains_form}
 use Rattle.replication.specs.Log.{log_count}
 use Rattle.replication.specs.Layout.{replica_form, sixth_form, session_form, counts_form, layout_tests, of_layout}
 use Rattle.replication.specs.Calls.{committed}

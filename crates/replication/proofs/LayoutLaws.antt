@@ -11,7 +11,7 @@ use lib.Dec.{leb}
 use Rattle.carts.specs.Bytes.{part, within, all, every, each_part}
 use Rattle.carts.proofs.PartLaws.{length_part}
 use Rattle.replication.specs.Memory.{Memory, copy_at}
-use Rattle.log.specs.Chains.{chains_form}
+use Rattle.edit_log.specs.Chains.{chains_form}
 use Rattle.replication.specs.Log.{log_count}
 use Rattle.replication.specs.Layout.{replica_form, sixth_form, session_form, counts_form, layout_tests, of_layout}
 use Rattle.carts.proofs.TestLaws.{and_left, within_low, all_fails}

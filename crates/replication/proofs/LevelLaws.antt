@@ -10,10 +10,10 @@ use borrow.Author.Tests.{eq-eqb, ne_eqb}
 use Rattle.carts.specs.Bytes.{every, pairwise}
 use Rattle.carts.proofs.TestLaws.{pairwise_eq, pairwise_refl}
 use Rattle.replication.specs.Memory.{copy_at, nth}
-use Rattle.log.specs.Log.{up_from}
+use Rattle.edit_log.specs.Log.{up_from}
 use Rattle.replication.specs.Values.{is_level, are_level}
 use Rattle.replication.specs.declared.control.Control.{Control}
-use Rattle.log.proofs.OnceLaws.{up_from_every, every_up_from}
+use Rattle.edit_log.proofs.OnceLaws.{up_from_every, every_up_from}
 
 -- a studio: it has applied another number, or its copy is compared
 module _ (library copy : List ℕ) (n applied i : ℕ) where

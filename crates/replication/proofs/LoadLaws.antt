@@ -13,7 +13,7 @@ use Rattle.carts.specs.Bytes.{all, every, pairwise}
 use Rattle.carts.specs.Transaction.{Transaction, replay, LFrom, met_from}
 use Rattle.carts.proofs.TestLaws.{and_left, and_right, and_both, same_truth, all_at, all_cons, all_nil, pairwise_eq, pairwise_refl}
 use Rattle.replication.specs.Memory.{Memory, copy_at, nth}
-use Rattle.log.specs.Log.{up_from}
+use Rattle.edit_log.specs.Log.{up_from}
 use Rattle.replication.specs.Log.{log_count, logged}
 use Rattle.replication.specs.Answer.{refused, done}
 use Rattle.replication.specs.Rows.{stopped, memory_rows, load_rows, copies_form, load_stop}
@@ -26,8 +26,8 @@ use Rattle.replication.proofs.Formed.{Formed, Counts, counts_of, few, retired_kn
 use Rattle.replication.proofs.LevelLaws.{level_at_law, at_level}
 use Rattle.replication.proofs.LoadWalk.{replay_none, Made, walk_made, made_walk}
 use Rattle.replication.proofs.LogLaws.{log_inside}
-use Rattle.log.proofs.OnceLaws.{up_from_every, every_up_from}
-use Rattle.log.proofs.TransactionLaws.{length_transactions}
+use Rattle.edit_log.proofs.OnceLaws.{up_from_every, every_up_from}
+use Rattle.edit_log.proofs.TransactionLaws.{length_transactions}
 
 -- the whole call
 module _ (c : Control) (m : Memory) (v : ℕ) (e : v ≡ load_stop c m) where

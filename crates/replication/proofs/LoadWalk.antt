@@ -14,14 +14,14 @@ use Rattle.carts.specs.Transaction.{Transaction, replay, met_from}
 use Rattle.carts.proofs.TestLaws.{and_left, and_right, and_both, within_low, within_high, every_map, pairwise_eq, pairwise_refl}
 use Rattle.carts.proofs.ScanLaws.{every_implied}
 use Rattle.replication.specs.Memory.{copy_at, nth}
-use Rattle.log.specs.Log.{record_at, next_transaction, records_of, transaction_at, handed_in, transactions_from, log_records}
-use Rattle.log.specs.Values.{usable}
+use Rattle.edit_log.specs.Log.{record_at, next_transaction, records_of, transaction_at, handed_in, transactions_from, log_records}
+use Rattle.edit_log.specs.Values.{usable}
 use Rattle.replication.specs.Values.{are_level, whole_from}
 use Rattle.replication.specs.declared.control.Control.{Control}
 use Rattle.replication.proofs.LevelLaws.{level_at_law, at_level}
-use Rattle.log.proofs.ListLaws.{every_first, every_last}
-use Rattle.log.proofs.TransactionLaws.{handed_meets_all, handed_act_all}
-use Rattle.log.proofs.WriteLaws.{length_record}
+use Rattle.edit_log.proofs.ListLaws.{every_first, every_last}
+use Rattle.edit_log.proofs.TransactionLaws.{handed_meets_all, handed_act_all}
+use Rattle.edit_log.proofs.WriteLaws.{length_record}
 
 -- no transaction leaves a copy as it is
 pub replay_none : (copy : List ℕ) (log : List Transaction) → copy ≡ replay copy (take 0 log)

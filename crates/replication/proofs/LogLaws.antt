@@ -9,16 +9,16 @@ use lib.Dec.{eqb}
 use Rattle.carts.specs.Bytes.{within, every}
 use Rattle.carts.specs.Transaction.{Transaction}
 use Rattle.carts.proofs.OperationLaws.{Operations}
-use Rattle.log.specs.Log.{records_of, transaction_at, handed_in, transactions_from, log_records, next_transaction, walk, follow, front, back}
-use Rattle.log.specs.Chains.{chains_form}
-use Rattle.log.specs.Writes.{appended, released}
-use Rattle.log.specs.Values.{usable, walkable, Takeable, Ending}
-use Rattle.log.proofs.ReachLaws as Reach
-use Rattle.log.proofs.AppendLaws.{append_texts}
-use Rattle.log.proofs.RetireLaws.{retire_kept, retire_texts}
-use Rattle.log.proofs.CommitLaws.{free_takeable, commit_kept}
-use Rattle.log.proofs.WriteLaws.{Givens}
-use Rattle.log.proofs.SizeLaws.{length_appended, length_released}
+use Rattle.edit_log.specs.Log.{records_of, transaction_at, handed_in, transactions_from, log_records, next_transaction, walk, follow, front, back}
+use Rattle.edit_log.specs.Chains.{chains_form}
+use Rattle.edit_log.specs.Writes.{appended, released}
+use Rattle.edit_log.specs.Values.{usable, walkable, Takeable, Ending}
+use Rattle.edit_log.proofs.ReachLaws as Reach
+use Rattle.edit_log.proofs.AppendLaws.{append_texts}
+use Rattle.edit_log.proofs.RetireLaws.{retire_kept, retire_texts}
+use Rattle.edit_log.proofs.CommitLaws.{free_takeable, commit_kept}
+use Rattle.edit_log.proofs.WriteLaws.{Givens}
+use Rattle.edit_log.proofs.SizeLaws.{length_appended, length_released}
 use Rattle.replication.specs.Memory.{Memory}
 use Rattle.replication.specs.Log.{log_count, logged}
 use Rattle.replication.specs.Calls.{committed, retired_control}

@@ -15,7 +15,7 @@ use Rattle.carts.proofs.OperationLaws.{sizes_first}
 use Rattle.replication.specs.Log.{log_count, transaction_after, logged}
 use Rattle.replication.specs.Message.{joined, message_of, message_in}
 use Rattle.replication.specs.declared.control.Control.{Control}
-use Rattle.log.proofs.TransactionLaws.{transactions_at}
+use Rattle.edit_log.proofs.TransactionLaws.{transactions_at}
 
 -- how many bytes the operations are, and taken apart again
 pub length_joined : (t : Transaction) → every (λ op. eqb (length op) 80) t ≡ true → length (joined t) ≡ 80 * length t

@@ -10,8 +10,8 @@ use Rattle.carts.specs.Bytes.{over, every}
 use Rattle.carts.specs.Operation.{act_all}
 use Rattle.replication.specs.Answer.{refused, done}
 use Rattle.replication.specs.Memory.{Memory, memory, nth, copy_at, with_copy}
-use Rattle.log.specs.Log.{records_of, transaction_at, walk}
-use Rattle.log.specs.Values.{usable, walkable}
+use Rattle.edit_log.specs.Log.{records_of, transaction_at, walk}
+use Rattle.edit_log.specs.Values.{usable, walkable}
 use Rattle.replication.specs.Log.{log_count, transaction_after}
 use Rattle.replication.specs.Rows.{refresh_stop}
 use Rattle.replication.specs.Calls.{after, refresh, with_applied}

@@ -9,12 +9,12 @@ use lib.ListN.{length, length-append}
 use borrow.Author.Tests.{lt-ltb, le-ltb}
 use Rattle.carts.specs.Bytes.{every}
 use Rattle.carts.specs.Operation.{act_all}
-use Rattle.log.specs.Log.{records_of, transaction_at, log_records, next_transaction, walk, up_from}
-use Rattle.log.specs.Writes.{released}
-use Rattle.log.specs.Values.{usable, Ending, freed_of}
-use Rattle.log.specs.declared.free.Freed.{Freed}
-use Rattle.log.proofs.FreeLaws.{can_retire, last_small}
-use Rattle.log.proofs.WalkLaws.{walk_here}
+use Rattle.edit_log.specs.Log.{records_of, transaction_at, log_records, next_transaction, walk, up_from}
+use Rattle.edit_log.specs.Writes.{released}
+use Rattle.edit_log.specs.Values.{usable, Ending, freed_of}
+use Rattle.edit_log.specs.declared.free.Freed.{Freed}
+use Rattle.edit_log.proofs.FreeLaws.{can_retire, last_small}
+use Rattle.edit_log.proofs.WalkLaws.{walk_here}
 use Rattle.replication.specs.Answer.{refused, done}
 use Rattle.replication.specs.Memory.{Memory, memory, sixth, nth, copy_at, with_copy}
 use Rattle.replication.specs.Log.{log_count}

@@ -10,7 +10,7 @@ use Rattle.carts.specs.Bytes.{zeros, within, all, every}
 use Rattle.carts.proofs.TestLaws.{all_fails}
 use Rattle.replication.specs.Answer.{refused, done}
 use Rattle.replication.specs.Memory.{Memory, memory, lengths_form}
-use Rattle.log.specs.Writes.{fresh_log}
+use Rattle.edit_log.specs.Writes.{fresh_log}
 use Rattle.replication.specs.Rows.{stopped, lengths_row, setup_rows, setup_stop}
 use Rattle.replication.specs.Calls.{after, control_of, fresh_memory, setup}
 use Rattle.replication.specs.declared.control.Control.{Control}

@@ -6,8 +6,8 @@ use Rattle.carts.specs.Bytes.{zeros, over}
 use Rattle.carts.specs.Operation.{operations_of, act_all}
 use Rattle.replication.specs.Answer.{Answer, refused, done, waits, answered}
 use Rattle.replication.specs.Memory.{Memory, memory, library_size, sixth, sessions_size, session_size, session_count, studio_count, copy_at, with_copy, session_at, with_session, sequence_of, with_sequence, with_number, nth, studio_of}
-use Rattle.log.specs.Log.{record_count, records_of, transaction_at, next_transaction, follow, back}
-use Rattle.log.specs.Writes.{fresh_log, appended, released}
+use Rattle.edit_log.specs.Log.{record_count, records_of, transaction_at, next_transaction, follow, back}
+use Rattle.edit_log.specs.Writes.{fresh_log, appended, released}
 use Rattle.replication.specs.Log.{log_count, transaction_after}
 use Rattle.replication.specs.Message.{message_in}
 use Rattle.replication.specs.Request.{Request, request_of, needed, found_in, shown_from}

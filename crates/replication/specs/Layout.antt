@@ -3,7 +3,7 @@ use Rattle.std.specs.Prelude.{Bool, cond, List, [], ◌∷◌, ℕ, ◌+◌, ◌
 use Rattle.carts.specs.Bytes.{part, byte, within, all, every, all_zero, each_part}
 use Rattle.carts.specs.Cart.{title_size, number_at, title_at, copy_size, copy_form}
 use Rattle.replication.specs.Memory.{Memory, copy_count, sixth, most_commits, session_size, session_count, studio_count, window, copy_at, sequence_of, nth, studio_of}
-use Rattle.log.specs.Chains.{chains_form}
+use Rattle.edit_log.specs.Chains.{chains_form}
 use Rattle.replication.specs.Log.{log_count}
 use Rattle.replication.specs.Request.{request_fields}
 use Rattle.replication.specs.declared.control.Control.{Control}

@@ -1,7 +1,7 @@
 -- The log by control: documents 01 and 02, S-9. Records, chains and what is written to them: crate log.
 use Rattle.std.specs.Prelude.{Bool, ◌||◌, List, ℕ, ◌+◌, ◌-◌, leb, ltb}
 use Rattle.carts.specs.Transaction.{Transaction}
-use Rattle.log.specs.Log.{record_count, transaction_at, transactions_from, walk}
+use Rattle.edit_log.specs.Log.{record_count, transaction_at, transactions_from, walk}
 use Rattle.replication.specs.Memory.{most_commits}
 use Rattle.replication.specs.declared.control.Control.{Control}
 

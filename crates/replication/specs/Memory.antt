@@ -2,7 +2,7 @@
 use Rattle.std.specs.Prelude.{◌≡◌, Bool, List, [], ◌∷◌, ℕ, ◌*◌, ◌-◌, length, get_or, eqb}
 use Rattle.carts.specs.Bytes.{part, over, u16, u16_bytes, all}
 use Rattle.carts.specs.Cart.{copy_size, number_at}
-use Rattle.log.specs.Log.{log_size}
+use Rattle.edit_log.specs.Log.{log_size}
 use Rattle.replication.specs.declared.control.Control.{Control}
 
 pub record Memory : Type 0 where

@@ -2,7 +2,7 @@
 use Rattle.std.specs.Prelude.{List, [], ◌∷◌, ◌++◌, map, ℕ, ◌-◌, length}
 use Rattle.carts.specs.Bytes.{u16_bytes}
 use Rattle.carts.specs.Transaction.{Transaction}
-use Rattle.log.specs.Log.{handed_in}
+use Rattle.edit_log.specs.Log.{handed_in}
 use Rattle.replication.specs.Log.{transaction_after}
 use Rattle.replication.specs.declared.control.Control.{Control}
 

@@ -7,7 +7,7 @@ use Rattle.carts.specs.Cart.{cart_size}
 use Rattle.carts.specs.Operation.{operation_form, spaced, operations_of, meets_all}
 use Rattle.carts.specs.Transaction.{Transaction, LFrom, met_from}
 use Rattle.replication.specs.Memory.{Memory, sixth, session_count, studio_count, window, lengths_form, copy_at, nth, studio_of}
-use Rattle.log.specs.Log.{most_operations, up_from}
+use Rattle.edit_log.specs.Log.{most_operations, up_from}
 use Rattle.replication.specs.Log.{logged, no_room}
 use Rattle.replication.specs.Message.{message_in}
 use Rattle.replication.specs.Request.{Request, request_of, request_form, is_waiting, needed, waiting_in}

@@ -3,7 +3,7 @@ use Rattle.std.specs.Prelude.{Bool, true, false, cond, ◌&&◌, List, [], ◌�
 use Rattle.carts.specs.Bytes.{byte, every, pairwise}
 use Rattle.carts.specs.Cart.{cart_size}
 use Rattle.carts.specs.Operation.{meets_all, act_all}
-use Rattle.log.specs.Log.{next_transaction, transaction_at, up_from}
+use Rattle.edit_log.specs.Log.{next_transaction, transaction_at, up_from}
 use Rattle.replication.specs.Memory.{Memory, copy_at, session_at, sequence_of, nth, studio_of}
 use Rattle.replication.specs.Request.{Request}
 use Rattle.replication.specs.Calls.{After, number_after, answer_from}

@@ -2,7 +2,7 @@
 ghost use Rattle.std.specs.Prelude.{◌≡◌, [], ◌<◌, ◌≤◌, length};
 ghost use Rattle.replication.specs.Answer.{count_answer};
 ghost use Rattle.replication.specs.Memory.{memory, sessions_size, session_count, session_at};
-ghost use Rattle.log.specs.Log.{record_count};
+ghost use Rattle.edit_log.specs.Log.{record_count};
 ghost use Rattle.carts.specs.Cart.{copy_size};
 ghost use Rattle.replication.specs.Request.{request_of, is_waiting};
 ghost use Rattle.replication.specs.Rows.{stopped, size_form, operation_rows, commit_stop};
@@ -14,8 +14,8 @@ use crate::session::Session;
 use crate::{rows, session};
 use carts::cart::Cart;
 use carts::operation;
-use log::append;
-use log::record::Record;
+use edit_log::append;
+use edit_log::record::Record;
 
 // The bytes are those of 1 to 8 operations.
 fn is_size(operations: &[u8]) -> bool

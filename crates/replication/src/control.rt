@@ -1,13 +1,13 @@
 // Control: the counts that a caller passes by value and is handed back.
 ghost use Rattle.std.specs.Prelude.{◌≡◌, cond, ◌+◌, ◌-◌, ◌≤◌, leb, eqb, length};
 ghost use Rattle.carts.specs.Bytes.{every};
-ghost use Rattle.log.specs.Log.{record_count};
+ghost use Rattle.edit_log.specs.Log.{record_count};
 ghost use Rattle.replication.specs.Memory.{session_count, studio_count, most_commits, studio_of, nth};
 ghost use Rattle.replication.specs.Log.{log_count};
 ghost use Rattle.replication.specs.Layout.{counts_form};
 ghost use Rattle.replication.specs.Calls.{control_of, committed, with_log, with_sent, with_applied, with_studio};
 
-use log::free::Freed;
+use edit_log::free::Freed;
 
 // Sizes are document 01's. Any value may stand in any field: each has its answer.
 #[repr(C)]

@@ -2,7 +2,7 @@
 ghost use Rattle.std.specs.Prelude.{◌≡◌, length, [], ◌∷◌};
 ghost use Rattle.carts.specs.Bytes.{every, each_part};
 ghost use Rattle.replication.specs.Memory.{memory, library_size, copy_count, session_size, sessions_size, session_count};
-ghost use Rattle.log.specs.Log.{log_size};
+ghost use Rattle.edit_log.specs.Log.{log_size};
 ghost use Rattle.carts.specs.Cart.{copy_size};
 ghost use Rattle.replication.specs.Layout.{replica_form, sixth_form, session_form, counts_form, of_layout};
 
@@ -10,7 +10,7 @@ use crate::control::Control;
 use crate::session::Session;
 use crate::{copies, session};
 use carts::{bytes, cart};
-use log::chain;
+use edit_log::chain;
 
 // Copy i of a system of so many studios is of its form: carts, or zeros above the last studio.
 fn is_replica(copy: &[u8], i: u32, studios: u32) -> bool

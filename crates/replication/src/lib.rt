@@ -1,4 +1,6 @@
 // Sessions and studios of document 01: control, and what the calls answer.
+#![tactic(auto)]
+
 pub mod answer;
 pub mod block;
 pub mod collect;

@@ -4,8 +4,8 @@ ghost use Rattle.carts.specs.Bytes.{every};
 ghost use Rattle.carts.specs.Cart.{copy_size};
 ghost use Rattle.replication.specs.Answer.{count_answer};
 ghost use Rattle.replication.specs.Memory.{memory, library_size, studio_count};
-ghost use Rattle.log.specs.Log.{log_size, log_records};
-ghost use Rattle.log.specs.Values.{usable, walkable};
+ghost use Rattle.edit_log.specs.Log.{log_size, log_records};
+ghost use Rattle.edit_log.specs.Values.{usable, walkable};
 ghost use Rattle.replication.specs.Log.{log_count};
 ghost use Rattle.replication.specs.Rows.{load_stop};
 ghost use Rattle.replication.specs.Calls.{after, load};
@@ -16,8 +16,8 @@ use crate::control::Control;
 use crate::{copies, rows};
 use carts::bytes;
 use carts::cart::Cart;
-use log::record::Record;
-use log::transaction;
+use edit_log::record::Record;
+use edit_log::transaction;
 
 // Studio i has this copy, if what it has applied is n.
 fn is_level(library: &[u8], copy: &[u8], n: u32, applied: u32, i: u32) -> bool

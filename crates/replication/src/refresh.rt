@@ -9,7 +9,7 @@ use crate::answer::{CountAnswer, CountResult};
 use crate::control::Control;
 use crate::{rows, walk};
 use carts::cart::Cart;
-use log::transaction;
+use edit_log::transaction;
 
 // The number of the row that stops a refresh, or 0.
 pub fn decide_refresh(

@@ -2,8 +2,8 @@
 ghost use Rattle.std.specs.Prelude.{◌≡◌, true, [], ◌≤◌, ltb, length};
 ghost use Rattle.carts.specs.Bytes.{every};
 ghost use Rattle.carts.specs.Operation.{act_all};
-ghost use Rattle.log.specs.Log.{log_size, records_of, transaction_at, up_from};
-ghost use Rattle.log.specs.Values.{usable};
+ghost use Rattle.edit_log.specs.Log.{log_size, records_of, transaction_at, up_from};
+ghost use Rattle.edit_log.specs.Values.{usable};
 ghost use Rattle.replication.specs.Answer.{count_answer};
 ghost use Rattle.replication.specs.Memory.{memory, library_size, sixth, studio_count, copy_at, with_copy, nth};
 ghost use Rattle.replication.specs.Rows.{retire_stop};
@@ -12,8 +12,8 @@ ghost use Rattle.replication.specs.Calls.{after, retire};
 use crate::answer::{CountAnswer, CountResult};
 use crate::control::Control;
 use crate::rows;
-use log::record::Record;
-use log::{free, transaction};
+use edit_log::record::Record;
+use edit_log::{free, transaction};
 
 // Every studio has applied the oldest transaction of the log.
 fn have_applied(control: Control) -> bool

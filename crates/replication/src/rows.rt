@@ -6,7 +6,7 @@ ghost use Rattle.replication.specs.Rows.{stopped, memory_rows, session_row, stud
 use crate::control::Control;
 use crate::layout;
 use crate::session::Session;
-use log::record::Record;
+use edit_log::record::Record;
 
 // The three memories have their lengths.
 pub fn are_lengths(library: &[u8], log: &[u8], sessions: &[u8]) -> bool

@@ -7,7 +7,7 @@ ghost use Rattle.replication.specs.Values.{session_value, waits_by, needed_by};
 
 use carts::cart::Cart;
 use carts::{bytes, cart};
-use log::cell;
+use edit_log::cell;
 
 // The read that a session has waiting: nothing, a count of numbers, or the length of a title. Their bytes stay beside it.
 #[derive(Drop)]

@@ -10,8 +10,8 @@ use crate::answer::{SetupAnswer, SetupResult};
 use crate::control::Control;
 use crate::rows;
 use carts::bytes;
-use log::fresh;
-use log::record::Record;
+use edit_log::fresh;
+use edit_log::record::Record;
 
 // Each byte is at most the number of studios.
 fn are_studios(places: &[u8], studios: u32) -> bool

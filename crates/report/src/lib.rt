@@ -1,4 +1,6 @@
 // What came of a line; carts, the state and the whole transcript: in words, and printed.
+#![tactic(auto)]
+
 pub mod answered;
 pub mod cart;
 pub mod known;

@@ -1,5 +1,7 @@
 // The engine for C and Rust: include/sulyobak.h says the same to C. Each function passes its arguments on and hands the answer back as
 // words; no test is left to the caller.
+#![tactic(auto)]
+
 ghost use Rattle.std.specs.Prelude.{◌≡◌, []};
 ghost use Rattle.replication.specs.Memory.{memory};
 ghost use Rattle.replication.specs.Calls.{setup, commit, preview, send, refresh, read, collect, forward, write, move, load, retire};

@@ -8,11 +8,11 @@ use native.Mathlib.Nat.{sub-zero}
 use lib.ListN.{length, take, drop, take-append-drop}
 use Rattle.carts.specs.Bytes.{zeros, over, every}
 use Rattle.carts.proofs.PartLaws.{length_part, over_whole}
-use Rattle.log.specs.Log.{record_at, next_operation, chain, handed_in}
+use Rattle.edit_log.specs.Log.{record_at, next_operation, chain, handed_in}
 use Rattle.replication.specs.Message.{joined}
-use Rattle.log.specs.Values.{usable}
-use Rattle.log.proofs.ChainLaws.{chain_cons, chain_zero}
-use Rattle.log.proofs.TransactionLaws.{Usable, usable_here, usable_later}
+use Rattle.edit_log.specs.Values.{usable}
+use Rattle.edit_log.proofs.ChainLaws.{chain_cons, chain_zero}
+use Rattle.edit_log.proofs.TransactionLaws.{Usable, usable_here, usable_later}
 use Rattle.replication.proofs.OutputLaws.{part_more}
 
 -- a record that is copied, and its links cleared

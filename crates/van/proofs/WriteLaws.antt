@@ -14,18 +14,18 @@ use Rattle.carts.proofs.TestLaws.{within_low, within_high}
 use Rattle.replication.specs.Answer.{refused, done}
 use Rattle.replication.specs.Memory.{Memory}
 use Rattle.replication.specs.Log.{log_count, transaction_after}
-use Rattle.log.specs.Log.{walk, records_of, transaction_at, handed_in}
+use Rattle.edit_log.specs.Log.{walk, records_of, transaction_at, handed_in}
 use Rattle.replication.specs.Message.{joined, message_of, message_in}
 use Rattle.replication.specs.Rows.{Row, row, stopped, unless, memory_rows, write_rows, write_stop}
 use Rattle.replication.specs.Calls.{after, write}
-use Rattle.log.specs.Values.{usable, walkable}
+use Rattle.edit_log.specs.Values.{usable, walkable}
 use Rattle.replication.specs.declared.control.Control.{Control}
 use Rattle.replication.proofs.RowLaws.{row_stops, row_passes, wider, passed, later_stops, decides, memory_numbered, unless_stopped}
 use Rattle.replication.proofs.DecideLaws.{accepted}
 use Rattle.replication.proofs.OutputLaws.{over_beside}
 use Rattle.replication.proofs.LogLaws.{log_walkable, transaction_usable, transaction_length, transaction_operations}
 use Rattle.replication.proofs.Formed.{Formed}
-use Rattle.log.proofs.TransactionLaws.{length_handed_in, handed_operations}
+use Rattle.edit_log.proofs.TransactionLaws.{length_handed_in, handed_operations}
 use Rattle.replication.proofs.MessageLaws.{length_joined, not_retired}
 
 -- the part of output that the operations are written to

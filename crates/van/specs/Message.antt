@@ -4,7 +4,7 @@ use Rattle.carts.specs.Bytes.{byte, u16, within, all, every}
 use Rattle.carts.specs.Cart.{cart_size}
 use Rattle.carts.specs.Operation.{operation_form, operations_of}
 use Rattle.carts.specs.Transaction.{Transaction}
-use Rattle.log.specs.Log.{most_operations}
+use Rattle.edit_log.specs.Log.{most_operations}
 
 -- "transaction number (u16, ..), operation count (one byte, ..), a zero byte, then the operations": where they begin
 abbrev pub head_size : ℕ

@@ -5,7 +5,7 @@ ghost use Rattle.van.specs.Message.{head_size, message_number, head_form, messag
 
 use carts::cart::Cart;
 use carts::{bytes, operation};
-use log::record::Record;
+use edit_log::record::Record;
 
 // Where the parts of a message begin: a u16, the count of operations, a zero, and then the operations.
 pub const HEAD_SIZE: usize = 4;

@@ -2,14 +2,14 @@
 ghost use Rattle.std.specs.Prelude.{◌≡◌, true, map, ◌*◌, length};
 ghost use Rattle.carts.specs.Bytes.{every};
 ghost use Rattle.carts.specs.Cart.{cart_size};
-ghost use Rattle.log.specs.Log.{log_size, record_size, records_of, transaction_at, handed_in};
+ghost use Rattle.edit_log.specs.Log.{log_size, record_size, records_of, transaction_at, handed_in};
 ghost use Rattle.replication.specs.Message.{joined};
-ghost use Rattle.log.specs.Values.{usable};
+ghost use Rattle.edit_log.specs.Values.{usable};
 
 use carts::bytes;
 use carts::cart::Cart;
-use log::record;
-use log::record::Record;
+use edit_log::record;
+use edit_log::record::Record;
 
 // How many operations the transaction whose first record is `first` has.
 pub fn count_operations(log: &[u8], first: u32) -> u32

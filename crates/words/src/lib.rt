@@ -1,4 +1,6 @@
 // Text at the start of a lent page: words and numbers, and what came of an accepted call; and a page on standard output.
+#![tactic(auto)]
+
 pub mod answer;
 pub mod line;
 pub mod page;

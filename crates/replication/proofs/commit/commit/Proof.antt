@@ -2,7 +2,7 @@ use native.Mathlib.Omega.{arith}
 use mathlib.Core.Path.{ap, ◌∙◌}
 use Prim.Native.Nat.{ℕ}
 use Rattle.carts.specs.Operation.{operations_of}
-use Rattle.log.specs.Writes.{appended}
+use Rattle.edit_log.specs.Writes.{appended}
 use Rattle.carts.proofs.PartLaws.{length_part}
 use Rattle.replication.specs.Memory.{memory}
 use Rattle.replication.proofs.CommitLaws.{Known, told_known, commit_refused, commit_known, next_small, commit_accepted}

@@ -1,6 +1,6 @@
 use mathlib.Core.Path.{◌≡◌, sym, ap, ◌∙◌}
 use Prim.Native.Nat.{ℕ}
-use Rattle.log.specs.Chains.{chains_form}
+use Rattle.edit_log.specs.Chains.{chains_form}
 use Rattle.replication.specs.Log.{log_count}
 use borrow.Author.Tests.{not-true, not-false, le-leb, lt-leb}
 use Rattle.replication.specs.Memory.{copy_at}

@@ -5,9 +5,9 @@ use native.Mathlib.Omega.{arith}
 use lib.ListN.{get_or}
 use Rattle.carts.specs.Bytes.{every}
 use Rattle.carts.proofs.ScanLaws.{test_more, test_end}
-use Rattle.log.specs.Log.{up_from}
+use Rattle.edit_log.specs.Log.{up_from}
 use Rattle.replication.specs.Values.{is_level, are_level}
-use Rattle.log.proofs.UpFromLaws.{up_next, up_end}
+use Rattle.edit_log.proofs.UpFromLaws.{up_next, up_end}
 use Rattle.replication.proofs.LevelLaws.{level_at, level_studios}
 use Rattle.replication.proofs.load.are_level.Statement.{statement}
 use Rattle.replication.proofs.load.are_level.Tie as tie

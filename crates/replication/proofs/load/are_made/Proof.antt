@@ -8,13 +8,13 @@ use lib.ListN.{length}
 use borrow.Author.Rules.{rules}
 use lib.Dec.{eqb}
 use Rattle.carts.specs.Bytes.{every, pairwise}
-use Rattle.log.specs.Log.{log_records}
-use Rattle.log.specs.Values.{usable, walkable}
-use Rattle.log.specs.declared.record.Record.{Record}
+use Rattle.edit_log.specs.Log.{log_records}
+use Rattle.edit_log.specs.Values.{usable, walkable}
+use Rattle.edit_log.specs.declared.record.Record.{Record}
 use Rattle.replication.specs.Log.{log_count}
 use Rattle.replication.specs.Values.{are_level, whole_from}
 use Rattle.carts.proofs.ScanLaws.{test_more}
-use Rattle.log.proofs.WalkLaws.{walk_here, walk_later}
+use Rattle.edit_log.proofs.WalkLaws.{walk_here, walk_later}
 use Rattle.replication.proofs.LoadWalk.{usable_own, usable_rest, whole_next, whole_end}
 use Rattle.replication.proofs.load.are_made.Statement.{statement}
 use Rattle.replication.proofs.load.are_made.Tie as tie

@@ -6,8 +6,8 @@ use lib.Dec.{ltb}
 use lib.ListN.{get_or}
 use Rattle.carts.specs.Bytes.{every}
 use Rattle.carts.proofs.ScanLaws.{test_more, test_end}
-use Rattle.log.specs.Log.{up_from}
-use Rattle.log.proofs.UpFromLaws.{up_next, up_end}
+use Rattle.edit_log.specs.Log.{up_from}
+use Rattle.edit_log.proofs.UpFromLaws.{up_next, up_end}
 use Rattle.replication.specs.Memory.{nth}
 use Rattle.replication.specs.declared.control.Control.{Control}
 use Rattle.replication.proofs.RetireLaws.{applied_by, applied_studios}

@@ -1,7 +1,7 @@
 use mathlib.Core.Path.{ap}
 use native.Mathlib.Omega.{arith}
 use borrow.Author.Rules.{rules}
-use Rattle.log.specs.declared.record.Record.{Record}
+use Rattle.edit_log.specs.declared.record.Record.{Record}
 use Rattle.replication.specs.Memory.{memory}
 use Rattle.replication.proofs.RetireLaws.{Retirable, retire_refused, retire_known, retire_accepted}
 use Rattle.replication.proofs.retire.retire.Statement.{statement}

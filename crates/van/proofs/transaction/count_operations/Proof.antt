@@ -5,9 +5,9 @@ use Prim.Native.Nat.{◌+◌, ◌-◌, ◌≤◌}
 use native.Mathlib.Omega.{arith}
 use lib.ListN.{length}
 use Rattle.carts.specs.Bytes.{every}
-use Rattle.log.specs.Log.{records_of}
-use Rattle.log.specs.Values.{usable}
-use Rattle.log.specs.declared.record.Record.{Record}
+use Rattle.edit_log.specs.Log.{records_of}
+use Rattle.edit_log.specs.Values.{usable}
+use Rattle.edit_log.specs.declared.record.Record.{Record}
 use Rattle.van.proofs.TransactionLaws.{Left, counted, counted_all, next_length, here, later}
 use Rattle.van.proofs.transaction.count_operations.Statement.{statement}
 use Rattle.van.proofs.transaction.count_operations.Tie as tie

@@ -7,12 +7,12 @@ use native.Mathlib.Omega.{arith}
 use borrow.Rule.Slice.PartMut.{same_len_mid}
 use lib.ListN.{length}
 use Rattle.carts.specs.Bytes.{over, every}
-use Rattle.log.specs.Log.{records_of, transaction_at, handed_in}
+use Rattle.edit_log.specs.Log.{records_of, transaction_at, handed_in}
 use Rattle.replication.specs.Message.{joined}
-use Rattle.log.specs.Values.{usable}
-use Rattle.log.specs.declared.record.Record.{Record}
+use Rattle.edit_log.specs.Values.{usable}
+use Rattle.edit_log.specs.declared.record.Record.{Record}
 use Rattle.replication.proofs.LayoutLaws.{length_lent}
-use Rattle.log.proofs.TransactionLaws.{Usable}
+use Rattle.edit_log.proofs.TransactionLaws.{Usable}
 use Rattle.van.proofs.TransactionLaws.{Left, Texts, some_left, less_left, here, later, all_left, whole_parts, some_of, put_start, put_more, put_end}
 use Rattle.van.proofs.transaction.put_operations.Statement.{statement}
 use Rattle.van.proofs.transaction.put_operations.Tie as tie

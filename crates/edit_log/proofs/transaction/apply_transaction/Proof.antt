@@ -1,0 +1,15 @@
+use borrow.Author.Rules.{rules}
+use Rattle.edit_log.proofs.transaction.apply_transaction.Statement.{statement}
+use Rattle.edit_log.proofs.transaction.apply_transaction.Tie as tie
+
+try-transaction-requires : tie.Need-try-transaction-requires
+try-transaction-requires c κs = search rules
+
+same_length : tie.Need-same-length
+same_length c = search rules
+
+returns : tie.Need-returns
+returns c = c.before.before.try-transaction.ensures.1
+
+pub apply-transaction-spec : {M : Type 1} → statement M
+apply-transaction-spec = tie.close (tie.spec try-transaction-requires same_length returns)

@@ -1,9 +1,0 @@
-// The log of documents 01 and 02: its records and two chains, the walk, and what setup, commit and retire write.
-pub mod append;
-pub mod cell;
-pub mod chain;
-pub mod free;
-pub mod fresh;
-pub mod record;
-pub mod transaction;
-pub mod walk;
