@@ -9,41 +9,39 @@ use native.Mathlib.Omega.{arith}
 use Rattle.carts.proofs.bytes.all_printable.Statement.{statement}
 use Rattle.carts.proofs.bytes.all_printable.Tie as tie
 
-abbrev invariant-loop : tie.invariant-loop
-invariant-loop s ok₀ i₀ ok i = (i ≤ length s) × (every printable s ≡ (ok && every printable (drop i s)))
+abbrev invariant-loop-i : tie.invariant-loop-i
+invariant-loop-i s ok₀ i₀ ok i = (i ≤ length s) × (every printable s ≡ (ok && every printable (drop i s)))
 
-abbrev decreases-loop : tie.decreases-loop
-decreases-loop s ok₀ i₀ ok i = length s - i
+abbrev decreases-loop-i : tie.decreases-loop-i
+decreases-loop-i s ok₀ i₀ ok i = length s - i
 
-loop-holds : tie.Need-loop-init invariant-loop decreases-loop
+loop-holds : tie.Need-loop-i-init invariant-loop-i decreases-loop-i
 loop-holds c = (omega arith, refl)
 
-shared-slice-read-is-printable : tie.Need-shared-slice-read-is-printable invariant-loop decreases-loop
+shared-slice-read-is-printable : tie.Need-bounds-s-i invariant-loop-i decreases-loop-i
 shared-slice-read-is-printable c = omega arith
 
-is-printable-requires : tie.Need-is-printable-requires invariant-loop decreases-loop
+is-printable-requires : tie.Need-is_printable-ok-requires invariant-loop-i decreases-loop-i
 is-printable-requires c κs = tt
 
-add-i : tie.Need-overflow-add-i invariant-loop decreases-loop
+add-i : tie.Need-overflow_add-i invariant-loop-i decreases-loop-i
 add-i c = omega arith
 
-loop-less : tie.Need-loop-smaller invariant-loop decreases-loop
+loop-less : tie.Need-loop-i-smaller invariant-loop-i decreases-loop-i
 loop-less c = omega arith
 
-loop-again : tie.Need-loop-preserved invariant-loop decreases-loop
-loop-again c = let t = c.before.before.before in
-    (omega arith, every_more printable t.before.before.args.s.now t.loop.i t.loop.ok (omega arith) t.loop.invariant.1 (ap (λ b. t.loop.ok && b) c.is-printable.ensures))
+loop-again : tie.Need-loop-i-preserved invariant-loop-i decreases-loop-i
+loop-again c = (omega arith, every_more printable c.args.s.now c.loop-i.i c.loop-i.ok (omega arith) c.loop-i.invariant.1 (ap (λ b. c.loop-i.ok && b) c.is_printable-ok.ensures))
 
-returns : tie.Need-returns invariant-loop decreases-loop
-returns c = let t = c.before in
-    every_done printable t.before.before.args.s.now t.loop.i t.loop.ok (omega arith) t.loop.invariant.1
+returns : tie.Need-returns invariant-loop-i decreases-loop-i
+returns c = every_done printable c.args.s.now c.loop-i.i c.loop-i.ok (omega arith) c.loop-i.invariant.1
 
-pub all-printable-spec : {M : Type 1} → statement M
-all-printable-spec =
+pub all_printable_spec : {M : Type 1} → statement M
+all_printable_spec =
     tie.close
     (tie.spec
-    invariant-loop
-    decreases-loop
+    invariant-loop-i
+    decreases-loop-i
     loop-holds
     shared-slice-read-is-printable
     is-printable-requires

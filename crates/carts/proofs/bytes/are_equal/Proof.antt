@@ -9,43 +9,41 @@ use native.Mathlib.Omega.{arith}
 use Rattle.carts.proofs.bytes.are_equal.Statement.{statement}
 use Rattle.carts.proofs.bytes.are_equal.Tie as tie
 
-abbrev invariant-loop : tie.invariant-loop
-invariant-loop a b ok₀ i₀ ok i = (i ≤ length a) × (pairwise eqb a b ≡ (ok && pairwise eqb (drop i a) (drop i b)))
+abbrev invariant-loop-i : tie.invariant-loop-i
+invariant-loop-i a b ok₀ i₀ ok i = (i ≤ length a) × (pairwise eqb a b ≡ (ok && pairwise eqb (drop i a) (drop i b)))
 
-abbrev decreases-loop : tie.decreases-loop
-decreases-loop a b ok₀ i₀ ok i = length a - i
+abbrev decreases-loop-i : tie.decreases-loop-i
+decreases-loop-i a b ok₀ i₀ ok i = length a - i
 
-loop-holds : tie.Need-loop-init invariant-loop decreases-loop
+loop-holds : tie.Need-loop-i-init invariant-loop-i decreases-loop-i
 loop-holds c = (omega arith, refl)
 
-shared-slice-read-ok : tie.Need-shared-slice-read-ok invariant-loop decreases-loop
+shared-slice-read-ok : tie.Need-bounds-a-i invariant-loop-i decreases-loop-i
 shared-slice-read-ok c = omega arith
 
-shared-slice-read-ok-2 : tie.Need-shared-slice-read-ok-2 invariant-loop decreases-loop
+shared-slice-read-ok-2 : tie.Need-bounds-b-i invariant-loop-i decreases-loop-i
 shared-slice-read-ok-2 c = omega arith
 
-add-i : tie.Need-overflow-add-i invariant-loop decreases-loop
+add-i : tie.Need-overflow_add-i invariant-loop-i decreases-loop-i
 add-i c = omega arith
 
-loop-less : tie.Need-loop-smaller invariant-loop decreases-loop
+loop-less : tie.Need-loop-i-smaller invariant-loop-i decreases-loop-i
 loop-less c = omega arith
 
-loop-again : tie.Need-loop-preserved invariant-loop decreases-loop
-loop-again c = let t = c.before.before.before in
-    let a = t.before.args in
-    (omega arith, pairwise_more eqb a.a.now a.b.now t.loop.i t.loop.ok (omega arith) (omega arith) t.loop.invariant.1 refl)
+loop-again : tie.Need-loop-i-preserved invariant-loop-i decreases-loop-i
+loop-again c = let a = c.args in
+    (omega arith, pairwise_more eqb a.a.now a.b.now c.loop-i.i c.loop-i.ok (omega arith) (omega arith) c.loop-i.invariant.1 refl)
 
-returns : tie.Need-returns invariant-loop decreases-loop
-returns c = let t = c.before in
-    let a = t.before.args in
-    pairwise_done eqb a.a.now a.b.now t.loop.i t.loop.ok (omega arith) (omega arith) t.loop.invariant.1
+returns : tie.Need-returns invariant-loop-i decreases-loop-i
+returns c = let a = c.args in
+    pairwise_done eqb a.a.now a.b.now c.loop-i.i c.loop-i.ok (omega arith) (omega arith) c.loop-i.invariant.1
 
-pub are-equal-spec : {M : Type 1} → statement M
-are-equal-spec =
+pub are_equal_spec : {M : Type 1} → statement M
+are_equal_spec =
     tie.close
     (tie.spec
-    invariant-loop
-    decreases-loop
+    invariant-loop-i
+    decreases-loop-i
     loop-holds
     shared-slice-read-ok
     shared-slice-read-ok-2

@@ -7,45 +7,43 @@ use native.Mathlib.Omega.{arith}
 use Rattle.carts.proofs.bytes.copy_all.Statement.{statement}
 use Rattle.carts.proofs.bytes.copy_all.Tie as tie
 
-abbrev invariant-loop : tie.invariant-loop
-invariant-loop dst₀ src i₀ dst i = (i ≤ length dst₀) × (length dst ≡ length dst₀) × (dst ≡ take i src ++ drop i dst₀)
+abbrev invariant-loop-i : tie.invariant-loop-i
+invariant-loop-i dst₀ src i₀ dst i = (i ≤ length dst₀) × (length dst ≡ length dst₀) × (dst ≡ take i src ++ drop i dst₀)
 
-abbrev decreases-loop : tie.decreases-loop
-decreases-loop dst₀ src i₀ dst i = length dst₀ - i
+abbrev decreases-loop-i : tie.decreases-loop-i
+decreases-loop-i dst₀ src i₀ dst i = length dst₀ - i
 
-loop-holds : tie.Need-loop-init invariant-loop decreases-loop
+loop-holds : tie.Need-loop-i-init invariant-loop-i decreases-loop-i
 loop-holds c = (omega arith, refl, refl)
 
-shared-slice-read-dst : tie.Need-shared-slice-read-dst invariant-loop decreases-loop
+shared-slice-read-dst : tie.Need-bounds-src-i invariant-loop-i decreases-loop-i
 shared-slice-read-dst c = omega arith
 
-slice-write-dst : tie.Need-slice-write-dst invariant-loop decreases-loop
+slice-write-dst : tie.Need-bounds-dst-i invariant-loop-i decreases-loop-i
 slice-write-dst c = omega arith
 
-add-i : tie.Need-overflow-add-i invariant-loop decreases-loop
+add-i : tie.Need-overflow_add-i invariant-loop-i decreases-loop-i
 add-i c = omega arith
 
-loop-less : tie.Need-loop-smaller invariant-loop decreases-loop
+loop-less : tie.Need-loop-i-smaller invariant-loop-i decreases-loop-i
 loop-less c = omega arith
 
-loop-again : tie.Need-loop-preserved invariant-loop decreases-loop
-loop-again c = let t = c.before.before in
-    let e = t.loop.invariant.2 in
-    (omega arith, rw length-set t.loop.invariant.1, rw e (copy_more t.before.args.dst.now t.before.args.src.now t.loop.i (omega arith) (omega arith)))
+loop-again : tie.Need-loop-i-preserved invariant-loop-i decreases-loop-i
+loop-again c = let e = c.loop-i.invariant.2 in
+    (omega arith, rw length-set c.loop-i.invariant.1, rw e (copy_more c.args.dst.now c.args.src.now c.loop-i.i (omega arith) (omega arith)))
 
-same_length : tie.Need-same-length invariant-loop decreases-loop
-same_length c = c.before.loop.invariant.1
+same_length : tie.Need-shape_of-dst invariant-loop-i decreases-loop-i
+same_length c = c.loop-i.invariant.1
 
-returns : tie.Need-returns invariant-loop decreases-loop
-returns c = let t = c.before in
-    t.loop.invariant.2 ∙ copy_end t.before.args.dst.now t.before.args.src.now t.loop.i (omega arith) t.before.requires ∙ append-nil _
+returns : tie.Need-returns invariant-loop-i decreases-loop-i
+returns c = c.loop-i.invariant.2 ∙ copy_end c.args.dst.now c.args.src.now c.loop-i.i (omega arith) c.requires ∙ append-nil _
 
-pub copy-all-spec : {M : Type 1} → statement M
-copy-all-spec =
+pub copy_all_spec : {M : Type 1} → statement M
+copy_all_spec =
     tie.close
     (tie.spec
-    invariant-loop
-    decreases-loop
+    invariant-loop-i
+    decreases-loop-i
     loop-holds
     shared-slice-read-dst
     slice-write-dst

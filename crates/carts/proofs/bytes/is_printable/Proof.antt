@@ -8,5 +8,5 @@ returns : tie.Need-returns
 unfolding printable within
 returns c = refl
 
-pub is-printable-spec : {M : Type 1} → statement M
-is-printable-spec = tie.close (tie.spec returns)
+pub is_printable_spec : {M : Type 1} → statement M
+is_printable_spec = tie.close (tie.spec returns)

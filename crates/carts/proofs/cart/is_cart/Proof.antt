@@ -4,26 +4,24 @@ use borrow.Author.Rules.{rules}
 use Rattle.carts.proofs.cart.is_cart.Statement.{statement}
 use Rattle.carts.proofs.cart.is_cart.Tie as tie
 
-shared-slice-read-if1 : tie.Need-shared-slice-read-if1
+shared-slice-read-if1 : tie.Need-bounds-s-0
 shared-slice-read-if1 c = search rules
 
-all-zero-requires : tie.Need-all-zero-requires
+all-zero-requires : tie.Need-all_zero-requires
 all-zero-requires c κs = search rules
 
-returns : tie.Need-returns
-returns c = let t = c.before in
-    let a = t.before.before.before.args in
-    c.all-zero.ensures ∙ sym (cart_empty a.c a.s.now t.if1.true)
+returns : tie.Need-returns-then-s-eq0
+returns c = let a = c.args in
+    c.all_zero.ensures ∙ sym (cart_empty a.c a.s.now c.if-s-eq0.true)
 
-is-held-cart-requires : tie.Need-is-held-cart-requires
+is-held-cart-requires : tie.Need-is_held_cart-requires
 is-held-cart-requires c κs = search rules
 
-returns-2 : tie.Need-returns-2
-returns-2 c = let t = c.before in
-    let a = t.before.before.before.args in
-    c.is-held-cart.ensures ∙ sym (cart_held a.c a.s.now t.if1.false)
+returns-2 : tie.Need-returns
+returns-2 c = let a = c.args in
+    c.is_held_cart.ensures ∙ sym (cart_held a.c a.s.now c.if-s-eq0.false)
 
-pub is-cart-spec : {M : Type 1} → statement M
-is-cart-spec =
+pub is_cart_spec : {M : Type 1} → statement M
+is_cart_spec =
     tie.close
     (tie.spec shared-slice-read-if1 all-zero-requires returns is-held-cart-requires returns-2)

@@ -4,11 +4,11 @@ use borrow.Author.Rules.{rules}
 use Rattle.carts.proofs.cart.is_title_byte.Statement.{statement}
 use Rattle.carts.proofs.cart.is_title_byte.Tie as tie
 
-is-printable-requires : tie.Need-is-printable-requires
+is-printable-requires : tie.Need-is_printable-requires
 is-printable-requires c κs = search rules
 
 returns : tie.Need-returns
-returns c = let a = c.before.args in title_byte a.b _ (ltb a.j a.n) c.is-printable.ensures
+returns c = let a = c.args in title_byte a.b _ (ltb a.j a.n) c.is_printable.ensures
 
-pub is-title-byte-spec : {M : Type 1} → statement M
-is-title-byte-spec = tie.close (tie.spec is-printable-requires returns)
+pub is_title_byte_spec : {M : Type 1} → statement M
+is_title_byte_spec = tie.close (tie.spec is-printable-requires returns)

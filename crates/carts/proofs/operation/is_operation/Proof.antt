@@ -6,29 +6,28 @@ use borrow.Author.Rules.{rules}
 use Rattle.carts.proofs.operation.is_operation.Statement.{statement}
 use Rattle.carts.proofs.operation.is_operation.Tie as tie
 
-has-fields-requires : tie.Need-has-fields-requires
+has-fields-requires : tie.Need-has_fields-requires
 has-fields-requires c κs = search rules
 
-sub-all-zero : tie.Need-overflow-sub-all-zero
+sub-all-zero : tie.Need-slice_bounds-all_zero-count
 sub-all-zero c = search rules
 
-part-all-zero-start : tie.Need-slice-bounds-all-zero-start
+part-all-zero-start : tie.Need-slice_bounds-all_zero-start
 part-all-zero-start c = search rules
 
-part-all-zero-end : tie.Need-slice-bounds-all-zero-end
+part-all-zero-end : tie.Need-slice_bounds-all_zero-end
 part-all-zero-end c = search rules
 
-all-zero-requires : tie.Need-all-zero-requires
+all-zero-requires : tie.Need-all_zero-requires
 all-zero-requires c κs = search rules
 
 returns : tie.Need-returns
 unfolding operation_form
-returns c = let t = c.before.before in
-    let s = t.before.before.args.op.now in
-    rw (c.all-zero.ensures, t.has-fields.ensures) (join_all_law (operation_fields s) (all_zero (part s 12 4) ∷ []))
+returns c = let s = c.args.op.now in
+    rw (c.all_zero.ensures, c.has_fields.ensures) (join_all_law (operation_fields s) (all_zero (part s 12 4) ∷ []))
 
-pub is-operation-spec : {M : Type 1} → statement M
-is-operation-spec =
+pub is_operation_spec : {M : Type 1} → statement M
+is_operation_spec =
     tie.close
     (tie.spec
     has-fields-requires

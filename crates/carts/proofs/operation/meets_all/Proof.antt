@@ -12,81 +12,74 @@ use native.Mathlib.Omega.{arith}
 use Rattle.carts.proofs.operation.meets_all.Statement.{statement}
 use Rattle.carts.proofs.operation.meets_all.Tie as tie
 
-abbrev invariant-loop : tie.invariant-loop
-invariant-loop copy ops count ok₀ i₀ ok i = (i ≤ count) × (meets_all copy (operations_of ops) ≡ (ok && meets_all (act_all copy (parts 80 i ops)) (parts 80 (count - i) (drop (80 * i) ops))))
+abbrev invariant-loop-i : tie.invariant-loop-i
+invariant-loop-i copy ops count ok₀ i₀ ok i = (i ≤ count) × (meets_all copy (operations_of ops) ≡ (ok && meets_all (act_all copy (parts 80 i ops)) (parts 80 (count - i) (drop (80 * i) ops))))
 
-abbrev decreases-loop : tie.decreases-loop
-decreases-loop copy ops count ok₀ i₀ ok i = count - i
+abbrev decreases-loop-i : tie.decreases-loop-i
+decreases-loop-i copy ops count ok₀ i₀ ok i = count - i
 
-loop-holds : tie.Need-loop-init invariant-loop decreases-loop
+loop-holds : tie.Need-loop-i-init invariant-loop-i decreases-loop-i
 unfolding operations_of
 loop-holds c = (omega arith, rw (sub-zero, act_none) refl)
 
-mul-start : tie.Need-overflow-mul-start invariant-loop decreases-loop
+mul-start : tie.Need-overflow_mul-start invariant-loop-i decreases-loop-i
 mul-start c = omega arith
 
-add-op : tie.Need-overflow-add-op invariant-loop decreases-loop
+add-op : tie.Need-overflow_add-op invariant-loop-i decreases-loop-i
 add-op c = omega arith
 
-sub-op : tie.Need-overflow-sub-op invariant-loop decreases-loop
+sub-op : tie.Need-slice_bounds-op-count invariant-loop-i decreases-loop-i
 sub-op c = omega arith
 
-part-op-start : tie.Need-slice-bounds-op-start invariant-loop decreases-loop
+part-op-start : tie.Need-slice_bounds-op-start invariant-loop-i decreases-loop-i
 part-op-start c = omega arith
 
-part-op-end : tie.Need-slice-bounds-op-end invariant-loop decreases-loop
+part-op-end : tie.Need-slice_bounds-op-end invariant-loop-i decreases-loop-i
 part-op-end c = omega arith
 
-u16-at-requires : tie.Need-u16-at-requires invariant-loop decreases-loop
+u16-at-requires : tie.Need-u16_at-requires invariant-loop-i decreases-loop-i
 u16-at-requires c κs = omega arith
 
-is-held-after-requires : tie.Need-is-held-after-requires invariant-loop decreases-loop
-is-held-after-requires c κs = let t = c.before.before.before in
-    let s = t.before.before.before in
-    let r = operation_here s.args.copy.now s.args.ops.now s.requires.0 s.requires.1 t.loop.i (omega arith) in
-    let n = rw add-sub_cancel_left at c.u16-at.ensures.0 in
-    (s.requires, (omega arith, rw n r.1))
+is-held-after-requires : tie.Need-is_held_after-held-requires invariant-loop-i decreases-loop-i
+is-held-after-requires c κs = let r = operation_here c.args.copy.now c.args.ops.now c.requires.0 c.requires.1 c.loop-i.i (omega arith) in
+    let n = rw add-sub_cancel_left at c.u16_at.ensures.0 in
+    (c.requires, (omega arith, rw n r.1))
 
-shared-slice-read-is-right-state : tie.Need-shared-slice-read-is-right-state invariant-loop decreases-loop
+shared-slice-read-is-right-state : tie.Need-bounds-op-0 invariant-loop-i decreases-loop-i
 shared-slice-read-is-right-state c = omega arith
 
-is-right-state-requires : tie.Need-is-right-state-requires invariant-loop decreases-loop
+is-right-state-requires : tie.Need-is_right_state-ok-requires invariant-loop-i decreases-loop-i
 is-right-state-requires c κs = tt
 
-add-i : tie.Need-overflow-add-i invariant-loop decreases-loop
+add-i : tie.Need-overflow_add-i invariant-loop-i decreases-loop-i
 add-i c = omega arith
 
-loop-less : tie.Need-loop-smaller invariant-loop decreases-loop
+loop-less : tie.Need-loop-i-smaller invariant-loop-i decreases-loop-i
 loop-less c = omega arith
 
-loop-again : tie.Need-loop-preserved invariant-loop decreases-loop
-loop-again c = let u = c.before.before in
-    let t = u.before.before.before.before in
-    let s = t.before.before.before in
-    let ops = s.args.ops.now in
-    let i = t.loop.i in
+loop-again : tie.Need-loop-i-preserved invariant-loop-i decreases-loop-i
+loop-again c = let ops = c.args.ops.now in
+    let i = c.loop-i.i in
     let n = length ops / 80 in
-    let copy = act_all s.args.copy.now (parts 80 i ops) in
+    let copy = act_all c.args.copy.now (parts 80 i ops) in
     let op = take 80 (drop (80 * i) ops) in
     let left = parts 80 (n - (i + 1)) (drop (80 * (i + 1)) ops) in
-    let k = rw add-sub_cancel_left at u.before.u16-at.ensures.0 in
-    let r = rw add-sub_cancel_left at c.is-right-state.ensures in
-    let m = meets_state copy op u.before.u16-at.result k u.is-held-after.ensures r in
-    (omega arith, rw (act_last i s.args.copy.now ops) (test_more t.loop.ok (meets copy op) (meets_all (act copy op) left) t.loop.invariant.1 (meets_next n i ops (omega arith) copy) (ap (λ b. t.loop.ok && b) m)))
+    let k = rw add-sub_cancel_left at c.u16_at.ensures.0 in
+    let r = rw add-sub_cancel_left at c.is_right_state-ok.ensures in
+    let m = meets_state copy op c.u16_at.result k c.is_held_after-held.ensures r in
+    (omega arith, rw (act_last i c.args.copy.now ops) (test_more c.loop-i.ok (meets copy op) (meets_all (act copy op) left) c.loop-i.invariant.1 (meets_next n i ops (omega arith) copy) (ap (λ b. c.loop-i.ok && b) m)))
 
-returns : tie.Need-returns invariant-loop decreases-loop
-returns c = let t = c.before in
-    let s = t.before.before.before in
-    let ops = s.args.ops.now in
-    let i = t.loop.i in
-    test_end t.loop.ok t.loop.invariant.1 (meets_end (length ops / 80) i (drop (80 * i) ops) (act_all s.args.copy.now (parts 80 i ops)) (omega arith))
+returns : tie.Need-returns invariant-loop-i decreases-loop-i
+returns c = let ops = c.args.ops.now in
+    let i = c.loop-i.i in
+    test_end c.loop-i.ok c.loop-i.invariant.1 (meets_end (length ops / 80) i (drop (80 * i) ops) (act_all c.args.copy.now (parts 80 i ops)) (omega arith))
 
-pub meets-all-spec : {M : Type 1} → statement M
-meets-all-spec =
+pub meets_all_spec : {M : Type 1} → statement M
+meets_all_spec =
     tie.close
     (tie.spec
-    invariant-loop
-    decreases-loop
+    invariant-loop-i
+    decreases-loop-i
     loop-holds
     mul-start
     add-op

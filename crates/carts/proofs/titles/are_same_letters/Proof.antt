@@ -9,46 +9,44 @@ use native.Mathlib.Omega.{arith}
 use Rattle.carts.proofs.titles.are_same_letters.Statement.{statement}
 use Rattle.carts.proofs.titles.are_same_letters.Tie as tie
 
-abbrev invariant-loop : tie.invariant-loop
-invariant-loop a b ok₀ i₀ ok i = (i ≤ length a) × (pairwise same_letter a b ≡ (ok && pairwise same_letter (drop i a) (drop i b)))
+abbrev invariant-loop-i : tie.invariant-loop-i
+invariant-loop-i a b ok₀ i₀ ok i = (i ≤ length a) × (pairwise same_letter a b ≡ (ok && pairwise same_letter (drop i a) (drop i b)))
 
-abbrev decreases-loop : tie.decreases-loop
-decreases-loop a b ok₀ i₀ ok i = length a - i
+abbrev decreases-loop-i : tie.decreases-loop-i
+decreases-loop-i a b ok₀ i₀ ok i = length a - i
 
-loop-holds : tie.Need-loop-init invariant-loop decreases-loop
+loop-holds : tie.Need-loop-i-init invariant-loop-i decreases-loop-i
 loop-holds c = (omega arith, refl)
 
-shared-slice-read-same-letter : tie.Need-shared-slice-read-same-letter invariant-loop decreases-loop
+shared-slice-read-same-letter : tie.Need-bounds-a-i invariant-loop-i decreases-loop-i
 shared-slice-read-same-letter c = omega arith
 
-shared-slice-read-same-letter-2 : tie.Need-shared-slice-read-same-letter-2 invariant-loop decreases-loop
+shared-slice-read-same-letter-2 : tie.Need-bounds-b-i invariant-loop-i decreases-loop-i
 shared-slice-read-same-letter-2 c = omega arith
 
-same-letter-requires : tie.Need-same-letter-requires invariant-loop decreases-loop
+same-letter-requires : tie.Need-same_letter-ok-requires invariant-loop-i decreases-loop-i
 same-letter-requires c κs = tt
 
-add-i : tie.Need-overflow-add-i invariant-loop decreases-loop
+add-i : tie.Need-overflow_add-i invariant-loop-i decreases-loop-i
 add-i c = omega arith
 
-loop-less : tie.Need-loop-smaller invariant-loop decreases-loop
+loop-less : tie.Need-loop-i-smaller invariant-loop-i decreases-loop-i
 loop-less c = omega arith
 
-loop-again : tie.Need-loop-preserved invariant-loop decreases-loop
-loop-again c = let t = c.before.before.before.before in
-    let a = t.before.before.before.args in
-    (omega arith, pairwise_more same_letter a.a.now a.b.now t.loop.i t.loop.ok (omega arith) (omega arith) t.loop.invariant.1 (ap (λ r. t.loop.ok && r) c.same-letter.ensures))
+loop-again : tie.Need-loop-i-preserved invariant-loop-i decreases-loop-i
+loop-again c = let a = c.args in
+    (omega arith, pairwise_more same_letter a.a.now a.b.now c.loop-i.i c.loop-i.ok (omega arith) (omega arith) c.loop-i.invariant.1 (ap (λ r. c.loop-i.ok && r) c.same_letter-ok.ensures))
 
-returns : tie.Need-returns invariant-loop decreases-loop
-returns c = let t = c.before in
-    let a = t.before.before.before.args in
-    pairwise_done same_letter a.a.now a.b.now t.loop.i t.loop.ok (omega arith) (omega arith) t.loop.invariant.1
+returns : tie.Need-returns invariant-loop-i decreases-loop-i
+returns c = let a = c.args in
+    pairwise_done same_letter a.a.now a.b.now c.loop-i.i c.loop-i.ok (omega arith) (omega arith) c.loop-i.invariant.1
 
-pub are-same-letters-spec : {M : Type 1} → statement M
-are-same-letters-spec =
+pub are_same_letters_spec : {M : Type 1} → statement M
+are_same_letters_spec =
     tie.close
     (tie.spec
-    invariant-loop
-    decreases-loop
+    invariant-loop-i
+    decreases-loop-i
     loop-holds
     shared-slice-read-same-letter
     shared-slice-read-same-letter-2

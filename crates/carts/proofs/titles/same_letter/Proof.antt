@@ -7,5 +7,5 @@ returns : tie.Need-returns
 unfolding same_letter
 returns c = refl
 
-pub same-letter-spec : {M : Type 1} → statement M
-same-letter-spec = tie.close (tie.spec returns)
+pub same_letter_spec : {M : Type 1} → statement M
+same_letter_spec = tie.close (tie.spec returns)
