@@ -6,7 +6,7 @@ ghost use Rattle.carts.specs.Cart.{cart_size, cart_count, copy_size, title_size,
 use crate::bytes;
 
 // A cart's fields, as a value.
-#[derive(Drop)]
+#[derive(Clone, Copy)]
 pub struct Cart {
     pub held: bool,
     pub title_length: u32,

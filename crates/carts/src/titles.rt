@@ -8,7 +8,7 @@ use crate::cart::Cart;
 use crate::{bytes, cart};
 
 // One cart by its number, none, or several with their count.
-#[derive(Drop)]
+#[derive(Clone, Copy)]
 pub enum Found {
     One(u32),
     None,
@@ -16,14 +16,14 @@ pub enum Found {
 }
 
 // What a search answers, and the letters that S-5 counts.
-#[derive(Drop)]
+#[derive(Clone, Copy)]
 pub struct Searched {
     pub found: Found,
     pub letters: u32,
 }
 
 // Whether a title is the one asked, and its letters that S-5 counts.
-#[derive(Drop)]
+#[derive(Clone, Copy)]
 struct Compared {
     same: bool,
     letters: u32,

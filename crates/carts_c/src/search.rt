@@ -5,7 +5,7 @@ ghost use Rattle.carts_c.specs.Search.{words, found_words};
 use carts::titles::{Found, Searched};
 
 #[repr(C)]
-#[derive(Drop)]
+#[derive(Clone, Copy)]
 pub struct Words {
     pub kind: u32,
     pub value: u32,

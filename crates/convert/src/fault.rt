@@ -8,7 +8,7 @@ use carts::cart::Cart;
 use old_edition::old_cart;
 
 // What is asked of a cart: an old cart's form, the form of one of ours, a title that an old cart has room for.
-#[derive(Drop)]
+#[derive(Clone, Copy)]
 pub enum Rule {
     OldForm,
     Form,

@@ -10,7 +10,7 @@ use carts::cart::Cart;
 use carts::{bytes, cart};
 use old_edition::{file, old_cart};
 
-#[derive(Drop)]
+#[derive(Clone, Copy)]
 pub enum Outcome {
     // Converted to a copy, or to an old file: with so many held carts.
     CopyMade(u32),

@@ -10,7 +10,7 @@ use crate::cell;
 use crate::record::Record;
 
 // The records that have become free: how many, and the last of them.
-#[derive(Drop)]
+#[derive(Clone, Copy)]
 pub struct Freed {
     pub count: u32,
     pub last: u32,

@@ -6,7 +6,7 @@ ghost use Rattle.edit_log.specs.Values.{links_of};
 use carts::bytes;
 
 // A record's links, as a value: the next operation of its transaction, and in a first record the next transaction; 0 for none.
-#[derive(Drop)]
+#[derive(Clone, Copy)]
 pub struct Record {
     pub next_operation: u32,
     pub next_transaction: u32,

@@ -15,7 +15,7 @@ use replication::control::Control;
 use van::answer::{ReceiveAnswer, ReceiveResult};
 
 // What came of a line: a call was accepted, waits or was refused, or the line could not be read.
-#[derive(Drop)]
+#[derive(Clone, Copy)]
 pub enum Outcome {
     Accepted,
     Waited,
@@ -24,7 +24,7 @@ pub enum Outcome {
 }
 
 // How many lines had each outcome, and whether every answer that was kept is the same on the single library so far.
-#[derive(Drop)]
+#[derive(Clone, Copy)]
 pub struct Tally {
     pub accepted: u32,
     pub waited: u32,
@@ -34,7 +34,7 @@ pub struct Tally {
 }
 
 // What is carried from line to line, the van's applied number last; memory is lent beside it.
-#[derive(Drop)]
+#[derive(Clone, Copy)]
 pub struct Progress {
     pub line: u32,
     pub control: Control,

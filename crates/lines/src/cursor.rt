@@ -7,7 +7,7 @@ use crate::text::{Class, Number};
 use carts::bytes;
 
 // What can be wrong with a line.
-#[derive(Drop)]
+#[derive(Clone, Copy)]
 pub enum Mistake {
     None,
     UnknownWord,
@@ -29,7 +29,7 @@ pub enum Mistake {
 }
 
 // The place of the next byte, and the first mistake, where something was wrong.
-#[derive(Drop)]
+#[derive(Clone, Copy)]
 pub struct Cursor {
     pub at: usize,
     pub good: bool,
@@ -37,14 +37,14 @@ pub struct Cursor {
 }
 
 // A number that was read; 0 where it could not be.
-#[derive(Drop)]
+#[derive(Clone, Copy)]
 pub struct Taken {
     pub value: u32,
     pub cursor: Cursor,
 }
 
 // A title that was read, by its place in the line; its length is 0 where it could not be.
-#[derive(Drop)]
+#[derive(Clone, Copy)]
 pub struct Quoted {
     pub start: usize,
     pub length: usize,

@@ -13,7 +13,7 @@ use carts::cart::Cart;
 
 // What a line asks for. The bytes that belong to it stand at the start of the payload: a setup's 16 studio bytes,
 // a commit's or a preview's operations of 80 bytes, a read's or a forward's request of 80 bytes.
-#[derive(Drop)]
+#[derive(Clone, Copy)]
 pub enum Call {
     Nothing,
     Show,
@@ -42,7 +42,7 @@ const STUDIOS: usize = 16;
 const NUMBERS: usize = 32;
 
 // How many numbers were read.
-#[derive(Drop)]
+#[derive(Clone, Copy)]
 pub struct Counted {
     pub count: usize,
     pub cursor: Cursor,

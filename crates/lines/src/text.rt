@@ -6,7 +6,7 @@ ghost use Rattle.lines.specs.Text.{in_class, run_end, part_in, number_of};
 use carts::bytes;
 
 // A class of bytes: spaces, letters of a word, digits, or every byte but one.
-#[derive(Drop)]
+#[derive(Clone, Copy)]
 pub enum Class {
     Space,
     Word,
@@ -15,7 +15,7 @@ pub enum Class {
 }
 
 // What a run of digits says.
-#[derive(Drop)]
+#[derive(Clone, Copy)]
 pub enum Number {
     Value(u32),
     Missing,

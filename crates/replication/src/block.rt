@@ -14,7 +14,7 @@ use crate::source::Source;
 use crate::{session, source};
 
 // A session's number, its studio, and the state that the studio's copy has reached.
-#[derive(Drop)]
+#[derive(Clone, Copy)]
 pub struct Due {
     pub number: u32,
     pub studio: u32,

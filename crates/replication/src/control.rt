@@ -11,7 +11,7 @@ use edit_log::free::Freed;
 
 // Sizes are document 01's. Any value may stand in any field: each has its answer.
 #[repr(C)]
-#[derive(Drop)]
+#[derive(Clone, Copy)]
 pub struct Control {
     pub studios: u32,
     pub session_studios: [u32; 16],

@@ -10,7 +10,7 @@ use carts::{bytes, cart};
 use edit_log::cell;
 
 // The read that a session has waiting: nothing, a count of numbers, or the length of a title. Their bytes stay beside it.
-#[derive(Drop)]
+#[derive(Clone, Copy)]
 pub enum Waiting {
     Nothing,
     Numbers(u32),
@@ -18,7 +18,7 @@ pub enum Waiting {
 }
 
 // A session's number and its waiting read; a request has the number 0.
-#[derive(Drop)]
+#[derive(Clone, Copy)]
 pub struct Session {
     pub number: u32,
     pub waiting: Waiting,

@@ -11,7 +11,7 @@ use crate::answer::ReadAnswer;
 use crate::{output, session};
 
 // A copy (0 is the head end's), the state that is told with its carts, and the number that the session is left with.
-#[derive(Drop)]
+#[derive(Clone, Copy)]
 pub struct Source {
     pub copy: u32,
     pub state: u32,

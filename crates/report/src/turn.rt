@@ -8,7 +8,7 @@ use van::answer::ReceiveResult;
 // is a send, the session of a read, collect or forward, or the session and the studio of a move (a load names nothing), or of a
 // retire the records that the log uses after it; a line that shows the state, that cannot be read, or that is no call; for the van,
 // the row by which no message was written, or what it made of the message, and the edit.
-#[derive(Drop)]
+#[derive(Clone, Copy)]
 pub enum Came {
     Setup(SetupAnswer, u32),
     Commit(CountAnswer, u32, u32),
@@ -26,7 +26,7 @@ pub enum Came {
 }
 
 // What came of a line, and control after it.
-#[derive(Drop)]
+#[derive(Clone, Copy)]
 pub struct Turn {
     pub came: Came,
     pub control: Control,

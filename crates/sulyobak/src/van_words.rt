@@ -7,7 +7,7 @@ use crate::words::Words;
 use van::answer::{ReceiveAnswer, ReceiveResult};
 
 #[repr(C)]
-#[derive(Drop)]
+#[derive(Clone, Copy)]
 pub struct VanWords {
     pub kind: u32,
     pub value: u32,

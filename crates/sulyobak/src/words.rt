@@ -12,7 +12,7 @@ use replication::answer::{
 use replication::control::Control;
 
 #[repr(C)]
-#[derive(Drop)]
+#[derive(Clone, Copy)]
 pub struct Words {
     pub kind: u32,
     pub value: u32,

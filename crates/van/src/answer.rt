@@ -1,7 +1,7 @@
 // What the receiver answers. specs/Answer.antt gives document 02's words for each case.
 
 // The message's number is applied; it was held already; or refused with the row's number.
-#[derive(Drop)]
+#[derive(Clone, Copy)]
 pub enum ReceiveAnswer {
     Applied(u32),
     Held(u32),
@@ -9,7 +9,7 @@ pub enum ReceiveAnswer {
 }
 
 // An answer, with the van's applied number after it.
-#[derive(Drop)]
+#[derive(Clone, Copy)]
 pub struct ReceiveResult {
     pub answer: ReceiveAnswer,
     pub applied: u32,

@@ -11,63 +11,62 @@ use mathlib.Core.Path.{◌≡◌, refl, sym, ap, ◌∙◌}
 use Rattle.edit_log.proofs.chain.meet_log.Statement.{statement}
 use Rattle.edit_log.proofs.chain.meet_log.Tie as tie
 
-abbrev invariant-loop : tie.invariant-loop
-invariant-loop log left₀ transactions used oldest first₀ room₀ to-go₀ left first room to-go = (length left ≡ 512) × (log_test transactions log left₀ oldest used ≡ log_test to-go log left first room) × (met_each left₀ (log_records transactions log oldest) ≡ met_each left (log_records to-go log first))
+abbrev invariant-loop-to_go : tie.invariant-loop-to_go
+invariant-loop-to_go log left₀ transactions used oldest first₀ room₀ to-go₀ left first room to-go = (length left ≡ 512) × (log_test transactions log left₀ oldest used ≡ log_test to-go log left first room) × (met_each left₀ (log_records transactions log oldest) ≡ met_each left (log_records to-go log first))
 
-abbrev decreases-loop : tie.decreases-loop
-decreases-loop log left₀ transactions used oldest first₀ room₀ to-go₀ left first room to-go = to-go
+abbrev decreases-loop-to_go : tie.decreases-loop-to_go
+decreases-loop-to_go log left₀ transactions used oldest first₀ room₀ to-go₀ left first room to-go = to-go
 
-loop-holds : tie.Need-loop-init invariant-loop decreases-loop
-loop-holds c = (c.before.before.requires.1, refl, refl)
+loop-holds : tie.Need-loop-to_go-init invariant-loop-to_go decreases-loop-to_go
+loop-holds c = (c.requires.1, refl, refl)
 
-meet-transaction-requires : tie.Need-meet-transaction-requires invariant-loop decreases-loop
-meet-transaction-requires c κs = (c.before.before.before.before.before.requires.0, c.before.before.loop.invariant.0)
+meet-transaction-requires : tie.Need-meet_transaction-n-requires invariant-loop-to_go decreases-loop-to_go
+meet-transaction-requires c κs = (c.requires.0, c.loop-to_go.invariant.0)
 
-same_length : tie.Need-same-length invariant-loop decreases-loop
-same_length c = c.before.before.before.meet-transaction.auto.1.0 ∙ c.before.before.before.before.before.before.loop.invariant.0 ∙ sym c.before.before.before.before.before.before.before.before.before.requires.1
+same_length : tie.Need-shape_of-left-then-n-eq0 invariant-loop-to_go decreases-loop-to_go
+same_length c = c.meet_transaction-n.auto.left ∙ c.loop-to_go.invariant.0 ∙ sym c.requires.1
 
-returns : tie.Need-returns invariant-loop decreases-loop
-returns c = let t = c.before.before.before.before.before.before in let g = t.before.before.before.args in (log_bad g.log.now t.loop.left t.loop.first _ c.before.before.before.meet-transaction.ensures.0 t.loop.to-go t.loop.room c.before.before.before.before.before.loop-test.true c.if1.true ∙ sym t.loop.invariant.1, λ e. never e)
+returns : tie.Need-returns-then-n-eq0 invariant-loop-to_go decreases-loop-to_go
+returns c = let g = c.args in (log_bad g.log.now c.loop-to_go.left c.loop-to_go.first _ c.meet_transaction-n.ensures.0 c.loop-to_go.to_go c.loop-to_go.room c.loop-to_go-test.true c.if-n-eq0.true ∙ sym c.loop-to_go.invariant.1, λ e. never e)
 
-same-length-2 : tie.Need-same-length-2 invariant-loop decreases-loop
-same-length-2 c = c.before.before.before.before.meet-transaction.auto.1.0 ∙ c.before.before.before.before.before.before.before.loop.invariant.0 ∙ sym c.before.before.before.before.before.before.before.before.before.before.requires.1
+same-length-2 : tie.Need-shape_of-left-then-room-n invariant-loop-to_go decreases-loop-to_go
+same-length-2 c = c.meet_transaction-n.auto.left ∙ c.loop-to_go.invariant.0 ∙ sym c.requires.1
 
-returns-2 : tie.Need-returns-2 invariant-loop decreases-loop
-returns-2 c = let t = c.before.before.before.before.before.before.before in let g = t.before.before.before.args in (log_over g.log.now t.loop.left t.loop.first _ c.before.before.before.before.meet-transaction.ensures.0 t.loop.to-go t.loop.room c.before.before.before.before.before.before.loop-test.true c.before.if1.false c.if2.true ∙ sym t.loop.invariant.1, λ e. never e)
+returns-2 : tie.Need-returns-then-room-n invariant-loop-to_go decreases-loop-to_go
+returns-2 c = let g = c.args in (log_over g.log.now c.loop-to_go.left c.loop-to_go.first _ c.meet_transaction-n.ensures.0 c.loop-to_go.to_go c.loop-to_go.room c.loop-to_go-test.true c.if-n-eq0.false c.if-room-n.true ∙ sym c.loop-to_go.invariant.1, λ e. never e)
 
-at-requires : tie.Need-at-requires invariant-loop decreases-loop
-at-requires c κs = let t = c.before.before.before.before.before.before.before in let g = t.before.before.before.args in (c.before.before.before.before.before.before.before.before.before.before.requires.0, sized_in g.log.now t.loop.left t.loop.first _ c.before.before.before.before.meet-transaction.ensures.0 c.before.if1.false)
+at-requires : tie.Need-at-links-requires invariant-loop-to_go decreases-loop-to_go
+at-requires c κs = let g = c.args in (c.requires.0, sized_in g.log.now c.loop-to_go.left c.loop-to_go.first _ c.meet_transaction-n.ensures.0 c.if-n-eq0.false)
 
-sub-to-go : tie.Need-overflow-sub-to-go invariant-loop decreases-loop
+sub-to-go : tie.Need-overflow_sub-to_go invariant-loop-to_go decreases-loop-to_go
 sub-to-go c = omega arith
 
-loop-less : tie.Need-loop-smaller invariant-loop decreases-loop
+loop-less : tie.Need-loop-to_go-smaller invariant-loop-to_go decreases-loop-to_go
 loop-less c = omega arith
 
-loop-again : tie.Need-loop-preserved invariant-loop decreases-loop
-loop-again c = let t = c.before.before.before.before.before.before.before.before in
-    let g = t.before.before.before.args in
-    let own = c.before.before.before.before.before.meet-transaction in
-    let some = c.before.before.if1.false in
-    let next = ap (λ (x : Record). x.next_transaction) c.at.ensures.0 in
+loop-again : tie.Need-loop-to_go-preserved invariant-loop-to_go decreases-loop-to_go
+loop-again c = let g = c.args in
+    let own = c.meet_transaction-n in
+    let some = c.if-n-eq0.false in
+    let next = ap (λ (x : Record). x.next_transaction) c.at-links.ensures.0 in
     let new = own.ensures.1 (omega arith) in (
-      own.auto.1.0 ∙ t.loop.invariant.0,
-      t.loop.invariant.1 ∙ log_step g.log.now t.loop.left t.loop.first _ own.ensures.0 t.loop.to-go t.loop.room c.before.before.before.before.before.before.before.loop-test.true some _ next _ new c.before.if2.false,
-      t.loop.invariant.2 ∙ met_step g.log.now t.loop.left t.loop.first _ own.ensures.0 t.loop.to-go t.loop.room c.before.before.before.before.before.before.before.loop-test.true some _ next _ new,
+      own.auto.left ∙ c.loop-to_go.invariant.0,
+      c.loop-to_go.invariant.1 ∙ log_step g.log.now c.loop-to_go.left c.loop-to_go.first _ own.ensures.0 c.loop-to_go.to_go c.loop-to_go.room c.loop-to_go-test.true some _ next _ new c.if-room-n.false,
+      c.loop-to_go.invariant.2 ∙ met_step g.log.now c.loop-to_go.left c.loop-to_go.first _ own.ensures.0 c.loop-to_go.to_go c.loop-to_go.room c.loop-to_go-test.true some _ next _ new,
     )
 
-same-length-3 : tie.Need-same-length-3 invariant-loop decreases-loop
+same-length-3 : tie.Need-shape_of-left invariant-loop-to_go decreases-loop-to_go
 same-length-3 c = omega arith
 
-returns-3 : tie.Need-returns-3 invariant-loop decreases-loop
-returns-3 c = let t = c.before in let g = t.before.before.before.args in (log_done t.loop.to-go g.log.now t.loop.left t.loop.first t.loop.room c.loop-test.false ∙ sym t.loop.invariant.1, λ z. sym (t.loop.invariant.2 ∙ met_none t.loop.to-go g.log.now t.loop.left t.loop.first c.loop-test.false))
+returns-3 : tie.Need-returns invariant-loop-to_go decreases-loop-to_go
+returns-3 c = let g = c.args in (log_done c.loop-to_go.to_go g.log.now c.loop-to_go.left c.loop-to_go.first c.loop-to_go.room c.loop-to_go-test.false ∙ sym c.loop-to_go.invariant.1, λ z. sym (c.loop-to_go.invariant.2 ∙ met_none c.loop-to_go.to_go g.log.now c.loop-to_go.left c.loop-to_go.first c.loop-to_go-test.false))
 
-pub meet-log-spec : {M : Type 1} → statement M
-meet-log-spec =
+pub meet_log_spec : {M : Type 1} → statement M
+meet_log_spec =
     tie.close
     (tie.spec
-    invariant-loop
-    decreases-loop
+    invariant-loop-to_go
+    decreases-loop-to_go
     loop-holds
     meet-transaction-requires
     same_length

@@ -1,3 +1,4 @@
+use mathlib.Core.Bool.{not}
 use mathlib.Core.Path.{◌≡◌, refl, sym, ap, ◌∙◌}
 use borrow.Author.Tests.{not-false}
 use Rattle.carts.specs.Operation.{operation_fields}
@@ -10,26 +11,26 @@ use Rattle.edit_log.proofs.chain.meet_operation.Tie as tie
 meet-requires : tie.Need-meet-requires
 meet-requires c κs = search rules
 
-same_length : tie.Need-same-length
+same_length : tie.Need-shape_of-left-then-not-meet
 same_length c = search rules
 
-returns : tie.Need-returns
-returns c = let g = c.before.before.before.before.before.before.before.args in (operation_out g.log.now g.left.now g.r _ c.before.before.before.meet.ensures.0 c.if1.true, λ e. never e)
+returns : tie.Need-returns-then-not-meet
+returns c = let g = c.args in (operation_out g.log.now g.left.now g.r _ c.meet.ensures.0 (ap not c.if-not-meet.true), λ e. never e)
 
-record-at-requires : tie.Need-record-at-requires
-record-at-requires c κs = let g = c.before.before.before.before.before.before.before.args in let i = left_in g.left.now g.r (sym c.before.before.before.meet.ensures.0 ∙ not-false _ c.if1.false) in (c.before.before.before.before.before.before.before.requires.0, i)
+record-at-requires : tie.Need-record_at-requires
+record-at-requires c κs = let g = c.args in let i = left_in g.left.now g.r (sym c.meet.ensures.0 ∙ c.if-not-meet.false) in (c.requires.0, i)
 
-has-fields-requires : tie.Need-has-fields-requires
+has-fields-requires : tie.Need-has_fields-requires
 has-fields-requires c κs = search rules
 
-same-length-2 : tie.Need-same-length-2
+same-length-2 : tie.Need-shape_of-left
 same-length-2 c = search rules
 
-returns-2 : tie.Need-returns-2
-returns-2 c = let g = c.before.before.before.before.before.before.before.before.before.args in (c.has-fields.ensures ∙ ap operation_fields c.before.record-at.ensures.0 ∙ operation_is g.log.now g.left.now g.r _ c.before.before.before.before.before.meet.ensures.0 c.before.before.if1.false, λ e. c.before.before.before.before.before.meet.ensures.1 (not-false _ c.before.before.if1.false))
+returns-2 : tie.Need-returns
+returns-2 c = let g = c.args in (c.has_fields.ensures ∙ ap operation_fields c.record_at.ensures.0 ∙ operation_is g.log.now g.left.now g.r _ c.meet.ensures.0 (ap not c.if-not-meet.false), λ e. c.meet.ensures.1 (c.if-not-meet.false))
 
-pub meet-operation-spec : {M : Type 1} → statement M
-meet-operation-spec =
+pub meet_operation_spec : {M : Type 1} → statement M
+meet_operation_spec =
     tie.close
     (tie.spec
     meet-requires

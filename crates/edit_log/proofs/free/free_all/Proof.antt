@@ -10,54 +10,52 @@ use mathlib.Core.Path.{◌≡◌, refl, sym, ap, ◌∙◌}
 use Rattle.edit_log.proofs.free.free_all.Statement.{statement}
 use Rattle.edit_log.proofs.free.free_all.Tie as tie
 
-abbrev invariant-loop : tie.invariant-loop
-invariant-loop log₀ first r₀ last₀ count₀ log r last count = (length log ≡ 40960) × Ending log r × (write_all (records_of log₀ first) (blanks (records_of log₀ first)) log₀ ≡ write_all (records_of log r) (blanks (records_of log r)) log) × (back 0 (records_of log₀ first) ≡ back last (records_of log r)) × (length (records_of log₀ first) ≡ count + length (records_of log r)) × (length (records_of log₀ first) ≤ 8)
+abbrev invariant-loop-r : tie.invariant-loop-r
+invariant-loop-r log₀ first r₀ last₀ count₀ log r last count = (length log ≡ 40960) × Ending log r × (write_all (records_of log₀ first) (blanks (records_of log₀ first)) log₀ ≡ write_all (records_of log r) (blanks (records_of log r)) log) × (back 0 (records_of log₀ first) ≡ back last (records_of log r)) × (length (records_of log₀ first) ≡ count + length (records_of log r)) × (length (records_of log₀ first) ≤ 8)
 
-abbrev decreases-loop : tie.decreases-loop
-decreases-loop log₀ first r₀ last₀ count₀ log r last count = length (records_of log r)
+abbrev decreases-loop-r : tie.decreases-loop-r
+decreases-loop-r log₀ first r₀ last₀ count₀ log r last count = length (records_of log r)
 
-loop-holds : tie.Need-loop-init invariant-loop decreases-loop
-loop-holds c = (c.before.requires.0, c.before.requires.1, refl, refl, omega arith, c.before.requires.1.few)
+loop-holds : tie.Need-loop-r-init invariant-loop-r decreases-loop-r
+loop-holds c = (c.requires.0, c.requires.1, refl, refl, omega arith, c.requires.1.few)
 
-at-requires : tie.Need-at-requires invariant-loop decreases-loop
-at-requires c κs = let t = c.before.before in (t.loop.invariant.0, ending_in t.loop.log t.loop.r c.before.loop-test.true t.loop.invariant.1)
+at-requires : tie.Need-at-links-requires invariant-loop-r decreases-loop-r
+at-requires c κs = (c.loop-r.invariant.0, ending_in c.loop-r.log c.loop-r.r c.loop-r-test.true c.loop-r.invariant.1)
 
-free-record-requires : tie.Need-free-record-requires invariant-loop decreases-loop
-free-record-requires c κs = let t = c.before.before.before.before in let i = ending_in t.loop.log t.loop.r c.before.before.before.loop-test.true t.loop.invariant.1 in (t.loop.invariant.0, (i.0, (i.1, c.before.at.ensures.1.0)))
+free-record-requires : tie.Need-free_record-requires invariant-loop-r decreases-loop-r
+free-record-requires c κs = let i = ending_in c.loop-r.log c.loop-r.r c.loop-r-test.true c.loop-r.invariant.1 in (c.loop-r.invariant.0, (i.0, (i.1, c.at-links.ensures.1.0)))
 
-add-count : tie.Need-overflow-add-count invariant-loop decreases-loop
-add-count c = let t = c.before.before.before.before.before.before.before in let e = t.loop.invariant.4 in let f = t.loop.invariant.5 in omega arith
+add-count : tie.Need-overflow_add-count invariant-loop-r decreases-loop-r
+add-count c = let e = c.loop-r.invariant.4 in let f = c.loop-r.invariant.5 in omega arith
 
-loop-less : tie.Need-loop-smaller invariant-loop decreases-loop
-loop-less c = let t = c.before.before.before.before.before.before.before in fewer_next t.loop.log t.loop.r c.before.before.before.before.before.before.loop-test.true t.loop.invariant.1 t.loop.invariant.0 _ (ap (λ (x : Record). x.next_operation) c.before.before.before.before.at.ensures.0) _ c.before.before.free-record.ensures
+loop-less : tie.Need-loop-r-smaller invariant-loop-r decreases-loop-r
+loop-less c = fewer_next c.loop-r.log c.loop-r.r c.loop-r-test.true c.loop-r.invariant.1 c.loop-r.invariant.0 _ (ap (λ (x : Record). x.next_operation) c.at-links.ensures.0) _ c.free_record.ensures
 
-loop-again : tie.Need-loop-preserved invariant-loop decreases-loop
-loop-again c = let t = c.before.before.before.before.before.before.before in
-    let h = c.before.before.before.before.before.before.loop-test.true in
-    let x = t.loop.invariant.1 in
-    let size = t.loop.invariant.0 in
-    let next = ap (λ (x : Record). x.next_operation) c.before.before.before.before.at.ensures.0 in
-    let new = c.before.before.free-record.ensures in
-    let fewer = one_fewer t.loop.log t.loop.r h x size _ next _ new in
-    let e = t.loop.invariant.4 in
-    (size_next t.loop.log t.loop.r h x size _ next _ new, ending_next t.loop.log t.loop.r h x size _ next _ new, t.loop.invariant.2 ∙ free_next t.loop.log t.loop.r h x size _ next _ new, t.loop.invariant.3 ∙ back_next t.loop.log t.loop.r h x size _ next _ new t.loop.last, omega arith, t.loop.invariant.5)
+loop-again : tie.Need-loop-r-preserved invariant-loop-r decreases-loop-r
+loop-again c = let h = c.loop-r-test.true in
+    let x = c.loop-r.invariant.1 in
+    let size = c.loop-r.invariant.0 in
+    let next = ap (λ (x : Record). x.next_operation) c.at-links.ensures.0 in
+    let new = c.free_record.ensures in
+    let fewer = one_fewer c.loop-r.log c.loop-r.r h x size _ next _ new in
+    let e = c.loop-r.invariant.4 in
+    (size_next c.loop-r.log c.loop-r.r h x size _ next _ new, ending_next c.loop-r.log c.loop-r.r h x size _ next _ new, c.loop-r.invariant.2 ∙ free_next c.loop-r.log c.loop-r.r h x size _ next _ new, c.loop-r.invariant.3 ∙ back_next c.loop-r.log c.loop-r.r h x size _ next _ new c.loop-r.last, omega arith, c.loop-r.invariant.5)
 
-same_length : tie.Need-same-length invariant-loop decreases-loop
+same_length : tie.Need-shape_of-log invariant-loop-r decreases-loop-r
 same_length c = omega arith
 
-returns : tie.Need-returns invariant-loop decreases-loop
-returns c = let t = c.before in
-    let e = free_end t.loop.log t.loop.r c.loop-test.false in
-    let z = none_left t.loop.log t.loop.r c.loop-test.false in
-    let n = t.loop.invariant.4 in
-    (sym (t.loop.invariant.2 ∙ e.0), freed_is t.before.before.args.log.now t.before.before.args.first t.loop.count t.loop.last (omega arith) (sym (t.loop.invariant.3 ∙ e.1 t.loop.last)))
+returns : tie.Need-returns invariant-loop-r decreases-loop-r
+returns c = let e = free_end c.loop-r.log c.loop-r.r c.loop-r-test.false in
+    let z = none_left c.loop-r.log c.loop-r.r c.loop-r-test.false in
+    let n = c.loop-r.invariant.4 in
+    (sym (c.loop-r.invariant.2 ∙ e.0), freed_is c.args.log.now c.args.first c.loop-r.count c.loop-r.last (omega arith) (sym (c.loop-r.invariant.3 ∙ e.1 c.loop-r.last)))
 
-pub free-all-spec : {M : Type 1} → statement M
-free-all-spec =
+pub free_all_spec : {M : Type 1} → statement M
+free_all_spec =
     tie.close
     (tie.spec
-    invariant-loop
-    decreases-loop
+    invariant-loop-r
+    decreases-loop-r
     loop-holds
     at-requires
     free-record-requires

@@ -9,59 +9,57 @@ use mathlib.Core.Path.{◌≡◌, refl, sym, ap, ◌∙◌}
 use Rattle.edit_log.proofs.fresh.make_fresh.Statement.{statement}
 use Rattle.edit_log.proofs.fresh.make_fresh.Tie as tie
 
-abbrev invariant-loop : tie.invariant-loop
-invariant-loop log₀ r₀ log r = (r ≤ 512) × (length log ≡ 40960) × (fresh_log ≡ ToFree r log) × Blank r log
+abbrev invariant-loop-r : tie.invariant-loop-r
+invariant-loop-r log₀ r₀ log r = (r ≤ 512) × (length log ≡ 40960) × (fresh_log ≡ ToFree r log) × Blank r log
 
-abbrev decreases-loop : tie.decreases-loop
-decreases-loop log₀ r₀ log r = 512 - r
+abbrev decreases-loop-r : tie.decreases-loop-r
+decreases-loop-r log₀ r₀ log r = 512 - r
 
-clear-requires : tie.Need-clear-requires invariant-loop decreases-loop
+clear-requires : tie.Need-clear-requires invariant-loop-r decreases-loop-r
 clear-requires c κs = tt
 
-loop-holds : tie.Need-loop-init invariant-loop decreases-loop
+loop-holds : tie.Need-loop-r-init invariant-loop-r decreases-loop-r
 loop-holds c =
-    let s = c.before.before.before.before.before in
-    let k = c.before.before.clear in
-    let e = k.ensures ∙ ap zeros s.requires in
-    (omega arith, k.auto.0 ∙ s.requires, fresh_start _ e, blank_start _ e)
+    let k = c.clear in
+    let e = k.ensures ∙ ap zeros c.requires in
+    (omega arith, k.auto.dst ∙ c.requires, fresh_start _ e, blank_start _ e)
 
-add_r : tie.Need-overflow-add-r invariant-loop decreases-loop
+add_r : tie.Need-overflow_add-r invariant-loop-r decreases-loop-r
 add_r c = omega arith
 
-next-free-requires : tie.Need-next-free-requires invariant-loop decreases-loop
+next-free-requires : tie.Need-next_free-next-requires invariant-loop-r decreases-loop-r
 next-free-requires c κs = omega arith
 
-put-requires : tie.Need-put-requires invariant-loop decreases-loop
-put-requires c κs = let t = c.before.before.before in ((omega arith, omega (arith, t.loop.invariant.1)), (omega arith, omega (arith, c.before.next-free.ensures.1)))
+put-requires : tie.Need-put-requires invariant-loop-r decreases-loop-r
+put-requires c κs = ((omega arith, omega (arith, c.loop-r.invariant.1)), (omega arith, omega (arith, c.next_free-next.ensures.1)))
 
-loop-less : tie.Need-loop-smaller invariant-loop decreases-loop
+loop-less : tie.Need-loop-r-smaller invariant-loop-r decreases-loop-r
 loop-less c = omega arith
 
-loop-again : tie.Need-loop-preserved invariant-loop decreases-loop
+loop-again : tie.Need-loop-r-preserved invariant-loop-r decreases-loop-r
 unfolding record_at with_record
 loop-again c =
-    let t = c.before.before.before.before.before.before in
-    let less = c.before.before.before.before.before.loop-test.true in
-    let f = c.before.before.put in
+    let less = c.loop-r-test.true in
+    let f = c.put in
     let new = f.ensures in (
       omega arith,
-      f.auto.0 ∙ t.loop.invariant.1,
-      t.loop.invariant.2 ∙ free_one t.loop.r t.loop.log t.loop.invariant.1 less t.loop.invariant.3 _ _ new c.before.before.before.before.next-free.ensures.0,
-      blank_one t.loop.r t.loop.log t.loop.invariant.1 less t.loop.invariant.3 _ _ new,
+      f.auto.cells ∙ c.loop-r.invariant.1,
+      c.loop-r.invariant.2 ∙ free_one c.loop-r.r c.loop-r.log c.loop-r.invariant.1 less c.loop-r.invariant.3 _ _ new c.next_free-next.ensures.0,
+      blank_one c.loop-r.r c.loop-r.log c.loop-r.invariant.1 less c.loop-r.invariant.3 _ _ new,
     )
 
-same_length : tie.Need-same-length invariant-loop decreases-loop
-same_length c = let t = c.before in t.loop.invariant.1 ∙ sym c.before.before.before.before.before.before.before.requires
+same_length : tie.Need-shape_of-log invariant-loop-r decreases-loop-r
+same_length c = c.loop-r.invariant.1 ∙ sym c.requires
 
-returns : tie.Need-returns invariant-loop decreases-loop
-returns c = let t = c.before in sym (t.loop.invariant.2 ∙ free_done t.loop.r t.loop.log c.loop-test.false)
+returns : tie.Need-returns invariant-loop-r decreases-loop-r
+returns c = sym (c.loop-r.invariant.2 ∙ free_done c.loop-r.r c.loop-r.log c.loop-r-test.false)
 
-pub make-fresh-spec : {M : Type 1} → statement M
-make-fresh-spec =
+pub make_fresh_spec : {M : Type 1} → statement M
+make_fresh_spec =
     tie.close
     (tie.spec
-    invariant-loop
-    decreases-loop
+    invariant-loop-r
+    decreases-loop-r
     clear-requires
     loop-holds
     add_r

@@ -4,14 +4,14 @@ use borrow.Author.Rules.{rules}
 use Rattle.edit_log.proofs.fresh.next_free.Statement.{statement}
 use Rattle.edit_log.proofs.fresh.next_free.Tie as tie
 
-returns : tie.Need-returns
-returns c = (next_last c.before.args.r c.if1.true, omega arith)
+returns : tie.Need-returns-then-r-eq-COUNT
+returns c = (next_last c.args.r c.if-r-eq-COUNT.true, omega arith)
 
-add-result : tie.Need-overflow-add-result
+add-result : tie.Need-overflow_add-result
 add-result c = search rules
 
-returns-2 : tie.Need-returns-2
-returns-2 c = (next_more c.before.args.r c.before.requires c.if1.false, omega (arith, c.if1.false))
+returns-2 : tie.Need-returns
+returns-2 c = (next_more c.args.r c.requires c.if-r-eq-COUNT.false, omega (arith, c.if-r-eq-COUNT.false))
 
-pub next-free-spec : {M : Type 1} → statement M
-next-free-spec = tie.close (tie.spec returns add-result returns-2)
+pub next_free_spec : {M : Type 1} → statement M
+next_free_spec = tie.close (tie.spec returns add-result returns-2)

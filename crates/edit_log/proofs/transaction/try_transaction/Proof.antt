@@ -15,88 +15,77 @@ use Rattle.edit_log.proofs.TransactionLaws.{Usable, usable_here, usable_later, a
 use Rattle.edit_log.proofs.transaction.try_transaction.Statement.{statement}
 use Rattle.edit_log.proofs.transaction.try_transaction.Tie as tie
 
-abbrev invariant-loop : tie.invariant-loop
-invariant-loop copy₀ log first ok₀ r₀ left₀ copy ok r left =
+abbrev invariant-loop-left : tie.invariant-loop-left
+invariant-loop-left copy₀ log first ok₀ r₀ left₀ copy ok r left =
     let rest = map (record_at log) (chain left log r) in
     (length copy ≡ 10240) × (every (usable log) (chain left log r) ≡ true) × (meets_all copy₀ (transaction_at log first) ≡ (ok && meets_all copy rest))
     × (act_all copy₀ (transaction_at log first) ≡ act_all copy rest)
 
-abbrev decreases-loop : tie.decreases-loop
-decreases-loop copy₀ log first ok₀ r₀ left₀ copy ok r left = left
-
-abbrev start : tie.Else1 invariant-loop decreases-loop → tie.Start invariant-loop decreases-loop
-start c = c.before.before.before.before.before
+abbrev decreases-loop-left : tie.decreases-loop-left
+decreases-loop-left copy₀ log first ok₀ r₀ left₀ copy ok r left = left
 
 -- the record that acts next
-here : (c : tie.Else1 invariant-loop decreases-loop) → Usable (start c).args.log.now c.before.before.loop.r
-here c = let t = c.before.before in usable_here _ t.loop.left t.loop.r c.before.loop-test.true c.if1.false t.loop.invariant.1
+here : (c : tie.Else-r-eq0 invariant-loop-left decreases-loop-left) → Usable c.args.log.now c.loop-left.r
+here c = usable_here _ c.loop-left.left c.loop-left.r c.loop-left-test.true c.if-r-eq0.false c.loop-left.invariant.1
 
-loop-holds : tie.Need-loop-init invariant-loop decreases-loop
+loop-holds : tie.Need-loop-left-init invariant-loop-left decreases-loop-left
 unfolding records_of transaction_at
-loop-holds c = (c.before.before.requires.0, c.before.before.requires.1.1, refl, refl)
+loop-holds c = (c.requires.0, c.requires.1.1, refl, refl)
 
-same_length : tie.Need-same-length invariant-loop decreases-loop
+same_length : tie.Need-shape_of-copy-then-r-eq0 invariant-loop-left decreases-loop-left
 same_length c = omega arith
 
-returns : tie.Need-returns invariant-loop decreases-loop
-returns c = let t = c.before.before in
-    (test_end t.loop.ok t.loop.invariant.2 (met_ends _ _ _ _ c.if1.true), sym (t.loop.invariant.3 ∙ acts_ends _ _ _ _ c.if1.true))
+returns : tie.Need-returns-then-r-eq0 invariant-loop-left decreases-loop-left
+returns c = (test_end c.loop-left.ok c.loop-left.invariant.2 (met_ends _ _ _ _ c.if-r-eq0.true), sym (c.loop-left.invariant.3 ∙ acts_ends _ _ _ _ c.if-r-eq0.true))
 
-record-at-requires : tie.Need-record-at-requires invariant-loop decreases-loop
-record-at-requires c κs = let u = here c in ((start c).requires.1.0, (u.low, u.high))
+record-at-requires : tie.Need-record_at-op-requires invariant-loop-left decreases-loop-left
+record-at-requires c κs = let u = here c in (c.requires.1.0, (u.low, u.high))
 
-meets-requires : tie.Need-meets-requires invariant-loop decreases-loop
-meets-requires c κs = let r = c.before in
-    let u = here r.before in
-    let e = r.record-at.ensures in
-    ((r.before.before.before.loop.invariant.0, e.1), (rw e.0 u.cart_low, rw e.0 u.cart_high))
+meets-requires : tie.Need-meets-ok-requires invariant-loop-left decreases-loop-left
+meets-requires c κs = let u = here c.before in
+    let e = c.record_at-op.ensures in
+    ((c.loop-left.invariant.0, e.1), (rw e.0 u.cart_low, rw e.0 u.cart_high))
 
-apply-requires : tie.Need-apply-requires invariant-loop decreases-loop
-apply-requires c κs = let r = c.before.before.before in
-    let u = here r.before in
-    let e = r.record-at.ensures in
-    ((r.before.before.before.loop.invariant.0, e.1), (rw e.0 u.cart_low, rw e.0 u.cart_high))
+apply-requires : tie.Need-apply-requires invariant-loop-left decreases-loop-left
+apply-requires c κs = let u = here c.before.before.before in
+    let e = c.record_at-op.ensures in
+    ((c.loop-left.invariant.0, e.1), (rw e.0 u.cart_low, rw e.0 u.cart_high))
 
-at-requires : tie.Need-at-requires invariant-loop decreases-loop
-at-requires c κs = let e = c.before.before.before.before.before.before.before in let u = here e in ((start e).requires.1.0, (u.low, u.high))
+at-requires : tie.Need-at-links-requires invariant-loop-left decreases-loop-left
+at-requires c κs = let u = here c.before.before.before.before.before.before in (c.requires.1.0, (u.low, u.high))
 
-sub-left : tie.Need-overflow-sub-left invariant-loop decreases-loop
+sub-left : tie.Need-overflow_sub-left invariant-loop-left decreases-loop-left
 sub-left c = omega arith
 
-loop-less : tie.Need-loop-smaller invariant-loop decreases-loop
+loop-less : tie.Need-loop-left-smaller invariant-loop-left decreases-loop-left
 loop-less c = omega arith
 
-loop-again : tie.Need-loop-preserved invariant-loop decreases-loop
-loop-again c = let p = c.before.before.before in
-    let q = p.before.before in
-    let f = q.before.before in
-    let e = f.before in
-    let t = e.before.before in
-    let log = (start e).args.log.now in
-    let h = e.before.loop-test.true in
-    let n = ap (λ (x : Record). x.next_operation) c.at.ensures.0 in
-    let op = f.record-at.ensures.0 in
-    let copy = p.apply.ensures ∙ ap (act t.loop.copy) op in
-    let met = q.meets.ensures ∙ ap (meets t.loop.copy) op in (
-      p.apply.auto.0 ∙ t.loop.invariant.0,
-      rw n (usable_later log t.loop.left t.loop.r h e.if1.false t.loop.invariant.1),
-      rw (n, copy) (test_more t.loop.ok (meets t.loop.copy (record_at log t.loop.r)) _ t.loop.invariant.2
-          (met_then log t.loop.left t.loop.r h t.loop.copy e.if1.false) (ap (λ (b : Bool). t.loop.ok && b) met)),
-      rw (n, copy) (t.loop.invariant.3 ∙ acts log t.loop.left t.loop.r h t.loop.copy e.if1.false),
+loop-again : tie.Need-loop-left-preserved invariant-loop-left decreases-loop-left
+loop-again c = let log = c.args.log.now in
+    let h = c.loop-left-test.true in
+    let n = ap (λ (x : Record). x.next_operation) c.at-links.ensures.0 in
+    let op = c.record_at-op.ensures.0 in
+    let copy = c.apply.ensures ∙ ap (act c.loop-left.copy) op in
+    let met = c.meets-ok.ensures ∙ ap (meets c.loop-left.copy) op in (
+      c.apply.auto.copy ∙ c.loop-left.invariant.0,
+      rw n (usable_later log c.loop-left.left c.loop-left.r h c.if-r-eq0.false c.loop-left.invariant.1),
+      rw (n, copy) (test_more c.loop-left.ok (meets c.loop-left.copy (record_at log c.loop-left.r)) _ c.loop-left.invariant.2
+          (met_then log c.loop-left.left c.loop-left.r h c.loop-left.copy c.if-r-eq0.false) (ap (λ (b : Bool). c.loop-left.ok && b) met)),
+      rw (n, copy) (c.loop-left.invariant.3 ∙ acts log c.loop-left.left c.loop-left.r h c.loop-left.copy c.if-r-eq0.false),
     )
 
-same-length-2 : tie.Need-same-length-2 invariant-loop decreases-loop
+same-length-2 : tie.Need-shape_of-copy invariant-loop-left decreases-loop-left
 same-length-2 c = omega arith
 
-returns-2 : tie.Need-returns-2 invariant-loop decreases-loop
-returns-2 c = let t = c.before in (test_end t.loop.ok t.loop.invariant.2 (met_stops _ _ _ _ c.loop-test.false), sym (t.loop.invariant.3 ∙ acts_stops _ _ _ _ c.loop-test.false))
+returns-2 : tie.Need-returns invariant-loop-left decreases-loop-left
+returns-2 c = (test_end c.loop-left.ok c.loop-left.invariant.2 (met_stops _ _ _ _ c.loop-left-test.false), sym (c.loop-left.invariant.3 ∙ acts_stops _ _ _ _ c.loop-left-test.false))
 
-pub try-transaction-spec : {M : Type 1} → statement M
-try-transaction-spec =
+pub try_transaction_spec : {M : Type 1} → statement M
+try_transaction_spec =
     tie.close
     (tie.spec
-    invariant-loop
-    decreases-loop
+    invariant-loop-left
+    decreases-loop-left
     loop-holds
     same_length
     returns

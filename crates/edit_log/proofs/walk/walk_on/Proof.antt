@@ -8,5 +8,5 @@ walk-requires c κs = search rules
 returns : tie.Need-returns
 returns c = search rules
 
-pub walk-on-spec : {M : Type 1} → statement M
-walk-on-spec = tie.close (tie.spec walk-requires returns)
+pub walk_on_spec : {M : Type 1} → statement M
+walk_on_spec = tie.close (tie.spec walk-requires returns)
