@@ -8,50 +8,50 @@ use native.Mathlib.Omega.{arith}
 use Rattle.lines.proofs.build.put_u16s.Statement.{statement}
 use Rattle.lines.proofs.build.put_u16s.Tie as tie
 
-abbrev invariant-loop : tie.invariant-loop
-invariant-loop field₀ numbers i₀ field i = (i ≤ length numbers) × (length field ≡ 64) × (field ≡ u16_list (take i numbers) ++ drop (2 * i) field₀)
+abbrev invariant-loop-i : tie.invariant-loop-i
+invariant-loop-i field₀ numbers i₀ field i = (i ≤ length numbers) × (length field ≡ 64) × (field ≡ u16_list (take i numbers) ++ drop (2 * i) field₀)
 
-abbrev decreases-loop : tie.decreases-loop
-decreases-loop field₀ numbers i₀ field i = length numbers - i
+abbrev decreases-loop-i : tie.decreases-loop-i
+decreases-loop-i field₀ numbers i₀ field i = length numbers - i
 
-loop-holds : tie.Need-loop-init invariant-loop decreases-loop
+loop-holds : tie.Need-loop-i-init invariant-loop-i decreases-loop-i
 unfolding u16_list
-loop-holds c = (omega arith, c.before.before.requires.0, refl)
+loop-holds c = (omega arith, c.requires.0, refl)
 
-mul-put-u16 : tie.Need-overflow-mul-put-u16 invariant-loop decreases-loop
+mul-put-u16 : tie.Need-overflow_mul-i invariant-loop-i decreases-loop-i
 mul-put-u16 c = omega arith
 
-mul-put-u16-2 : tie.Need-overflow-mul-put-u16-2 invariant-loop decreases-loop
+mul-put-u16-2 : tie.Need-offset_bounds-numbers-i invariant-loop-i decreases-loop-i
 mul-put-u16-2 c = omega arith
 
-shared-slice-read-put-u16 : tie.Need-shared-slice-read-put-u16 invariant-loop decreases-loop
+shared-slice-read-put-u16 : tie.Need-bounds-numbers-i invariant-loop-i decreases-loop-i
 shared-slice-read-put-u16 c = omega arith
 
-put-u16-requires : tie.Need-put-u16-requires invariant-loop decreases-loop
+put-u16-requires : tie.Need-put_u16-requires invariant-loop-i decreases-loop-i
 put-u16-requires c κs = (omega arith, omega arith)
 
-add-i : tie.Need-overflow-add-i invariant-loop decreases-loop
+add-i : tie.Need-overflow_add-i invariant-loop-i decreases-loop-i
 add-i c = omega arith
 
-loop-less : tie.Need-loop-smaller invariant-loop decreases-loop
+loop-less : tie.Need-loop-i-smaller invariant-loop-i decreases-loop-i
 loop-less c = omega arith
 
-loop-again : tie.Need-loop-preserved invariant-loop decreases-loop
-loop-again c = let start = c.before.before.before.before.before.before.before.before.before in let t = c.before.before.before.before.before.before in let p = c.before.before.put-u16 in
-    (omega arith, p.auto.0 ∙ t.loop.invariant.1, p.ensures ∙ rw t.loop.invariant.2 (u16s_more start.args.numbers.now start.args.field.now t.loop.i (omega arith)))
+loop-again : tie.Need-loop-i-preserved invariant-loop-i decreases-loop-i
+loop-again c = let p = c.put_u16 in
+    (omega arith, p.auto.s ∙ c.loop-i.invariant.1, p.ensures ∙ rw c.loop-i.invariant.2 (u16s_more c.args.numbers.now c.args.field.now c.loop-i.i (omega arith)))
 
-same_length : tie.Need-same-length invariant-loop decreases-loop
-same_length c = c.before.loop.invariant.1 ∙ sym c.before.before.before.before.requires.0
+same_length : tie.Need-shape_of-field invariant-loop-i decreases-loop-i
+same_length c = c.loop-i.invariant.1 ∙ sym c.requires.0
 
-returns : tie.Need-returns invariant-loop decreases-loop
-returns c = let ns = c.before.before.before.before.args.numbers.now in let e : c.before.loop.i ≡ length ns = omega arith in c.before.loop.invariant.2 ∙ u16s_end ns c.before.before.before.before.args.field.now c.before.loop.i e
+returns : tie.Need-returns invariant-loop-i decreases-loop-i
+returns c = let ns = c.args.numbers.now in let e : c.loop-i.i ≡ length ns = omega arith in c.loop-i.invariant.2 ∙ u16s_end ns c.args.field.now c.loop-i.i e
 
-pub put-u16s-spec : {M : Type 1} → statement M
-put-u16s-spec =
+pub put_u16s_spec : {M : Type 1} → statement M
+put_u16s_spec =
     tie.close
     (tie.spec
-    invariant-loop
-    decreases-loop
+    invariant-loop-i
+    decreases-loop-i
     loop-holds
     mul-put-u16
     mul-put-u16-2

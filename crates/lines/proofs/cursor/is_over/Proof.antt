@@ -4,19 +4,19 @@ use borrow.Author.Rules.{rules}
 use Rattle.lines.proofs.cursor.is_over.Statement.{statement}
 use Rattle.lines.proofs.cursor.is_over.Tie as tie
 
-run-end-requires : tie.Need-run-end-requires
+run-end-requires : tie.Need-run_end-at-requires
 run-end-requires c κs = search rules
 
-returns : tie.Need-returns
+returns : tie.Need-returns-then-s-at
 unfolding is_over
-returns c = rw (← c.before.run-end.ensures.0, le-leb _ _ c.if1.true)
+returns c = rw (← c.run_end-at.ensures.0, le-leb _ _ c.if-s-at.true)
 
-shared-slice-read-result : tie.Need-shared-slice-read-result
+shared-slice-read-result : tie.Need-bounds-s-at
 shared-slice-read-result c = search rules
 
-returns-2 : tie.Need-returns-2
+returns-2 : tie.Need-returns
 unfolding is_over
-returns-2 c = rw (← c.before.before.run-end.ensures.0, lt-leb _ _ c.before.if1.false)
+returns-2 c = rw (← c.run_end-at.ensures.0, lt-leb _ _ c.if-s-at.false)
 
-pub is-over-spec : {M : Type 1} → statement M
-is-over-spec = tie.close (tie.spec run-end-requires returns shared-slice-read-result returns-2)
+pub is_over_spec : {M : Type 1} → statement M
+is_over_spec = tie.close (tie.spec run-end-requires returns shared-slice-read-result returns-2)

@@ -8,5 +8,5 @@ stopped-requires c κs = search rules
 returns : tie.Need-returns
 returns c = rw c.stopped.ensures
 
-pub no-title-spec : {M : Type 1} → statement M
-no-title-spec = tie.close (tie.spec stopped-requires returns)
+pub no_title_spec : {M : Type 1} → statement M
+no_title_spec = tie.close (tie.spec stopped-requires returns)

@@ -6,53 +6,53 @@ use borrow.Author.Rules.{rules}
 use Rattle.lines.proofs.cursor.number.Statement.{statement}
 use Rattle.lines.proofs.cursor.number.Tie as tie
 
-run-end-requires : tie.Need-run-end-requires
+run-end-requires : tie.Need-run_end-start-requires
 run-end-requires c κs = search rules
 
-run-end-requires-2 : tie.Need-run-end-requires-2
+run-end-requires-2 : tie.Need-run_end-end-requires
 run-end-requires-2 c κs = search rules
 
-sub-part-of : tie.Need-overflow-sub-part-of
+sub-part-of : tie.Need-overflow_sub-end
 sub-part-of c = search rules
 
-part-of-requires : tie.Need-part-of-requires
+part-of-requires : tie.Need-part_of-requires
 part-of-requires c κs = search rules
 
-number-of-requires : tie.Need-number-of-requires
+number-of-requires : tie.Need-number_of-requires
 number-of-requires c κs = search rules
 
-enum-known-value : tie.Need-enum-known-value
+enum-known-value : tie.Need-enum_known-value
 enum-known-value c = search rules
 
 moved-requires : tie.Need-moved-requires
 moved-requires c κs = search rules
 
-enum_told : tie.Need-enum-told
+enum_told : tie.Need-enum_told-1
 enum_told c = search rules
 
 stopped-requires : tie.Need-stopped-requires
 stopped-requires c κs = search rules
 
-enum-told-2 : tie.Need-enum-told-2
+enum-told-2 : tie.Need-enum_told-in-TooLarge
 enum-told-2 c = search rules
 
-stopped-requires-2 : tie.Need-stopped-requires-2
+stopped-requires-2 : tie.Need-stopped-requires-in-TooLarge
 stopped-requires-2 c κs = search rules
 
-returns : tie.Need-returns
-returns c = let at-run-end2 = c.before.before.before.before.before.before in let n = c.before.before.before.before.number_of in
-    (rw c.moved.ensures (number_by_parts at-run-end2.before.before.before.args.s.now at-run-end2.before.before.before.args.c at-run-end2.before.before.before.args.most at-run-end2.before.run-end.result at-run-end2.run-end2.result c.before.before.before.before.before.part_of.result.now _ at-run-end2.before.run-end.ensures.0 at-run-end2.run-end2.ensures.0 c.before.before.before.before.before.part_of.ensures (sym c.before.before.value.given.1 ∙ n.ensures)), number_at_most at-run-end2.before.before.before.args.most c.before.before.value.given.0.0 _ (sym n.ensures ∙ c.before.before.value.given.1))
+returns : tie.Need-returns-in-Value
+returns c = let n = c.number_of in
+    (rw c.moved.ensures (number_by_parts c.args.s.now c.args.c c.args.most c.run_end-start.result c.run_end-end.result c.part_of.result.now _ c.run_end-start.ensures.0 c.run_end-end.ensures.0 c.part_of.ensures (sym c.in-Value.is ∙ n.ensures)), number_at_most c.args.most c.in-Value.value _ (sym n.ensures ∙ c.in-Value.is))
 
-returns-2 : tie.Need-returns-2
-returns-2 c = let at-run-end = c.before.before.before.before.before.before in let n = c.before.before.before.number_of in
-    (rw c.stopped.ensures (number_by_parts at-run-end.before.before.args.s.now at-run-end.before.before.args.c at-run-end.before.before.args.most at-run-end.run-end.result c.before.before.before.before.before.run-end2.result c.before.before.before.before.part_of.result.now _ at-run-end.run-end.ensures.0 c.before.before.before.before.before.run-end2.ensures.0 c.before.before.before.before.part_of.ensures (sym c.before.enum_told.given.1 ∙ n.ensures)), omega arith)
+returns-2 : tie.Need-returns-in-Missing
+returns-2 c = let n = c.number_of in
+    (rw c.stopped.ensures (number_by_parts c.args.s.now c.args.c c.args.most c.run_end-start.result c.run_end-end.result c.part_of.result.now _ c.run_end-start.ensures.0 c.run_end-end.ensures.0 c.part_of.ensures (sym c.in-Missing.is ∙ n.ensures)), omega arith)
 
-returns-3 : tie.Need-returns-3
-returns-3 c = let at-run-end = c.before.before.before.before.before.before in let n = c.before.before.before.number_of in
-    (rw c.stopped2.ensures (number_by_parts at-run-end.before.before.args.s.now at-run-end.before.before.args.c at-run-end.before.before.args.most at-run-end.run-end.result c.before.before.before.before.before.run-end2.result c.before.before.before.before.part_of.result.now _ at-run-end.run-end.ensures.0 c.before.before.before.before.before.run-end2.ensures.0 c.before.before.before.before.part_of.ensures (sym c.before.enum-told2.given.1 ∙ n.ensures)), omega arith)
+returns-3 : tie.Need-returns-in-TooLarge
+returns-3 c = let n = c.number_of in
+    (rw c.stopped-in-TooLarge.ensures (number_by_parts c.args.s.now c.args.c c.args.most c.run_end-start.result c.run_end-end.result c.part_of.result.now _ c.run_end-start.ensures.0 c.run_end-end.ensures.0 c.part_of.ensures (sym c.in-TooLarge.is ∙ n.ensures)), omega arith)
 
-pub number-spec : {M : Type 1} → statement M
-number-spec =
+pub number_spec : {M : Type 1} → statement M
+number_spec =
     tie.close
     (tie.spec
     run-end-requires

@@ -1,5 +1,6 @@
+use mathlib.Core.Bool.{not}
 use Rattle.lines.specs.Cursor.{title_from, title_at}
-use mathlib.Core.Path.{◌≡◌, sym, ◌∙◌}
+use mathlib.Core.Path.{ap, ◌≡◌, sym, ◌∙◌}
 use Rattle.lines.proofs.CursorLaws.{no_title_law}
 use borrow.Author.Tests.{le-leb, lt-leb, le-ltb, lt-ltb, eq-eqb, ne_eqb, not-false}
 use lib.ListN.{get_or-eq_default}
@@ -10,95 +11,95 @@ use borrow.Author.Rules.{rules}
 use Rattle.lines.proofs.cursor.title.Statement.{statement}
 use Rattle.lines.proofs.cursor.title.Tie as tie
 
-run-end-requires : tie.Need-run-end-requires
+run-end-requires : tie.Need-run_end-at-requires
 run-end-requires c κs = search rules
 
-letter-requires : tie.Need-letter-requires
+letter-requires : tie.Need-letter-open-requires
 letter-requires c κs = search rules
 
-no-title-requires : tie.Need-no-title-requires
+no-title-requires : tie.Need-no_title-requires
 no-title-requires c κs = search rules
 
-returns : tie.Need-returns
+returns : tie.Need-returns-then-open
 unfolding title_at
-returns c = (rw (c.no-title.ensures, ← c.before.before.before.run-end.ensures.0, ← c.before.before.letter.ensures, c.before.if1.true), no_title_law _ _ c.before.before.before.before.before.args.c TitleMissing c.no-title.ensures)
+returns c = (rw (c.no_title.ensures, ← c.run_end-at.ensures.0, ← c.letter-open.ensures, c.if-open.true), no_title_law _ _ c.args.c TitleMissing c.no_title.ensures)
 
-no-title-requires-2 : tie.Need-no-title-requires-2
+no-title-requires-2 : tie.Need-no_title-requires-then-s-at
 no-title-requires-2 c κs = search rules
 
-returns-2 : tie.Need-returns-2
+returns-2 : tie.Need-returns-then-s-at
 unfolding title_at
-returns-2 c = let start = c.before.before.before.before.before.before in (rw (c.no-title2.ensures, ← c.before.before.before.before.run-end.ensures.0, get_or-eq_default {A = ℕ} start.args.s.now 0 c.before.if2.true), no_title_law _ _ start.args.c TitleMissing c.no-title2.ensures)
+returns-2 c = (rw (c.no_title-then-s-at.ensures, ← c.run_end-at.ensures.0, get_or-eq_default {A = ℕ} c.args.s.now 0 c.if-s-at.true), no_title_law _ _ c.args.c TitleMissing c.no_title-then-s-at.ensures)
 
-add_start : tie.Need-overflow-add-start
+add_start : tie.Need-overflow_add-start
 add_start c = search rules
 
-run-end-requires-2 : tie.Need-run-end-requires-2
+run-end-requires-2 : tie.Need-run_end-end-requires
 run-end-requires-2 c κs = search rules
 
 -- past its first mark the title is what stands up to the next one
-opened : (c : tie.After-run-end2) →
-    let a = c.before.before.before.before.before.before.args in
-    title_from a.s.now a.c (c.before.before.before.before.run-end.result + 1) c.run-end2.result ≡ title_at a.s.now a.c
+opened : (c : tie.After-run_end-end) →
+    let a = c.args in
+    title_from a.s.now a.c (c.run_end-at.result + 1) c.run_end-end.result ≡ title_at a.s.now a.c
 unfolding title_at
-opened c = rw (← c.before.before.before.before.run-end.ensures.0, ← c.before.before.before.letter.ensures, c.before.before.if1.false, ← c.run-end2.ensures.0)
+opened c = rw (← c.run_end-at.ensures.0, ← c.letter-open.ensures, c.if-open.false, ← c.run_end-end.ensures.0)
 
-no-title-requires-3 : tie.Need-no-title-requires-3
+no-title-requires-3 : tie.Need-no_title-requires-then-s-end
 no-title-requires-3 c κs = search rules
 
-returns-3 : tie.Need-returns-3
+returns-3 : tie.Need-returns-then-s-end
 unfolding title_from
-returns-3 c = let start = c.before.before.before.before.before.before.before.before in (rw (c.no-title3.ensures, ← opened c.before.before, le-leb _ _ c.before.if3.true), no_title_law _ _ start.args.c TitleOpen c.no-title3.ensures)
+returns-3 c = (rw (c.no_title-then-s-end.ensures, ← opened c.before.before, le-leb _ _ c.if-s-end.true), no_title_law _ _ c.args.c TitleOpen c.no_title-then-s-end.ensures)
 
-sub-length : tie.Need-overflow-sub-length
+sub-length : tie.Need-overflow_sub-length
 sub-length c = search rules
 
-no-title-requires-4 : tie.Need-no-title-requires-4
+no-title-requires-4 : tie.Need-no_title-requires-then-length-eq0
 no-title-requires-4 c κs = search rules
 
-returns-4 : tie.Need-returns-4
+returns-4 : tie.Need-returns-then-length-eq0
 unfolding title_from
-returns-4 c = let start = c.before.before.before.before.before.before.before.before.before in (rw (c.no-title4.ensures, ← opened c.before.before.before, lt-leb _ _ c.before.before.if3.false, eq-eqb _ _ c.before.if4.true), no_title_law _ _ start.args.c TitleEmpty c.no-title4.ensures)
+returns-4 c = (rw (c.no_title-then-length-eq0.ensures, ← opened c.before.before.before, lt-leb _ _ c.if-s-end.false, eq-eqb _ _ c.if-length-eq0.true), no_title_law _ _ c.args.c TitleEmpty c.no_title-then-length-eq0.ensures)
 
-no-title-requires-5 : tie.Need-no-title-requires-5
+no-title-requires-5 : tie.Need-no_title-requires-then-length-gt255
 no-title-requires-5 c κs = search rules
 
-returns-5 : tie.Need-returns-5
+returns-5 : tie.Need-returns-then-length-gt255
 unfolding title_from
-returns-5 c = let start = c.before.before.before.before.before.before.before.before.before.before in (rw (c.no-title5.ensures, ← opened c.before.before.before.before, lt-leb _ _ c.before.before.before.if3.false, ne_eqb _ _ c.before.before.if4.false, lt-ltb _ _ c.before.if5.true), no_title_law _ _ start.args.c TitleTooLong c.no-title5.ensures)
+returns-5 c = (rw (c.no_title-then-length-gt255.ensures, ← opened c.before.before.before.before, lt-leb _ _ c.if-s-end.false, ne_eqb _ _ c.if-length-eq0.false, lt-ltb _ _ c.if-length-gt255.true), no_title_law _ _ c.args.c TitleTooLong c.no_title-then-length-gt255.ensures)
 
-sub-all-printable : tie.Need-overflow-sub-all-printable
+sub-all-printable : tie.Need-slice_bounds-all_printable-count
 sub-all-printable c = search rules
 
-part-all-printable-start : tie.Need-slice-bounds-all-printable-start
+part-all-printable-start : tie.Need-slice_bounds-all_printable-start
 part-all-printable-start c = search rules
 
-part-all-printable-end : tie.Need-slice-bounds-all-printable-end
+part-all-printable-end : tie.Need-slice_bounds-all_printable-end
 part-all-printable-end c = search rules
 
-all-printable-requires : tie.Need-all-printable-requires
+all-printable-requires : tie.Need-all_printable-requires
 all-printable-requires c κs = search rules
 
-no-title-requires-6 : tie.Need-no-title-requires-6
+no-title-requires-6 : tie.Need-no_title-requires-then-not-all_printable
 no-title-requires-6 c κs = search rules
 
-returns-6 : tie.Need-returns-6
+returns-6 : tie.Need-returns-then-not-all_printable
 unfolding title_from
-returns-6 c = let else3 = c.before.before.before.before.before.before in let start = c.before.before.before.before.before.before.before.before.before.before.before.before.before in (rw (c.no-title6.ensures, ← opened else3.before, lt-leb _ _ else3.if3.false, ne_eqb _ _ c.before.before.before.before.before.if4.false, le-ltb _ _ c.before.before.before.before.if5.false, ← c.before.before.all-printable.ensures, c.before.if6.true), no_title_law _ _ start.args.c TitleUnprintable c.no-title6.ensures)
+returns-6 c = (rw (c.no_title-then-not-all_printable.ensures, ← opened c.before.before.before.before.before.before.before, lt-leb _ _ c.if-s-end.false, ne_eqb _ _ c.if-length-eq0.false, le-ltb _ _ c.if-length-gt255.false, ← c.all_printable.ensures, (ap not c.if-not-all_printable.true)), no_title_law _ _ c.args.c TitleUnprintable c.no_title-then-not-all_printable.ensures)
 
-add-moved : tie.Need-overflow-add-moved
+add-moved : tie.Need-overflow_add-end
 add-moved c = search rules
 
 moved-requires : tie.Need-moved-requires
 moved-requires c κs = search rules
 
-returns-7 : tie.Need-returns-7
+returns-7 : tie.Need-returns
 unfolding title_from
-returns-7 c = let else3 = c.before.before.before.before.before.before in let p = c.before.before.all-printable in
-    (rw (c.moved.ensures, ← opened else3.before, lt-leb _ _ else3.if3.false, ne_eqb _ _ c.before.before.before.before.before.if4.false, le-ltb _ _ c.before.before.before.before.if5.false, ← c.before.before.all-printable.ensures, c.before.if6.false), record { inside = omega arith; few = omega arith; letters = sym p.ensures ∙ not-false p.result c.before.if6.false })
+returns-7 c = let p = c.all_printable in
+    (rw (c.moved.ensures, ← opened c.before.before.before.before.before.before.before, lt-leb _ _ c.if-s-end.false, ne_eqb _ _ c.if-length-eq0.false, le-ltb _ _ c.if-length-gt255.false, ← c.all_printable.ensures, (ap not c.if-not-all_printable.false)), record { inside = omega arith; few = omega arith; letters = sym p.ensures ∙ c.if-not-all_printable.false })
 
-pub title-spec : {M : Type 1} → statement M
-title-spec =
+pub title_spec : {M : Type 1} → statement M
+title_spec =
     tie.close
     (tie.spec
     run-end-requires

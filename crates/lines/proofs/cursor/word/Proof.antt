@@ -3,28 +3,28 @@ use borrow.Author.Rules.{rules}
 use Rattle.lines.proofs.cursor.word.Statement.{statement}
 use Rattle.lines.proofs.cursor.word.Tie as tie
 
-peek-word-requires : tie.Need-peek-word-requires
+peek-word-requires : tie.Need-peek_word-requires
 peek-word-requires c κs = search rules
 
 same-requires : tie.Need-same-requires
 same-requires c κs = search rules
 
-past-word-requires : tie.Need-past-word-requires
+past-word-requires : tie.Need-past_word-requires
 past-word-requires c κs = search rules
 
-returns : tie.Need-returns
+returns : tie.Need-returns-then-same
 unfolding past_word
-returns c = rw (c.past_word.ensures, ← c.before.before.before.peek-word.ensures, ← c.before.before.same.ensures, c.before.if1.true)
+returns c = rw (c.past_word.ensures, ← c.peek_word.ensures, ← c.same.ensures, c.if-same.true)
 
 stopped-requires : tie.Need-stopped-requires
 stopped-requires c κs = search rules
 
-returns-2 : tie.Need-returns-2
+returns-2 : tie.Need-returns
 unfolding past_word
-returns-2 c = rw (c.stopped.ensures, ← c.before.before.before.peek-word.ensures, ← c.before.before.same.ensures, c.before.if1.false)
+returns-2 c = rw (c.stopped.ensures, ← c.peek_word.ensures, ← c.same.ensures, c.if-same.false)
 
-pub word-spec : {M : Type 1} → statement M
-word-spec =
+pub word_spec : {M : Type 1} → statement M
+word_spec =
     tie.close
     (tie.spec
     peek-word-requires

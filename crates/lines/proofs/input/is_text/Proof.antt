@@ -3,22 +3,22 @@ use borrow.Author.Rules.{rules}
 use Rattle.lines.proofs.input.is_text.Statement.{statement}
 use Rattle.lines.proofs.input.is_text.Tie as tie
 
-letter-requires : tie.Need-letter-requires
+letter-requires : tie.Need-letter-a-requires
 letter-requires c κs = search rules
 
-letter-requires-2 : tie.Need-letter-requires-2
+letter-requires-2 : tie.Need-letter-b-requires
 letter-requires-2 c κs = search rules
 
-returns : tie.Need-returns
+returns : tie.Need-returns-then-a-b
 unfolding is_text
-returns c = rw (← c.before.before.letter.ensures, ← c.before.letter2.ensures, c.if1.true)
+returns c = rw (← c.letter-a.ensures, ← c.letter-b.ensures, c.if-a-b.true)
 
-run-end-requires : tie.Need-run-end-requires
+run-end-requires : tie.Need-run_end-requires
 run-end-requires c κs = search rules
 
-returns-2 : tie.Need-returns-2
+returns-2 : tie.Need-returns
 unfolding is_text
-returns-2 c = rw (← c.before.before.before.letter.ensures, ← c.before.before.letter2.ensures, c.before.if1.false, ← c.run-end.ensures.0)
+returns-2 c = rw (← c.letter-a.ensures, ← c.letter-b.ensures, c.if-a-b.false, ← c.run_end.ensures.0)
 
-pub is-text-spec : {M : Type 1} → statement M
-is-text-spec = tie.close (tie.spec letter-requires letter-requires-2 returns run-end-requires returns-2)
+pub is_text_spec : {M : Type 1} → statement M
+is_text_spec = tie.close (tie.spec letter-requires letter-requires-2 returns run-end-requires returns-2)

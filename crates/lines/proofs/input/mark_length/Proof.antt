@@ -12,13 +12,13 @@ letter-requires-2 c κs = search rules
 letter-requires-3 : tie.Need-letter-requires-3
 letter-requires-3 c κs = search rules
 
-returns : tie.Need-returns
+returns : tie.Need-returns-then-letter
 unfolding mark_length
-returns c = rw (← c.before.before.before.letter.ensures, ← c.before.before.letter2.ensures, ← c.before.letter3.ensures, c.if1.true)
+returns c = rw (← c.letter.ensures, ← c.letter-2.ensures, ← c.letter-3.ensures, c.if-letter.true)
 
-returns-2 : tie.Need-returns-2
+returns-2 : tie.Need-returns
 unfolding mark_length
-returns-2 c = rw (← c.before.before.before.letter.ensures, ← c.before.before.letter2.ensures, ← c.before.letter3.ensures, c.if1.false)
+returns-2 c = rw (← c.letter.ensures, ← c.letter-2.ensures, ← c.letter-3.ensures, c.if-letter.false)
 
-pub mark-length-spec : {M : Type 1} → statement M
-mark-length-spec = tie.close (tie.spec letter-requires letter-requires-2 letter-requires-3 returns returns-2)
+pub mark_length_spec : {M : Type 1} → statement M
+mark_length_spec = tie.close (tie.spec letter-requires letter-requires-2 letter-requires-3 returns returns-2)

@@ -9,13 +9,13 @@ word-requires c κs = search rules
 number-requires : tie.Need-number-requires
 number-requires c κs = search rules
 
-returns : tie.Need-returns
+returns : tie.Need-returns-then-asked
 unfolding number_if
-returns c = rw (c.before.before.if1.true, ← c.before.word.ensures) c.number.ensures.0
+returns c = rw (c.if-asked.true, ← c.word.ensures) c.number.ensures.0
 
-returns-2 : tie.Need-returns-2
+returns-2 : tie.Need-returns
 unfolding number_if
-returns-2 c = rw c.if1.false
+returns-2 c = rw c.if-asked.false
 
-pub number-if-spec : {M : Type 1} → statement M
-number-if-spec = tie.close (tie.spec word-requires number-requires returns returns-2)
+pub number_if_spec : {M : Type 1} → statement M
+number_if_spec = tie.close (tie.spec word-requires number-requires returns returns-2)

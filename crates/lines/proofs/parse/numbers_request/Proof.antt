@@ -8,29 +8,29 @@ use borrow.Author.Rules.{rules}
 use Rattle.lines.proofs.parse.numbers_request.Statement.{statement}
 use Rattle.lines.proofs.parse.numbers_request.Tie as tie
 
-slice-aggregate-numbers : tie.Need-slice-aggregate-numbers
+slice-aggregate-numbers : tie.Need-slice_bounds-numbers-end
 slice-aggregate-numbers c = search rules
 
-numbers-requires : tie.Need-numbers-requires
+numbers-requires : tie.Need-numbers-read-requires
 numbers-requires c κs = search rules
 
-array-share-prefix-carts : tie.Need-array-share-prefix-carts
+array-share-prefix-carts : tie.Need-slice_bounds-carts-end
 array-share-prefix-carts c = search rules
 
-slice-aggregate-put-numbers : tie.Need-slice-aggregate-put-numbers
-slice-aggregate-put-numbers c = let n = c.before.before.before.numbers in let h : n.result.count ≤ length n.new.1.1.1.0 = omega arith in sym (length-take-le _ _ h)
+slice-aggregate-put-numbers : tie.Need-slice_bounds-put_numbers-end
+slice-aggregate-put-numbers c = let n = c.numbers-read in let h : n.result.count ≤ length n.new.out = omega arith in sym (length-take-le _ _ h)
 
-put-numbers-requires : tie.Need-put-numbers-requires
-put-numbers-requires c κs = let start = c.before.before.before.before.before.before.before in let n = c.before.before.before.numbers in let h : n.result.count ≤ length n.new.1.1.1.0 = omega arith in (start.requires, rw (length-take-le _ _ h) (omega arith))
+put-numbers-requires : tie.Need-put_numbers-requires
+put-numbers-requires c κs = let n = c.numbers-read in let h : n.result.count ≤ length n.new.out = omega arith in (c.requires, rw (length-take-le _ _ h) (omega arith))
 
-same_length : tie.Need-same-length
+same_length : tie.Need-shape_of-request
 same_length c = search rules
 
 returns : tie.Need-returns
-returns c = let at-numbers = c.before.before.before.before.before.before.before in rw c.before.before.before.put-numbers.ensures (numbers_request _ _ _ _ at-numbers.numbers.result at-numbers.numbers.ensures.0)
+returns c = rw c.put_numbers.ensures (numbers_request _ _ _ _ c.numbers-read.result c.numbers-read.ensures.0)
 
-pub numbers-request-spec : {M : Type 1} → statement M
-numbers-request-spec =
+pub numbers_request_spec : {M : Type 1} → statement M
+numbers_request_spec =
     tie.close
     (tie.spec
     slice-aggregate-numbers

@@ -7,13 +7,13 @@ use Rattle.lines.proofs.parse.title_if.Tie as tie
 title-requires : tie.Need-title-requires
 title-requires c κs = search rules
 
-returns : tie.Need-returns
+returns : tie.Need-returns-then-asked
 unfolding title_if
-returns c = (rw c.before.if1.true c.title.ensures.0, c.title.ensures.1)
+returns c = (rw c.if-asked.true c.title.ensures.0, c.title.ensures.1)
 
-returns-2 : tie.Need-returns-2
+returns-2 : tie.Need-returns
 unfolding title_if
-returns-2 c = (rw c.if1.false, no_letters _)
+returns-2 c = (rw c.if-asked.false, no_letters _)
 
-pub title-if-spec : {M : Type 1} → statement M
-title-if-spec = tie.close (tie.spec title-requires returns returns-2)
+pub title_if_spec : {M : Type 1} → statement M
+title_if_spec = tie.close (tie.spec title-requires returns returns-2)

@@ -4,33 +4,33 @@ use borrow.Author.Rules.{rules}
 use Rattle.lines.proofs.parse.title_request.Statement.{statement}
 use Rattle.lines.proofs.parse.title_request.Tie as tie
 
-title-requires : tie.Need-title-requires
+title-requires : tie.Need-title-title-requires
 title-requires c κs = search rules
 
-add-end : tie.Need-overflow-add-end
+add-end : tie.Need-overflow_add-end
 add-end c = search rules
 
-sub-put-operation : tie.Need-overflow-sub-put-operation
+sub-put-operation : tie.Need-slice_bounds-put_operation-count
 sub-put-operation c = search rules
 
-part-put-operation-start : tie.Need-slice-bounds-put-operation-start
+part-put-operation-start : tie.Need-slice_bounds-put_operation-start
 part-put-operation-start c = search rules
 
-part-put-operation-end : tie.Need-slice-bounds-put-operation-end
+part-put-operation-end : tie.Need-slice_bounds-put_operation-end
 part-put-operation-end c = search rules
 
-put-operation-requires : tie.Need-put-operation-requires
+put-operation-requires : tie.Need-put_operation-requires
 put-operation-requires c κs = search rules
 
-same_length : tie.Need-same-length
+same_length : tie.Need-shape_of-request
 same_length c = search rules
 
 returns : tie.Need-returns
 unfolding title_request_at
-returns c = let at-title = c.before.before.before.before.before.before.before in rw (c.before.before.before.put-operation.ensures, add-sub_cancel_left, at-title.title.ensures.0)
+returns c = rw (c.put_operation.ensures, add-sub_cancel_left, c.title-title.ensures.0)
 
-pub title-request-spec : {M : Type 1} → statement M
-title-request-spec =
+pub title_request_spec : {M : Type 1} → statement M
+title_request_spec =
     tie.close
     (tie.spec
     title-requires

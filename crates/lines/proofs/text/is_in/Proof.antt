@@ -4,32 +4,32 @@ use borrow.Author.Rules.{rules}
 use Rattle.lines.proofs.text.is_in.Statement.{statement}
 use Rattle.lines.proofs.text.is_in.Tie as tie
 
-enum_told : tie.Need-enum-told
+enum_told : tie.Need-enum_told-1
 enum_told c = search rules
 
-enum-told-2 : tie.Need-enum-told-2
+enum-told-2 : tie.Need-enum_told-in-Word
 enum-told-2 c = search rules
 
-enum-told-3 : tie.Need-enum-told-3
+enum-told-3 : tie.Need-enum_told-in-Digit
 enum-told-3 c = search rules
 
-enum-known-class : tie.Need-enum-known-class
+enum-known-class : tie.Need-enum_known-class
 enum-known-class c = search rules
 
-returns : tie.Need-returns
-returns c = sym (ap (λ k. in_class k c.before.before.args.b) c.enum_told.given.1)
+returns : tie.Need-returns-in-Space
+returns c = sym (ap (λ k. in_class k c.args.b) c.in-Space.is)
 
-returns-2 : tie.Need-returns-2
-returns-2 c = sym (ap (λ k. in_class k c.before.before.args.b) c.enum-told2.given.1)
+returns-2 : tie.Need-returns-in-Word
+returns-2 c = sym (ap (λ k. in_class k c.args.b) c.in-Word.is)
 
-returns-3 : tie.Need-returns-3
-returns-3 c = sym (ap (λ k. in_class k c.before.before.args.b) c.enum-told3.given.1)
+returns-3 : tie.Need-returns-in-Digit
+returns-3 c = sym (ap (λ k. in_class k c.args.b) c.in-Digit.is)
 
-returns-4 : tie.Need-returns-4
-returns-4 c = sym (ap (λ k. in_class k c.before.before.before.args.b) c.before.class.given.1)
+returns-4 : tie.Need-returns-in-Other
+returns-4 c = sym (ap (λ k. in_class k c.args.b) c.in-Other.is)
 
-pub is-in-spec : {M : Type 1} → statement M
-is-in-spec =
+pub is_in_spec : {M : Type 1} → statement M
+is_in_spec =
     tie.close
     (tie.spec
     enum_told

@@ -9,59 +9,59 @@ use native.Mathlib.Omega.{arith}
 use Rattle.lines.proofs.text.number_of.Statement.{statement}
 use Rattle.lines.proofs.text.number_of.Tie as tie
 
-abbrev invariant-loop : tie.invariant-loop
-invariant-loop digits most bound value₀ i₀ value i = (i ≤ length digits) × (value ≤ most) × (numeral 0 digits ≡ numeral value (drop i digits))
+abbrev invariant-loop-i : tie.invariant-loop-i
+invariant-loop-i digits most bound value₀ i₀ value i = (i ≤ length digits) × (value ≤ most) × (numeral 0 digits ≡ numeral value (drop i digits))
 
-abbrev decreases-loop : tie.decreases-loop
-decreases-loop digits most bound value₀ i₀ value i = length digits - i
+abbrev decreases-loop-i : tie.decreases-loop-i
+decreases-loop-i digits most bound value₀ i₀ value i = length digits - i
 
-returns : tie.Need-returns invariant-loop decreases-loop
-returns c = number_none c.before.before.args.most c.before.before.args.digits.now c.if1.true
+returns : tie.Need-returns-then-digits-eq0 invariant-loop-i decreases-loop-i
+returns c = number_none c.args.most c.args.digits.now c.if-digits-eq0.true
 
-loop-holds : tie.Need-loop-init invariant-loop decreases-loop
+loop-holds : tie.Need-loop-i-init invariant-loop-i decreases-loop-i
 loop-holds c = (omega arith, omega arith, refl)
 
-mul-value : tie.Need-overflow-mul-value invariant-loop decreases-loop
+mul-value : tie.Need-overflow_mul-value invariant-loop-i decreases-loop-i
 mul-value c = omega arith
 
-shared-slice-read-digit : tie.Need-shared-slice-read-digit invariant-loop decreases-loop
+shared-slice-read-digit : tie.Need-bounds-digits-i invariant-loop-i decreases-loop-i
 shared-slice-read-digit c = omega arith
 
-digit-requires : tie.Need-digit-requires invariant-loop decreases-loop
+digit-requires : tie.Need-digit-requires invariant-loop-i decreases-loop-i
 digit-requires c κs = tt
 
-add-value : tie.Need-overflow-add-value invariant-loop decreases-loop
+add-value : tie.Need-overflow_add-value invariant-loop-i decreases-loop-i
 add-value c = omega arith
 
-add-i : tie.Need-overflow-add-i invariant-loop decreases-loop
+add-i : tie.Need-overflow_add-i invariant-loop-i decreases-loop-i
 add-i c = omega arith
 
-returns-2 : tie.Need-returns-2 invariant-loop decreases-loop
-returns-2 c = let n = c.before.before.before.before.before.before.before in let t = c.before.before.before.before in let ds = n.args.digits.now in
-    let e : numeral 0 ds ≡ numeral (10 * t.loop.value + c.before.digit.result) (drop (t.loop.i + 1) ds) = t.loop.invariant.2 ∙ numeral_more ds t.loop.i t.loop.value (omega arith) ∙ ap (λ d. numeral (10 * t.loop.value + d) (drop (t.loop.i + 1) ds)) (sym c.before.digit.ensures.0) in
-    number_large n.args.most (10 * t.loop.value + c.before.digit.result) ds (drop (t.loop.i + 1) ds) t.before.if1.false e c.if2.true
+returns-2 : tie.Need-returns-then-bound-value invariant-loop-i decreases-loop-i
+returns-2 c = let ds = c.args.digits.now in
+    let e : numeral 0 ds ≡ numeral (10 * c.loop-i.value + c.digit.result) (drop (c.loop-i.i + 1) ds) = c.loop-i.invariant.2 ∙ numeral_more ds c.loop-i.i c.loop-i.value (omega arith) ∙ ap (λ d. numeral (10 * c.loop-i.value + d) (drop (c.loop-i.i + 1) ds)) (sym c.digit.ensures.0) in
+    number_large c.args.most (10 * c.loop-i.value + c.digit.result) ds (drop (c.loop-i.i + 1) ds) c.if-digits-eq0.false e c.if-bound-value.true
 
-loop-less : tie.Need-loop-smaller invariant-loop decreases-loop
+loop-less : tie.Need-loop-i-smaller invariant-loop-i decreases-loop-i
 loop-less c = omega arith
 
-loop-again : tie.Need-loop-preserved invariant-loop decreases-loop
-loop-again c = let n = c.before.before.before.before.before.before.before in let t = c.before.before.before.before in let ds = n.args.digits.now in
-    let e : numeral 0 ds ≡ numeral (10 * t.loop.value + c.before.digit.result) (drop (t.loop.i + 1) ds) = t.loop.invariant.2 ∙ numeral_more ds t.loop.i t.loop.value (omega arith) ∙ ap (λ d. numeral (10 * t.loop.value + d) (drop (t.loop.i + 1) ds)) (sym c.before.digit.ensures.0) in
+loop-again : tie.Need-loop-i-preserved invariant-loop-i decreases-loop-i
+loop-again c = let ds = c.args.digits.now in
+    let e : numeral 0 ds ≡ numeral (10 * c.loop-i.value + c.digit.result) (drop (c.loop-i.i + 1) ds) = c.loop-i.invariant.2 ∙ numeral_more ds c.loop-i.i c.loop-i.value (omega arith) ∙ ap (λ d. numeral (10 * c.loop-i.value + d) (drop (c.loop-i.i + 1) ds)) (sym c.digit.ensures.0) in
     (omega arith, omega arith, e)
 
-cast-t14 : tie.Need-overflow-cast-t14 invariant-loop decreases-loop
+cast-t14 : tie.Need-overflow_cast-result invariant-loop-i decreases-loop-i
 cast-t14 c = omega arith
 
-returns-3 : tie.Need-returns-3 invariant-loop decreases-loop
-returns-3 c = let n = c.before.before.before.before in let ds = n.args.digits.now in let t = c.before.loop in
-    number_fits n.args.most t.value ds c.before.before.if1.false (t.invariant.2 ∙ numeral_end ds t.i t.value (omega arith)) t.invariant.1
+returns-3 : tie.Need-returns invariant-loop-i decreases-loop-i
+returns-3 c = let ds = c.args.digits.now in let t = c.loop-i in
+    number_fits c.args.most t.value ds c.if-digits-eq0.false (t.invariant.2 ∙ numeral_end ds t.i t.value (omega arith)) t.invariant.1
 
-pub number-of-spec : {M : Type 1} → statement M
-number-of-spec =
+pub number_of_spec : {M : Type 1} → statement M
+number_of_spec =
     tie.close
     (tie.spec
-    invariant-loop
-    decreases-loop
+    invariant-loop-i
+    decreases-loop-i
     returns
     loop-holds
     mul-value

@@ -5,13 +5,13 @@ use borrow.Author.Rules.{rules}
 use Rattle.lines.proofs.text.same.Statement.{statement}
 use Rattle.lines.proofs.text.same.Tie as tie
 
-returns : tie.Need-returns
-returns c = sym (unlike eqb c.before.before.before.args.a.now c.before.before.before.args.b.now c.if1.true)
+returns : tie.Need-returns-then-a-b
+returns c = sym (unlike eqb c.args.a.now c.args.b.now c.if-a-b.true)
 
-are-equal-requires : tie.Need-are-equal-requires
+are-equal-requires : tie.Need-are_equal-requires
 are-equal-requires c κs = search rules
 
-returns-2 : tie.Need-returns-2
+returns-2 : tie.Need-returns
 returns-2 c = search rules
 
 pub same_spec : {M : Type 1} → statement M

@@ -7,48 +7,42 @@ use borrow.Author.Rules.{rules}
 use Rattle.old_edition.proofs.convert.from_old.Statement.{statement}
 use Rattle.old_edition.proofs.convert.from_old.Tie as tie
 
-decide-from-old-requires : tie.Need-decide-from-old-requires
+decide-from-old-requires : tie.Need-decide_from_old-stopped-requires
 decide-from-old-requires c κs = search rules
 
-returns : tie.Need-returns
+returns : tie.Need-returns-then-stopped-ne0
 unfolding from_old
-returns c = refused_by _ _ _ _ c.before.decide-from-old.ensures c.if1.true
+returns c = refused_by _ _ _ _ c.decide_from_old-stopped.ensures c.if-stopped-ne0.true
 
-abbrev start : tie.Else1 → tie.Start
-start c = c.before.before.before.before
+known : (c : tie.Else-stopped-ne0) → FromOld c.args.file.now c.args.copy.now
+known c = from_passed _ _ (sym c.decide_from_old-stopped.ensures ∙ c.if-stopped-ne0.false)
 
-known : (c : tie.Else1) → FromOld (start c).args.file.now (start c).args.copy.now
-known c = from_passed _ _ (sym c.before.decide-from-old.ensures ∙ c.if1.false)
-
-sub-put-copy : tie.Need-overflow-sub-put-copy
+sub-put-copy : tie.Need-slice_bounds-put_copy-count
 sub-put-copy c = search rules
 
-part-put-copy-start : tie.Need-slice-bounds-put-copy-start
+part-put-copy-start : tie.Need-slice_bounds-put_copy-start
 part-put-copy-start c = search rules
 
-part-put-copy-end : tie.Need-slice-bounds-put-copy-end
+part-put-copy-end : tie.Need-slice_bounds-put_copy-end
 part-put-copy-end c = let l = file_length _ (known c.before).form in omega arith
 
-put-copy-requires : tie.Need-put-copy-requires
-put-copy-requires c κs = let e = c.before.before in
-    let k = known e in
+put-copy-requires : tie.Need-put_copy-requires
+put-copy-requires c κs = let k = known c.before.before in
     let l = file_length _ k.form in
-    (k.room, length_part (start e).args.file.now 6 6144 (omega arith))
+    (k.room, length_part c.args.file.now 6 6144 (omega arith))
 
-cast-t12 : tie.Need-overflow-cast-t12
+cast-t12 : tie.Need-overflow_cast-result
 cast-t12 c = search rules
 
-same_length : tie.Need-same-length
+same_length : tie.Need-shape_of-copy
 same_length c = search rules
 
-returns-2 : tie.Need-returns-2
+returns-2 : tie.Need-returns
 unfolding from_old
-returns-2 c = let q = c.before.before in
-    let e = q.before.before.before in
-    ap (λ out. after (written 10240) out) (from_carts _ _ (known e).form q.put_copy.ensures) ∙ accepted_by _ _ _ _ e.before.decide-from-old.ensures e.if1.false
+returns-2 c = ap (λ out. after (written 10240) out) (from_carts _ _ (known c.before.before.before.before.before).form c.put_copy.ensures) ∙ accepted_by _ _ _ _ c.decide_from_old-stopped.ensures c.if-stopped-ne0.false
 
-pub from-old-spec : {M : Type 1} → statement M
-from-old-spec =
+pub from_old_spec : {M : Type 1} → statement M
+from_old_spec =
     tie.close
     (tie.spec
     decide-from-old-requires

@@ -7,50 +7,44 @@ use borrow.Author.Rules.{rules}
 use Rattle.old_edition.proofs.file.put_file.Statement.{statement}
 use Rattle.old_edition.proofs.file.put_file.Tie as tie
 
-sub-copy-all : tie.Need-overflow-sub-copy-all
+sub-copy-all : tie.Need-slice_bounds-copy_all-count
 sub-copy-all c = search rules
 
-part-copy-all-start : tie.Need-slice-bounds-copy-all-start
+part-copy-all-start : tie.Need-slice_bounds-copy_all-start
 part-copy-all-start c = search rules
 
-part-copy-all-end : tie.Need-slice-bounds-copy-all-end
+part-copy-all-end : tie.Need-slice_bounds-copy_all-end
 part-copy-all-end c = search rules
 
-slice-aggregate-copy-all : tie.Need-slice-aggregate-copy-all
-slice-aggregate-copy-all c = search rules
-
-copy-all-requires : tie.Need-copy-all-requires
+copy-all-requires : tie.Need-copy_all-requires
 copy-all-requires c κs = search rules
 
-sub-put-carts : tie.Need-overflow-sub-put-carts
+sub-put-carts : tie.Need-slice_bounds-put_carts-count
 sub-put-carts c = search rules
 
-part-put-carts-start : tie.Need-slice-bounds-put-carts-start
+part-put-carts-start : tie.Need-slice_bounds-put_carts-start
 part-put-carts-start c = search rules
 
-part-put-carts-end : tie.Need-slice-bounds-put-carts-end
+part-put-carts-end : tie.Need-slice_bounds-put_carts-end
 part-put-carts-end c = search rules
 
-put-carts-requires : tie.Need-put-carts-requires
+put-carts-requires : tie.Need-put_carts-requires
 put-carts-requires c κs = search rules
 
-same_length : tie.Need-same-length
+same_length : tie.Need-shape_of-file
 same_length c = search rules
 
 returns : tie.Need-returns
 unfolding file_of
-returns c = let p = c.before.before in
-    let k = p.before.before.before.before in
-    put_file k.before.before.before.before.before.args.file.now k.copy-all.new.0 p.put-carts.new.0 k.before.before.before.before.before.requires.0 k.copy-all.ensures ∙ ap (λ r. mark ++ r) p.put-carts.ensures
+returns c = put_file c.args.file.now c.copy_all.new.dst c.put_carts.new.carts c.requires.0 c.copy_all.ensures ∙ ap (λ r. mark ++ r) c.put_carts.ensures
 
-pub put-file-spec : {M : Type 1} → statement M
-put-file-spec =
+pub put_file_spec : {M : Type 1} → statement M
+put_file_spec =
     tie.close
     (tie.spec
     sub-copy-all
     part-copy-all-start
     part-copy-all-end
-    slice-aggregate-copy-all
     copy-all-requires
     sub-put-carts
     part-put-carts-start

@@ -4,27 +4,27 @@ use borrow.Author.Rules.{rules}
 use Rattle.old_edition.proofs.old_cart.is_old_title.Statement.{statement}
 use Rattle.old_edition.proofs.old_cart.is_old_title.Tie as tie
 
-shared-slice-read-n : tie.Need-shared-slice-read-n
+shared-slice-read-n : tie.Need-bounds-old-1
 shared-slice-read-n c = search rules
 
-sub-is-title-in : tie.Need-overflow-sub-is-title-in
+sub-is-title-in : tie.Need-slice_bounds-is_title_in-count
 sub-is-title-in c = search rules
 
-part-is-title-in-start : tie.Need-slice-bounds-is-title-in-start
+part-is-title-in-start : tie.Need-slice_bounds-is_title_in-start
 part-is-title-in-start c = search rules
 
-part-is-title-in-end : tie.Need-slice-bounds-is-title-in-end
+part-is-title-in-end : tie.Need-slice_bounds-is_title_in-end
 part-is-title-in-end c = search rules
 
-is-title-in-requires : tie.Need-is-title-in-requires
+is-title-in-requires : tie.Need-is_title_in-requires
 is-title-in-requires c κs = search rules
 
 returns : tie.Need-returns
 unfolding has_old_title
-returns c = old_title _ _ _ c.is-title-in.ensures
+returns c = old_title _ _ _ c.is_title_in.ensures
 
-pub is-old-title-spec : {M : Type 1} → statement M
-is-old-title-spec =
+pub is_old_title_spec : {M : Type 1} → statement M
+is_old_title_spec =
     tie.close
     (tie.spec
     shared-slice-read-n

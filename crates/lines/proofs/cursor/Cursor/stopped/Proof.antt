@@ -1,11 +1,11 @@
 use Rattle.lines.proofs.cursor.Cursor.stopped.Statement.{statement}
 use Rattle.lines.proofs.cursor.Cursor.stopped.Tie as tie
 
-returns : tie.Need-returns
-returns c = rw c.if1.true
+returns : tie.Need-returns-then-self
+returns c = rw c.if-self.true
 
-returns-2 : tie.Need-returns-2
-returns-2 c = rw c.if1.false
+returns-2 : tie.Need-returns
+returns-2 c = rw c.if-self.false
 
-pub stopped-spec : {M : Type 1} → statement M
-stopped-spec = tie.close (tie.spec returns returns-2)
+pub stopped_spec : {M : Type 1} → statement M
+stopped_spec = tie.close (tie.spec returns returns-2)
