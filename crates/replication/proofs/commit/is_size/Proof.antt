@@ -8,5 +8,5 @@ returns : tie.Need-returns
 unfolding size_form all within
 returns c = rw and-true
 
-pub is-size-spec : {M : Type 1} → statement M
-is-size-spec = tie.close (tie.spec returns)
+pub is_size_spec : {M : Type 1} → statement M
+is_size_spec = tie.close (tie.spec returns)

@@ -13,70 +13,59 @@ use borrow.Author.Rules.{rules}
 use Rattle.replication.proofs.commit.stopped_by_operations.Statement.{statement}
 use Rattle.replication.proofs.commit.stopped_by_operations.Tie as tie
 
-is-size-requires : tie.Need-is-size-requires
+is-size-requires : tie.Need-is_size-requires
 is-size-requires c κs = search rules
 
-returns : tie.Need-returns
-returns c = let r = c.before.is-size in size_wrong _ _ _ _ (sym r.ensures ∙ not-true r.result c.if1.true)
+returns : tie.Need-returns-then-not-is_size
+returns c = let r = c.is_size in size_wrong _ _ _ _ (sym r.ensures ∙ c.if-not-is_size.true)
 
-all-operations-requires : tie.Need-all-operations-requires
+all-operations-requires : tie.Need-all_operations-requires
 all-operations-requires c κs = search rules
 
-abbrev start : tie.Else1 → tie.Start
-start c = c.before.before.before.before
+right-size : (c : tie.Else-not-is_size) → size_form c.args.operations.now ≡ true
+right-size c = let r = c.is_size in sym r.ensures ∙ c.if-not-is_size.false
 
-right-size : (c : tie.Else1) → size_form (start c).args.operations.now ≡ true
-right-size c = let r = c.before.is-size in sym r.ensures ∙ not-false r.result c.if1.false
+right-form : (c : tie.Else-not-all_operations) → every operation_form (operations_of c.args.operations.now) ≡ true
+right-form c = let r = c.all_operations in sym r.ensures ∙ c.if-not-all_operations.false
 
-right-form : (c : tie.Else2) → every operation_form (operations_of (start c.before.before).args.operations.now) ≡ true
-right-form c = let r = c.before.all-operations in sym r.ensures ∙ not-false r.result c.if2.false
+returns-2 : tie.Need-returns-then-not-all_operations
+returns-2 c = let r = c.all_operations in form_wrong _ _ _ _ (right-size c.before.before) (sym r.ensures ∙ c.if-not-all_operations.true)
 
-returns-2 : tie.Need-returns-2
-returns-2 c = let r = c.before.all-operations in form_wrong _ _ _ _ (right-size c.before.before) (sym r.ensures ∙ not-true r.result c.if2.true)
-
-any-spaced-requires : tie.Need-any-spaced-requires
+any-spaced-requires : tie.Need-any_spaced-requires
 any-spaced-requires c κs = forms_fields _ (right-form c)
 
-right-titles : (c : tie.Else3) → any spaced (operations_of (start c.before.before.before.before).args.operations.now) ≡ false
-right-titles c = let r = c.before.any-spaced in sym r.ensures ∙ c.if3.false
+right-titles : (c : tie.Else-any_spaced) → any spaced (operations_of c.args.operations.now) ≡ false
+right-titles c = let r = c.any_spaced in sym r.ensures ∙ c.if-any_spaced.false
 
-returns-3 : tie.Need-returns-3
-returns-3 c = let b = c.before.before in
-    let r = c.before.any-spaced in
-    title_spaced _ _ _ _ (right-size b.before.before) (right-form b) (sym r.ensures ∙ c.if3.true)
+returns-3 : tie.Need-returns-then-any_spaced
+returns-3 c = let r = c.any_spaced in
+    title_spaced _ _ _ _ (right-size c.before.before.before.before) (right-form c.before.before) (sym r.ensures ∙ c.if-any_spaced.true)
 
-few : (c : tie.Else3) → let n = length (start c.before.before.before.before).args.operations.now / 80 in (1 ≤ n) × (n ≤ 8)
+few : (c : tie.Else-any_spaced) → let n = length c.args.operations.now / 80 in (1 ≤ n) × (n ≤ 8)
 few c = size_few _ (right-size c.before.before.before.before)
 
-cast-n : tie.Need-overflow-cast-n
+cast-n : tie.Need-overflow_cast-n
 cast-n c = let k = (few c).1 in omega arith
 
-add-if4 : tie.Need-overflow-add-if4
+add-if4 : tie.Need-overflow_add-used
 add-if4 c = let k = (few c).1 in omega arith
 
-returns-4 : tie.Need-returns-4
-returns-4 c = let t = c.before in
-    let b = t.before.before in
-    log_full _ _ _ _ (right-size b.before.before) (right-form b) (right-titles t) c.if4.true
+returns-4 : tie.Need-returns-then-used-n
+returns-4 c = log_full _ _ _ _ (right-size c.before.before.before.before.before) (right-form c.before.before.before) (right-titles c.before) c.if-used-n.true
 
-meets-all-requires : tie.Need-meets-all-requires
-meets-all-requires c κs = let b = c.before.before.before in
-    ((start b.before.before).requires.1, forms_fields _ (right-form b))
+meets-all-requires : tie.Need-meets_all-requires
+meets-all-requires c κs = (c.requires.1, forms_fields _ (right-form c.before.before.before))
 
-returns-5 : tie.Need-returns-5
-returns-5 c = let r = c.before.meets-all in
-    let t = c.before.before.before in
-    let b = t.before.before in
-    carts_wrong _ _ _ _ (right-size b.before.before) (right-form b) (right-titles t) c.before.before.if4.false (sym r.ensures ∙ not-true r.result c.if5.true)
+returns-5 : tie.Need-returns-then-not-meets_all
+returns-5 c = let r = c.meets_all in
+    carts_wrong _ _ _ _ (right-size c.before.before.before.before.before.before.before) (right-form c.before.before.before.before.before) (right-titles c.before.before.before) c.if-used-n.false (sym r.ensures ∙ c.if-not-meets_all.true)
 
-returns-6 : tie.Need-returns-6
-returns-6 c = let r = c.before.meets-all in
-    let t = c.before.before.before in
-    let b = t.before.before in
-    may_commit _ _ _ _ (right-size b.before.before) (right-form b) (right-titles t) c.before.before.if4.false (sym r.ensures ∙ not-false r.result c.if5.false)
+returns-6 : tie.Need-returns
+returns-6 c = let r = c.meets_all in
+    may_commit _ _ _ _ (right-size c.before.before.before.before.before.before.before) (right-form c.before.before.before.before.before) (right-titles c.before.before.before) c.if-used-n.false (sym r.ensures ∙ c.if-not-meets_all.false)
 
-pub stopped-by-operations-spec : {M : Type 1} → statement M
-stopped-by-operations-spec =
+pub stopped_by_operations_spec : {M : Type 1} → statement M
+stopped_by_operations_spec =
     tie.close
     (tie.spec
     is-size-requires

@@ -4,19 +4,19 @@ use borrow.Author.Rules.{rules}
 use Rattle.replication.proofs.commit.tell_session.Statement.{statement}
 use Rattle.replication.proofs.commit.tell_session.Tie as tie
 
-returns : tie.Need-returns
+returns : tie.Need-returns-then-stopped-ne8
 unfolding told_sessions
-returns c = rw (ne_eqb _ _ c.if1.true)
+returns c = rw (ne_eqb _ _ c.if-stopped-ne8.true)
 
-put-number-requires : tie.Need-put-number-requires
-put-number-requires c κs = c.before.before.before.requires c.before.if1.false
+put-number-requires : tie.Need-put_number-requires
+put-number-requires c κs = c.requires c.if-stopped-ne8.false
 
-same_length : tie.Need-same-length
+same_length : tie.Need-shape_of-sessions
 same_length c = search rules
 
-returns-2 : tie.Need-returns-2
+returns-2 : tie.Need-returns
 unfolding told_sessions
-returns-2 c = rw (eq-eqb _ _ c.before.before.before.before.if1.false) c.before.before.put-number.ensures
+returns-2 c = rw (eq-eqb _ _ c.if-stopped-ne8.false) c.put_number.ensures
 
-pub tell-session-spec : {M : Type 1} → statement M
-tell-session-spec = tie.close (tie.spec returns put-number-requires same_length returns-2)
+pub tell_session_spec : {M : Type 1} → statement M
+tell_session_spec = tie.close (tie.spec returns put-number-requires same_length returns-2)

@@ -8,27 +8,27 @@ use borrow.Author.Rules.{rules}
 use Rattle.replication.proofs.copies.copy_at.Statement.{statement}
 use Rattle.replication.proofs.copies.copy_at.Tie as tie
 
-mul-start : tie.Need-overflow-mul-start
+mul-start : tie.Need-overflow_mul-start
 mul-start c = search rules
 
-add-result : tie.Need-overflow-add-result
+add-result : tie.Need-overflow_add-result
 add-result c = search rules
 
-sub-result : tie.Need-overflow-sub-result
+sub-result : tie.Need-slice_bounds-result-count
 sub-result c = search rules
 
-part-result-start : tie.Need-slice-bounds-result-start
+part-result-start : tie.Need-slice_bounds-result-start
 part-result-start c = search rules
 
-part-result-end : tie.Need-slice-bounds-result-end
+part-result-end : tie.Need-slice_bounds-result-end
 part-result-end c = search rules
 
 returns : tie.Need-returns
 unfolding copy_at
-returns c = let a = c.before.args in
-    rw add-sub_cancel_left (refl, length_part a.library.now (10240 * a.i) 10240 (omega (arith, c.before.requires)))
+returns c = let a = c.args in
+    rw add-sub_cancel_left (refl, length_part a.library.now (10240 * a.i) 10240 (omega (arith, c.requires)))
 
-pub copy-at-spec : {M : Type 1} → statement M
-copy-at-spec =
+pub copy_at_spec : {M : Type 1} → statement M
+copy_at_spec =
     tie.close
     (tie.spec mul-start add-result sub-result part-result-start part-result-end returns)

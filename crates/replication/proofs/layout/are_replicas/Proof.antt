@@ -10,47 +10,44 @@ use Rattle.replication.specs.Layout.{replica_form}
 use Rattle.replication.proofs.layout.are_replicas.Statement.{statement}
 use Rattle.replication.proofs.layout.are_replicas.Tie as tie
 
-abbrev invariant-loop : tie.invariant-loop
-invariant-loop library studios ok₀ i₀ ok i = (i ≤ 5) × (each_part (replica_form studios) 10240 5 0 library ≡ (ok && each_part (replica_form studios) 10240 (5 - i) i (drop (10240 * i) library)))
+abbrev invariant-loop-i : tie.invariant-loop-i
+invariant-loop-i library studios ok₀ i₀ ok i = (i ≤ 5) × (each_part (replica_form studios) 10240 5 0 library ≡ (ok && each_part (replica_form studios) 10240 (5 - i) i (drop (10240 * i) library)))
 
-abbrev decreases-loop : tie.decreases-loop
-decreases-loop library studios ok₀ i₀ ok i = 5 - i
+abbrev decreases-loop-i : tie.decreases-loop-i
+decreases-loop-i library studios ok₀ i₀ ok i = 5 - i
 
-loop-holds : tie.Need-loop-init invariant-loop decreases-loop
+loop-holds : tie.Need-loop-i-init invariant-loop-i decreases-loop-i
 loop-holds c = (omega arith, refl)
 
-copy-at-requires : tie.Need-copy-at-requires invariant-loop decreases-loop
-copy-at-requires c κs = let t = c.before in (t.before.before.requires, omega arith)
+copy-at-requires : tie.Need-copy_at-requires invariant-loop-i decreases-loop-i
+copy-at-requires c κs = (c.requires, omega arith)
 
-is-replica-requires : tie.Need-is-replica-requires invariant-loop decreases-loop
+is-replica-requires : tie.Need-is_replica-ok-requires invariant-loop-i decreases-loop-i
 is-replica-requires c κs = c.copy_at.ensures.1
 
-add-i : tie.Need-overflow-add-i invariant-loop decreases-loop
+add-i : tie.Need-overflow_add-i invariant-loop-i decreases-loop-i
 add-i c = omega arith
 
-loop-less : tie.Need-loop-smaller invariant-loop decreases-loop
+loop-less : tie.Need-loop-i-smaller invariant-loop-i decreases-loop-i
 loop-less c = omega arith
 
-loop-again : tie.Need-loop-preserved invariant-loop decreases-loop
+loop-again : tie.Need-loop-i-preserved invariant-loop-i decreases-loop-i
 unfolding copy_at
-loop-again c = let l = c.before in
-    let t = l.before.before in
-    let g = t.before.before.args in
+loop-again c = let g = c.args in
     let s = g.library.now in
-    let e = c.is-replica.ensures ∙ ap (replica_form g.studios t.loop.i) l.copy_at.ensures.0 in
-    (omega arith, each_more (replica_form g.studios) 10240 5 t.loop.i t.loop.i s t.loop.ok (omega arith) t.loop.invariant.1 (ap (λ b. t.loop.ok && b) e))
+    let e = c.is_replica-ok.ensures ∙ ap (replica_form g.studios c.loop-i.i) c.copy_at.ensures.0 in
+    (omega arith, each_more (replica_form g.studios) 10240 5 c.loop-i.i c.loop-i.i s c.loop-i.ok (omega arith) c.loop-i.invariant.1 (ap (λ b. c.loop-i.ok && b) e))
 
-returns : tie.Need-returns invariant-loop decreases-loop
-returns c = let t = c.before in
-    let g = t.before.before.args in
-    each_done (replica_form g.studios) 10240 5 t.loop.i t.loop.i g.library.now t.loop.ok (omega arith) t.loop.invariant.1
+returns : tie.Need-returns invariant-loop-i decreases-loop-i
+returns c = let g = c.args in
+    each_done (replica_form g.studios) 10240 5 c.loop-i.i c.loop-i.i g.library.now c.loop-i.ok (omega arith) c.loop-i.invariant.1
 
-pub are-replicas-spec : {M : Type 1} → statement M
-are-replicas-spec =
+pub are_replicas_spec : {M : Type 1} → statement M
+are_replicas_spec =
     tie.close
     (tie.spec
-    invariant-loop
-    decreases-loop
+    invariant-loop-i
+    decreases-loop-i
     loop-holds
     copy-at-requires
     is-replica-requires

@@ -10,66 +10,64 @@ use Rattle.replication.specs.Layout.{session_form, session_form_of}
 use Rattle.replication.proofs.layout.are_sessions.Statement.{statement}
 use Rattle.replication.proofs.layout.are_sessions.Tie as tie
 
-abbrev invariant-loop : tie.invariant-loop
-invariant-loop control sessions ok₀ s₀ ok s = (s ≤ 16) × (each_part (session_form control) 80 16 1 sessions ≡ (ok && each_part (session_form control) 80 (16 - s) (s + 1) (drop (80 * s) sessions)))
+abbrev invariant-loop-s : tie.invariant-loop-s
+invariant-loop-s control sessions ok₀ s₀ ok s = (s ≤ 16) × (each_part (session_form control) 80 16 1 sessions ≡ (ok && each_part (session_form control) 80 (16 - s) (s + 1) (drop (80 * s) sessions)))
 
-abbrev decreases-loop : tie.decreases-loop
-decreases-loop control sessions ok₀ s₀ ok s = 16 - s
+abbrev decreases-loop-s : tie.decreases-loop-s
+decreases-loop-s control sessions ok₀ s₀ ok s = 16 - s
 
-loop-holds : tie.Need-loop-init invariant-loop decreases-loop
+loop-holds : tie.Need-loop-s-init invariant-loop-s decreases-loop-s
 loop-holds c = (omega arith, refl)
 
-cast-start : tie.Need-overflow-cast-start invariant-loop decreases-loop
+cast-start : tie.Need-overflow_cast-start invariant-loop-s decreases-loop-s
 cast-start c = omega arith
 
-mul-start : tie.Need-overflow-mul-start invariant-loop decreases-loop
+mul-start : tie.Need-overflow_mul-start invariant-loop-s decreases-loop-s
 mul-start c = omega arith
 
-add-end : tie.Need-overflow-add-end invariant-loop decreases-loop
+add-end : tie.Need-overflow_add-end invariant-loop-s decreases-loop-s
 add-end c = omega arith
 
-add-s : tie.Need-overflow-add-s invariant-loop decreases-loop
+add-s : tie.Need-overflow_add-s invariant-loop-s decreases-loop-s
 add-s c = omega arith
 
-studio-of-requires : tie.Need-studio-of-requires invariant-loop decreases-loop
+studio-of-requires : tie.Need-studio_of-studio-requires invariant-loop-s decreases-loop-s
 studio-of-requires c κs = (omega arith, omega arith)
 
-sub-is-session : tie.Need-overflow-sub-is-session invariant-loop decreases-loop
+sub-is-session : tie.Need-slice_bounds-is_session-count invariant-loop-s decreases-loop-s
 sub-is-session c = omega arith
 
-part-is-session-start : tie.Need-slice-bounds-is-session-start invariant-loop decreases-loop
+part-is-session-start : tie.Need-slice_bounds-is_session-start invariant-loop-s decreases-loop-s
 part-is-session-start c = omega arith
 
-part-is-session-end : tie.Need-slice-bounds-is-session-end invariant-loop decreases-loop
+part-is-session-end : tie.Need-slice_bounds-is_session-end invariant-loop-s decreases-loop-s
 part-is-session-end c = omega arith
 
-is-session-requires : tie.Need-is-session-requires invariant-loop decreases-loop
-is-session-requires c κs = let t = c.before.before.before in length_lent 80 t.loop.s t.before.before.args.sessions.now (omega arith)
+is-session-requires : tie.Need-is_session-ok-requires invariant-loop-s decreases-loop-s
+is-session-requires c κs = length_lent 80 c.loop-s.s c.args.sessions.now (omega arith)
 
-loop-less : tie.Need-loop-smaller invariant-loop decreases-loop
+loop-less : tie.Need-loop-s-smaller invariant-loop-s decreases-loop-s
 loop-less c = omega arith
 
-loop-again : tie.Need-loop-preserved invariant-loop decreases-loop
+loop-again : tie.Need-loop-s-preserved invariant-loop-s decreases-loop-s
 unfolding session_form
-loop-again c = let t = c.before.before.before.before in
-    let g = t.before.before.args in
+loop-again c = let g = c.args in
     let x = g.sessions.now in
-    let studio = c.before.before.studio-of.result in
-    let e = c.is-session.ensures ∙ ap (session_form_of studio g.control.commits) (lent 80 t.loop.s x)
-    ∙ ap (λ i. session_form_of i g.control.commits (part x (80 * t.loop.s) 80)) c.before.before.studio-of.ensures in
-    (omega arith, each_more (session_form g.control) 80 16 t.loop.s (t.loop.s + 1) x t.loop.ok (omega arith) t.loop.invariant.1 (ap (λ b. t.loop.ok && b) e))
+    let studio = c.studio_of-studio.result in
+    let e = c.is_session-ok.ensures ∙ ap (session_form_of studio g.control.commits) (lent 80 c.loop-s.s x)
+    ∙ ap (λ i. session_form_of i g.control.commits (part x (80 * c.loop-s.s) 80)) c.studio_of-studio.ensures in
+    (omega arith, each_more (session_form g.control) 80 16 c.loop-s.s (c.loop-s.s + 1) x c.loop-s.ok (omega arith) c.loop-s.invariant.1 (ap (λ b. c.loop-s.ok && b) e))
 
-returns : tie.Need-returns invariant-loop decreases-loop
-returns c = let t = c.before in
-    let g = t.before.before.args in
-    each_done (session_form g.control) 80 16 t.loop.s (t.loop.s + 1) g.sessions.now t.loop.ok (omega arith) t.loop.invariant.1
+returns : tie.Need-returns invariant-loop-s decreases-loop-s
+returns c = let g = c.args in
+    each_done (session_form g.control) 80 16 c.loop-s.s (c.loop-s.s + 1) g.sessions.now c.loop-s.ok (omega arith) c.loop-s.invariant.1
 
-pub are-sessions-spec : {M : Type 1} → statement M
-are-sessions-spec =
+pub are_sessions_spec : {M : Type 1} → statement M
+are_sessions_spec =
     tie.close
     (tie.spec
-    invariant-loop
-    decreases-loop
+    invariant-loop-s
+    decreases-loop-s
     loop-holds
     cast-start
     mul-start

@@ -5,22 +5,20 @@ use borrow.Author.Rules.{rules}
 use Rattle.replication.proofs.preview.preview.Statement.{statement}
 use Rattle.replication.proofs.preview.preview.Tie as tie
 
-decide-commit-requires : tie.Need-decide-commit-requires
+decide-commit-requires : tie.Need-decide_commit-stopped-requires
 decide-commit-requires c κs = search rules
 
-returns : tie.Need-returns
-returns c = preview_refused _ _ _ _ _ c.before.decide-commit.ensures c.if1.true
+returns : tie.Need-returns-then-stopped-ne0
+returns c = preview_refused _ _ _ _ _ c.decide_commit-stopped.ensures c.if-stopped-ne0.true
 
-add-n : tie.Need-overflow-add-n
-add-n c = let d = c.before in
-    let k = (commit_known _ _ _ _ _ d.before.decide-commit.ensures d.if1.false).few in
+add-n : tie.Need-overflow_add-n
+add-n c = let k = (commit_known _ _ _ _ _ c.decide_commit-stopped.ensures c.if-stopped-ne0.false).few in
     omega arith
 
-returns-2 : tie.Need-returns-2
-returns-2 c = let d = c.before in
-    preview_accepted _ _ _ _ _ d.before.decide-commit.ensures d.if1.false
+returns-2 : tie.Need-returns
+returns-2 c = preview_accepted _ _ _ _ _ c.decide_commit-stopped.ensures c.if-stopped-ne0.false
 
-pub preview-spec : {M : Type 1} → statement M
-preview-spec =
+pub preview_spec : {M : Type 1} → statement M
+preview_spec =
     tie.close
     (tie.spec decide-commit-requires returns add-n returns-2)

@@ -12,40 +12,38 @@ use borrow.Author.Rules.{rules}
 use Rattle.replication.proofs.refresh.decide_refresh.Statement.{statement}
 use Rattle.replication.proofs.refresh.decide_refresh.Tie as tie
 
-returns : tie.Need-returns
+returns : tie.Need-returns-then-stopped-ne0
 unfolding refresh_stop refresh_rows
-returns c = by_first _ _ _ _ (studio_numbered _ _) _ c.before.stopped-by-studio.ensures c.if1.true
+returns c = by_first _ _ _ _ (studio_numbered _ _) _ c.stopped_by_studio-stopped.ensures c.if-stopped-ne0.true
 
-stopped-by-studio-requires : tie.Need-stopped-by-studio-requires
+stopped-by-studio-requires : tie.Need-stopped_by_studio-stopped-requires
 stopped-by-studio-requires c κs = search rules
 
 -- neither memory nor who calls stops the refresh
-known : (c : tie.Else1) → let g = c.before.before.before.before.before.args in (1 ≤ g.studio) × (g.studio ≤ 4)
-known c = (studio_counts _ _ _ (first_formed _ _ _ _ c.before.stopped-by-studio.ensures c.if1.false) (known_studio _ _ (first_who _ _ _ _ c.before.stopped-by-studio.ensures c.if1.false))).0
+known : (c : tie.Else-stopped-ne0) → let g = c.args in (1 ≤ g.studio) × (g.studio ≤ 4)
+known c = (studio_counts _ _ _ (first_formed _ _ _ _ c.stopped_by_studio-stopped.ensures c.if-stopped-ne0.false) (known_studio _ _ (first_who _ _ _ _ c.stopped_by_studio-stopped.ensures c.if-stopped-ne0.false))).0
 
-rest : (c : tie.Else1) → let g = c.before.before.before.before.before.args in (n : ℕ)
+rest : (c : tie.Else-stopped-ne0) → let g = c.args in (n : ℕ)
     → n ≡ stopped (row 11 (eqb (nth g.control.sent g.studio) (nth g.control.applied g.studio)) ∷ [])
     → n ≡ refresh_stop g.control (memory g.library.now g.log.now g.sessions.now) g.studio
 unfolding refresh_stop refresh_rows
-rest c n e = by_rest _ _ _ _ (studio_numbered _ _) _ c.before.stopped-by-studio.ensures c.if1.false n e
+rest c n e = by_rest _ _ _ _ (studio_numbered _ _) _ c.stopped_by_studio-stopped.ensures c.if-stopped-ne0.false n e
 
-sent-to-requires : tie.Need-sent-to-requires
+sent-to-requires : tie.Need-sent_to-requires
 sent-to-requires c κs = known c
 
-applied-by-requires : tie.Need-applied-by-requires
+applied-by-requires : tie.Need-applied_by-requires
 applied-by-requires c κs = known c.before
 
-returns-2 : tie.Need-returns-2
-returns-2 c = let a = c.before in
-    rest a.before.before 11 (row_stops 11 _ _ (eq-eqb _ _ (sym a.before.sent-to.ensures ∙ c.if2.true ∙ a.applied_by.ensures)))
+returns-2 : tie.Need-returns-then-sent_to-applied_by
+returns-2 c = rest c.before.before.before 11 (row_stops 11 _ _ (eq-eqb _ _ (sym c.sent_to.ensures ∙ c.if-sent_to-applied_by.true ∙ c.applied_by.ensures)))
 
-returns-3 : tie.Need-returns-3
+returns-3 : tie.Need-returns
 unfolding stopped
-returns-3 c = let a = c.before in
-    rest a.before.before 0 (sym (row_passes 11 _ [] (ne_eqb _ _ (λ z. c.if2.false (a.before.sent-to.ensures ∙ z ∙ sym a.applied_by.ensures)))))
+returns-3 c = rest c.before.before.before 0 (sym (row_passes 11 _ [] (ne_eqb _ _ (λ z. c.if-sent_to-applied_by.false (c.sent_to.ensures ∙ z ∙ sym c.applied_by.ensures)))))
 
-pub decide-refresh-spec : {M : Type 1} → statement M
-decide-refresh-spec =
+pub decide_refresh_spec : {M : Type 1} → statement M
+decide_refresh_spec =
     tie.close
     (tie.spec
     stopped-by-studio-requires

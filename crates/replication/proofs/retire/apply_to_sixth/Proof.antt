@@ -7,27 +7,27 @@ use Rattle.replication.specs.Memory.{copy_at, with_copy}
 use Rattle.replication.proofs.retire.apply_to_sixth.Statement.{statement}
 use Rattle.replication.proofs.retire.apply_to_sixth.Tie as tie
 
-sub-apply-transaction : tie.Need-overflow-sub-apply-transaction
+sub-apply-transaction : tie.Need-slice_bounds-apply_transaction-count
 sub-apply-transaction c = search rules
 
-part-apply-transaction-start : tie.Need-slice-bounds-apply-transaction-start
+part-apply-transaction-start : tie.Need-slice_bounds-apply_transaction-start
 part-apply-transaction-start c = search rules
 
-part-apply-transaction-end : tie.Need-slice-bounds-apply-transaction-end
+part-apply-transaction-end : tie.Need-slice_bounds-apply_transaction-end
 part-apply-transaction-end c = search rules
 
-apply-transaction-requires : tie.Need-apply-transaction-requires
-apply-transaction-requires c κs = let g = c.before.before.before in (length_part g.args.library.now 51200 10240 (omega (arith, g.requires.0)), g.requires.1)
+apply-transaction-requires : tie.Need-apply_transaction-requires
+apply-transaction-requires c κs = (length_part c.args.library.now 51200 10240 (omega (arith, c.requires.0)), c.requires.1)
 
-same_length : tie.Need-same-length
+same_length : tie.Need-shape_of-library
 same_length c = search rules
 
 returns : tie.Need-returns
 unfolding copy_at with_copy
-returns c = ap (over c.before.before.before.before.before.before.args.library.now 51200 10240) c.before.before.apply-transaction.ensures
+returns c = ap (over c.args.library.now 51200 10240) c.apply_transaction.ensures
 
-pub apply-to-sixth-spec : {M : Type 1} → statement M
-apply-to-sixth-spec =
+pub apply_to_sixth_spec : {M : Type 1} → statement M
+apply_to_sixth_spec =
     tie.close
     (tie.spec
     sub-apply-transaction

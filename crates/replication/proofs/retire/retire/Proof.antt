@@ -7,51 +7,47 @@ use Rattle.replication.proofs.RetireLaws.{Retirable, retire_refused, retire_know
 use Rattle.replication.proofs.retire.retire.Statement.{statement}
 use Rattle.replication.proofs.retire.retire.Tie as tie
 
-decide-retire-requires : tie.Need-decide-retire-requires
+decide-retire-requires : tie.Need-decide_retire-stopped-requires
 decide-retire-requires c κs = search rules
 
-same_length : tie.Need-same-length
+same_length : tie.Need-shape_of-library-then-stopped-ne0
 same_length c = search rules
 
-same-length-2 : tie.Need-same-length-2
+same-length-2 : tie.Need-shape_of-log-then-stopped-ne0
 same-length-2 c = search rules
 
-returns : tie.Need-returns
-returns c = retire_refused _ _ _ c.before.decide-retire.ensures c.if1.true
-
-abbrev start : tie.After-decide-retire → tie.Start
-start c = c.before.before.before.before.before.before
+returns : tie.Need-returns-then-stopped-ne0
+returns c = retire_refused _ _ _ c.decide_retire-stopped.ensures c.if-stopped-ne0.true
 
 -- no row stops the retire
-known : (c : tie.Else1) → let g = (start c.before).args in Retirable g.control (memory g.library.now g.log.now g.sessions.now)
-known c = retire_known _ _ _ c.before.decide-retire.ensures c.if1.false
+known : (c : tie.Else-stopped-ne0) → let g = c.args in Retirable g.control (memory g.library.now g.log.now g.sessions.now)
+known c = retire_known _ _ _ c.decide_retire-stopped.ensures c.if-stopped-ne0.false
 
-at-requires : tie.Need-at-requires
-at-requires c κs = let k = known c.before in (k.log, (k.low, k.high))
+at-requires : tie.Need-at-links-requires
+at-requires c κs = let k = known c in (k.log, (k.low, k.high))
 
-apply-to-sixth-requires : tie.Need-apply-to-sixth-requires
-apply-to-sixth-requires c κs = let k = known c.before.before.before.before in (k.library, (k.log, k.acts))
+apply-to-sixth-requires : tie.Need-apply_to_sixth-requires
+apply-to-sixth-requires c κs = let k = known c.before.before in (k.library, (k.log, k.acts))
 
-retire-transaction-requires : tie.Need-retire-transaction-requires
-retire-transaction-requires c κs = let k = known c.before.before.before.before.before.before.before.before in ((k.log, k.ends), (omega (arith, k.high), k.last))
+retire-transaction-requires : tie.Need-retire_transaction-freed-requires
+retire-transaction-requires c κs = let k = known c.before.before.before.before.before.before in ((k.log, k.ends), (omega (arith, k.high), k.last))
 
-after-retire-requires : tie.Need-after-retire-requires
-after-retire-requires c κs = let k = known c.before.before.before.before.before.before.before.before.before.before.before in (rw c.before.before.retire-transaction.ensures.1 k.held, k.few)
+after-retire-requires : tie.Need-after_retire-left-requires
+after-retire-requires c κs = let k = known c.before.before.before.before.before.before.before.before.before in (rw c.retire_transaction-freed.ensures.1 k.held, k.few)
 
-same-length-3 : tie.Need-same-length-3
-same-length-3 c = c.before.before.before.before.before.before.before.apply-to-sixth.auto.0
+same-length-3 : tie.Need-shape_of-library
+same-length-3 c = c.apply_to_sixth.auto.library
 
-same-length-4 : tie.Need-same-length-4
-same-length-4 c = c.before.before.before.retire-transaction.auto.0
+same-length-4 : tie.Need-shape_of-log
+same-length-4 c = c.retire_transaction-freed.auto.log
 
-returns-2 : tie.Need-returns-2
-returns-2 c = let e = c.before.before.before.before.before.before.before.before.before.before.before.before in
-    let r = c.before.before.before.retire-transaction.ensures in
-    retire_accepted _ _ _ e.before.decide-retire.ensures e.if1.false _ r.1 _ (ap (λ (x : Record). x.next_transaction) c.before.before.before.before.before.before.before.before.before.before.at.ensures.0) _ c.after-retire.ensures _ _
-    c.before.before.before.before.before.before.before.apply-to-sixth.ensures r.0
+returns-2 : tie.Need-returns
+returns-2 c = let r = c.retire_transaction-freed.ensures in
+    retire_accepted _ _ _ c.decide_retire-stopped.ensures c.if-stopped-ne0.false _ r.1 _ (ap (λ (x : Record). x.next_transaction) c.at-links.ensures.0) _ c.after_retire-left.ensures _ _
+    c.apply_to_sixth.ensures r.0
 
-pub retire-spec : {M : Type 1} → statement M
-retire-spec =
+pub retire_spec : {M : Type 1} → statement M
+retire_spec =
     tie.close
     (tie.spec
     decide-retire-requires

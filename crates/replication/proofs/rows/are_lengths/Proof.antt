@@ -8,5 +8,5 @@ returns : tie.Need-returns
 unfolding lengths_form all
 returns c = rw (and-true, and_assoc)
 
-pub are-lengths-spec : {M : Type 1} → statement M
-are-lengths-spec = tie.close (tie.spec returns)
+pub are_lengths_spec : {M : Type 1} → statement M
+are_lengths_spec = tie.close (tie.spec returns)

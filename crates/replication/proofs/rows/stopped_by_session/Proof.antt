@@ -3,19 +3,19 @@ use borrow.Author.Rules.{rules}
 use Rattle.replication.proofs.rows.stopped_by_session.Statement.{statement}
 use Rattle.replication.proofs.rows.stopped_by_session.Tie as tie
 
-stopped-by-memory-requires : tie.Need-stopped-by-memory-requires
+stopped-by-memory-requires : tie.Need-stopped_by_memory-by_memory-requires
 stopped-by-memory-requires c κs = search rules
 
-returns : tie.Need-returns
-returns c = by_memory _ _ _ _ c.before.stopped-by-memory.ensures c.if1.true
+returns : tie.Need-returns-then-by_memory-ne0
+returns c = by_memory _ _ _ _ c.stopped_by_memory-by_memory.ensures c.if-by_memory-ne0.true
 
-session-row-requires : tie.Need-session-row-requires
+session-row-requires : tie.Need-session_row-requires
 session-row-requires c κs = search rules
 
-returns-2 : tie.Need-returns-2
-returns-2 c = let m = c.before in by_who _ _ _ _ m.before.stopped-by-memory.ensures m.if1.false _ c.session-row.ensures
+returns-2 : tie.Need-returns
+returns-2 c = by_who _ _ _ _ c.stopped_by_memory-by_memory.ensures c.if-by_memory-ne0.false _ c.session_row.ensures
 
-pub stopped-by-session-spec : {M : Type 1} → statement M
-stopped-by-session-spec =
+pub stopped_by_session_spec : {M : Type 1} → statement M
+stopped_by_session_spec =
     tie.close
     (tie.spec stopped-by-memory-requires returns session-row-requires returns-2)

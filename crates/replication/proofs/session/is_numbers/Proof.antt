@@ -11,89 +11,85 @@ use Rattle.replication.proofs.RequestLaws.{numbers_few, numbers_many, numbers_mo
 use Rattle.replication.proofs.session.is_numbers.Statement.{statement}
 use Rattle.replication.proofs.session.is_numbers.Tie as tie
 
-abbrev invariant-loop : tie.invariant-loop
-invariant-loop x n ok₀ i₀ ok i = (i ≤ n) × (every (within 1 128) (numbers_in x) ≡ (ok && every (within 1 128) (u16s (n - i) (drop (2 * i) (drop 16 x)))))
+abbrev invariant-loop-i : tie.invariant-loop-i
+invariant-loop-i x n ok₀ i₀ ok i = (i ≤ n) × (every (within 1 128) (numbers_in x) ≡ (ok && every (within 1 128) (u16s (n - i) (drop (2 * i) (drop 16 x)))))
 
-abbrev decreases-loop : tie.decreases-loop
-decreases-loop x n ok₀ i₀ ok i = n - i
+abbrev decreases-loop-i : tie.decreases-loop-i
+decreases-loop-i x n ok₀ i₀ ok i = n - i
 
-byte-at-requires : tie.Need-byte-at-requires invariant-loop decreases-loop
+byte-at-requires : tie.Need-byte_at-n-requires invariant-loop-i decreases-loop-i
 byte-at-requires c κs = omega arith
 
-cast-n : tie.Need-overflow-cast-n invariant-loop decreases-loop
+cast-n : tie.Need-overflow_cast-n invariant-loop-i decreases-loop-i
 cast-n c = omega arith
 
-returns : tie.Need-returns invariant-loop decreases-loop
-returns c = let b = c.before in numbers_few b.before.before.args.x.now b.byte_at.result b.byte_at.ensures.0 c.if1.true
+returns : tie.Need-returns-then-n-lt1 invariant-loop-i decreases-loop-i
+returns c = numbers_few c.args.x.now c.byte_at-n.result c.byte_at-n.ensures.0 c.if-n-lt1.true
 
-returns-2 : tie.Need-returns-2 invariant-loop decreases-loop
-returns-2 c = let b = c.before.before in numbers_many b.before.before.args.x.now b.byte_at.result b.byte_at.ensures.0 c.if2.true
+returns-2 : tie.Need-returns-then-n-gt-NUMBERS_MOST invariant-loop-i decreases-loop-i
+returns-2 c = numbers_many c.args.x.now c.byte_at-n.result c.byte_at-n.ensures.0 c.if-n-gt-NUMBERS_MOST.true
 
-loop-holds : tie.Need-loop-init invariant-loop decreases-loop
+loop-holds : tie.Need-loop-i-init invariant-loop-i decreases-loop-i
 unfolding numbers_in
-loop-holds c = let b = c.before.before in
-    let x = b.before.before.args.x.now in
-    let z : b.byte_at.result - 0 ≡ byte x 1 = sub-zero _ ∙ b.byte_at.ensures.0 in
+loop-holds c = let x = c.args.x.now in
+    let z : c.byte_at-n.result - 0 ≡ byte x 1 = sub-zero _ ∙ c.byte_at-n.ensures.0 in
     (omega arith, rw z)
 
-mul-u16-at : tie.Need-overflow-mul-u16-at invariant-loop decreases-loop
+mul-u16-at : tie.Need-overflow_mul-i invariant-loop-i decreases-loop-i
 mul-u16-at c = omega arith
 
-add-u16-at : tie.Need-overflow-add-u16-at invariant-loop decreases-loop
+add-u16-at : tie.Need-overflow_add-i invariant-loop-i decreases-loop-i
 add-u16-at c = omega arith
 
-u16-at-requires : tie.Need-u16-at-requires invariant-loop decreases-loop
+u16-at-requires : tie.Need-u16_at-requires invariant-loop-i decreases-loop-i
 u16-at-requires c κs = omega arith
 
-is-within-requires : tie.Need-is-within-requires invariant-loop decreases-loop
+is-within-requires : tie.Need-is_within-ok-requires invariant-loop-i decreases-loop-i
 is-within-requires c κs = tt
 
-add-i : tie.Need-overflow-add-i invariant-loop decreases-loop
+add-i : tie.Need-overflow_add-i-in-loop-i invariant-loop-i decreases-loop-i
 add-i c = omega arith
 
-loop-less : tie.Need-loop-smaller invariant-loop decreases-loop
+loop-less : tie.Need-loop-i-smaller invariant-loop-i decreases-loop-i
 loop-less c = omega arith
 
-loop-again : tie.Need-loop-preserved invariant-loop decreases-loop
-loop-again c = let t = c.before.before.before in
-    let x = t.before.before.before.before.before.args.x.now in
-    let e = c.is_Within.ensures ∙ ap (within 1 128) c.before.u16-at.ensures.0 in
-    (omega arith, numbers_more (within 1 128) x _ t.loop.i t.loop.ok t.loop.invariant.1 c.before.before.loop-test.true (ap (λ b. t.loop.ok && b) e))
+loop-again : tie.Need-loop-i-preserved invariant-loop-i decreases-loop-i
+loop-again c = let x = c.args.x.now in
+    let e = c.is_within-ok.ensures ∙ ap (within 1 128) c.u16_at.ensures.0 in
+    (omega arith, numbers_more (within 1 128) x _ c.loop-i.i c.loop-i.ok c.loop-i.invariant.1 c.loop-i-test.true (ap (λ b. c.loop-i.ok && b) e))
 
-mul-end : tie.Need-overflow-mul-end invariant-loop decreases-loop
+mul-end : tie.Need-overflow_mul-end invariant-loop-i decreases-loop-i
 mul-end c = omega arith
 
-add-end : tie.Need-overflow-add-end invariant-loop decreases-loop
+add-end : tie.Need-overflow_add-end invariant-loop-i decreases-loop-i
 add-end c = omega arith
 
-sub-all-zero : tie.Need-overflow-sub-all-zero invariant-loop decreases-loop
+sub-all-zero : tie.Need-slice_bounds-all_zero-count invariant-loop-i decreases-loop-i
 sub-all-zero c = omega arith
 
-part-all-zero-start : tie.Need-slice-bounds-all-zero-start invariant-loop decreases-loop
+part-all-zero-start : tie.Need-slice_bounds-all_zero-start invariant-loop-i decreases-loop-i
 part-all-zero-start c = omega arith
 
-part-all-zero-end : tie.Need-slice-bounds-all-zero-end invariant-loop decreases-loop
+part-all-zero-end : tie.Need-slice_bounds-all_zero-end invariant-loop-i decreases-loop-i
 part-all-zero-end c = omega arith
 
-all-zero-requires : tie.Need-all-zero-requires invariant-loop decreases-loop
+all-zero-requires : tie.Need-all_zero-requires invariant-loop-i decreases-loop-i
 all-zero-requires c κs = tt
 
-returns-3 : tie.Need-returns-3 invariant-loop decreases-loop
-returns-3 c = let t = c.before.before.before in
-    let b = t.before.before.before in
-    let x = b.before.before.args.x.now in
-    let n = b.byte_at.result in
+returns-3 : tie.Need-returns invariant-loop-i decreases-loop-i
+returns-3 c = let x = c.args.x.now in
+    let n = c.byte_at-n.result in
     let h : n ≤ 32 = omega arith in
-    numbers_are x n b.byte_at.ensures.0 (omega arith) h t.loop.ok c.all-zero.result
-    (numbers_end (within 1 128) x n t.loop.i t.loop.ok t.loop.invariant.1 c.before.before.loop-test.false)
-    (c.all-zero.ensures ∙ ap all_zero (sym (numbers_rest x n b.before.before.requires h)))
+    numbers_are x n c.byte_at-n.ensures.0 (omega arith) h c.loop-i.ok c.all_zero.result
+    (numbers_end (within 1 128) x n c.loop-i.i c.loop-i.ok c.loop-i.invariant.1 c.loop-i-test.false)
+    (c.all_zero.ensures ∙ ap all_zero (sym (numbers_rest x n c.requires h)))
 
-pub is-numbers-spec : {M : Type 1} → statement M
-is-numbers-spec =
+pub is_numbers_spec : {M : Type 1} → statement M
+is_numbers_spec =
     tie.close
     (tie.spec
-    invariant-loop
-    decreases-loop
+    invariant-loop-i
+    decreases-loop-i
     byte-at-requires
     cast-n
     returns

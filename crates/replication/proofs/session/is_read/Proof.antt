@@ -5,29 +5,29 @@ use borrow.Author.Rules.{rules}
 use Rattle.replication.proofs.session.is_read.Statement.{statement}
 use Rattle.replication.proofs.session.is_read.Tie as tie
 
-shared-slice-read-kind : tie.Need-shared-slice-read-kind
+shared-slice-read-kind : tie.Need-bounds-x-0
 shared-slice-read-kind c = search rules
 
-is-numbers-requires : tie.Need-is-numbers-requires
+is-numbers-requires : tie.Need-is_numbers-requires
 is-numbers-requires c κs = search rules
 
-returns : tie.Need-returns
+returns : tie.Need-returns-then-kind-eq1
 unfolding request_fields
-returns c = simp (c.is-numbers.ensures, eq-eqb _ _ c.before.if1.true)
+returns c = simp (c.is_numbers.ensures, eq-eqb _ _ c.if-kind-eq1.true)
 
-is-title-as-asked-requires : tie.Need-is-title-as-asked-requires
+is-title-as-asked-requires : tie.Need-is_title_as_asked-requires
 is-title-as-asked-requires c κs = search rules
 
-returns-2 : tie.Need-returns-2
+returns-2 : tie.Need-returns-then-kind-eq2
 unfolding request_fields has_title
-returns-2 c = simp (c.is-title-as-asked.ensures, eq-eqb _ _ c.before.if2.true, ne_eqb _ _ c.before.before.if1.false)
+returns-2 c = simp (c.is_title_as_asked.ensures, eq-eqb _ _ c.if-kind-eq2.true, ne_eqb _ _ c.if-kind-eq1.false)
 
-returns-3 : tie.Need-returns-3
+returns-3 : tie.Need-returns
 unfolding request_fields
-returns-3 c = simp (ne_eqb _ _ c.if2.false, ne_eqb _ _ c.before.if1.false)
+returns-3 c = simp (ne_eqb _ _ c.if-kind-eq2.false, ne_eqb _ _ c.if-kind-eq1.false)
 
-pub is-read-spec : {M : Type 1} → statement M
-is-read-spec =
+pub is_read_spec : {M : Type 1} → statement M
+is_read_spec =
     tie.close
     (tie.spec
     shared-slice-read-kind

@@ -10,41 +10,40 @@ use borrow.Author.Rules.{rules}
 use Rattle.replication.proofs.session.is_session.Statement.{statement}
 use Rattle.replication.proofs.session.is_session.Tie as tie
 
-all-zero-requires : tie.Need-all-zero-requires
+all-zero-requires : tie.Need-all_zero-requires
 all-zero-requires c κs = search rules
 
-returns : tie.Need-returns
+returns : tie.Need-returns-then-studio-eq0
 unfolding session_form_of
-returns c = simp (c.all-zero.ensures, eq-eqb _ _ c.before.if1.true)
+returns c = simp (c.all_zero.ensures, eq-eqb _ _ c.if-studio-eq0.true)
 
-u16-at-requires : tie.Need-u16-at-requires
+u16-at-requires : tie.Need-u16_at-requires
 u16-at-requires c κs = search rules
 
-sub-all-zero : tie.Need-overflow-sub-all-zero
+sub-all-zero : tie.Need-slice_bounds-all_zero-count
 sub-all-zero c = search rules
 
-part-all-zero-start : tie.Need-slice-bounds-all-zero-start
+part-all-zero-start : tie.Need-slice_bounds-all_zero-start
 part-all-zero-start c = search rules
 
-part-all-zero-end : tie.Need-slice-bounds-all-zero-end
+part-all-zero-end : tie.Need-slice_bounds-all_zero-end
 part-all-zero-end c = search rules
 
-all-zero-requires-2 : tie.Need-all-zero-requires-2
+all-zero-requires-2 : tie.Need-all_zero-requires-2
 all-zero-requires-2 c κs = search rules
 
-is-waiting-form-requires : tie.Need-is-waiting-form-requires
+is-waiting-form-requires : tie.Need-is_waiting_form-requires
 is-waiting-form-requires c κs = search rules
 
-returns-2 : tie.Need-returns-2
+returns-2 : tie.Need-returns
 unfolding session_form_of sequence_of
-returns-2 c = let u = c.before.before.before in
-    let g = u.before.before.before.args in
+returns-2 c = let g = c.args in
     let x = g.x.now in
-    rw (u.u16-at.ensures.0, c.before.all-zero2.ensures, c.is-waiting-form.ensures, ne_eqb g.studio 0 u.before.if1.false)
+    rw (c.u16_at.ensures.0, c.all_zero-2.ensures, c.is_waiting_form.ensures, ne_eqb g.studio 0 c.if-studio-eq0.false)
     (join_all_law (leb (u16 x 2) g.commits) (all_zero (part x 4 12) ∷ waiting_form x ∷ []))
 
-pub is-session-spec : {M : Type 1} → statement M
-is-session-spec =
+pub is_session_spec : {M : Type 1} → statement M
+is_session_spec =
     tie.close
     (tie.spec
     all-zero-requires

@@ -6,12 +6,12 @@ use Rattle.replication.proofs.session.put_number.Tie as tie
 put-requires : tie.Need-put-requires
 put-requires c κs = search rules
 
-same_length : tie.Need-same-length
+same_length : tie.Need-shape_of-sessions
 same_length c = search rules
 
 returns : tie.Need-returns
 unfolding session_at with_session with_sequence
-returns c = c.before.before.put.ensures
+returns c = c.put.ensures
 
-pub put-number-spec : {M : Type 1} → statement M
-put-number-spec = tie.close (tie.spec put-requires same_length returns)
+pub put_number_spec : {M : Type 1} → statement M
+put_number_spec = tie.close (tie.spec put-requires same_length returns)

@@ -7,44 +7,39 @@ use borrow.Author.Rules.{rules}
 use Rattle.replication.proofs.setup.decide_setup.Statement.{statement}
 use Rattle.replication.proofs.setup.decide_setup.Tie as tie
 
-are-lengths-requires : tie.Need-are-lengths-requires
+are-lengths-requires : tie.Need-are_lengths-requires
 are-lengths-requires c κs = search rules
 
-returns : tie.Need-returns
-returns c = setup_lengths _ _ _ (sym c.before.are-lengths.ensures ∙ not-true c.before.are-lengths.result c.if1.true)
+returns : tie.Need-returns-then-not-are_lengths
+returns c = setup_lengths _ _ _ (sym c.are_lengths.ensures ∙ c.if-not-are_lengths.true)
 
-is-within-requires : tie.Need-is-within-requires
+is-within-requires : tie.Need-is_within-requires
 is-within-requires c κs = search rules
 
-abbrev start : tie.After-are-lengths → tie.Start
-start c = c.before.before.before.before.before
+right : (c : tie.Else-not-are_lengths) → let g = c.args in lengths_form (memory g.library.now g.log.now g.sessions.now) ≡ true
+right c = sym c.are_lengths.ensures ∙ c.if-not-are_lengths.false
 
-right : (c : tie.Else1) → let g = (start c.before).args in lengths_form (memory g.library.now g.log.now g.sessions.now) ≡ true
-right c = sym c.before.are-lengths.ensures ∙ not-false c.before.are-lengths.result c.if1.false
+returns-2 : tie.Need-returns-then-not-is_within
+returns-2 c = setup_studios _ _ _ (right c.before.before) 0 (sym c.is_within.ensures ∙ c.if-not-is_within.true)
 
-returns-2 : tie.Need-returns-2
-returns-2 c = setup_studios _ _ _ (right c.before.before) 0 (sym c.before.is_Within.ensures ∙ not-true c.before.is_Within.result c.if2.true)
-
-cast-if3 : tie.Need-overflow-cast-if3
+cast-if3 : tie.Need-overflow_cast-t-9
 cast-if3 c = search rules
 
-returns-3 : tie.Need-returns-3
-returns-3 c = setup_studios _ _ _ (right c.before.before.before) 1 (ne_eqb _ _ c.if3.true)
+returns-3 : tie.Need-returns-then-places
+returns-3 c = setup_studios _ _ _ (right c.before.before.before) 1 (ne_eqb _ _ c.if-places.true)
 
-are-studios-requires : tie.Need-are-studios-requires
+are-studios-requires : tie.Need-are_studios-requires
 are-studios-requires c κs = search rules
 
-returns-4 : tie.Need-returns-4
-returns-4 c = let a = c.before in setup_studios _ _ _ (right a.before.before.before.before) 2 (sym a.are-studios.ensures ∙ not-true a.are-studios.result c.if4.true)
+returns-4 : tie.Need-returns-then-not-are_studios
+returns-4 c = setup_studios _ _ _ (right c.before.before.before.before.before) 2 (sym c.are_studios.ensures ∙ c.if-not-are_studios.true)
 
-returns-5 : tie.Need-returns-5
-returns-5 c = let a = c.before in
-    let w = a.before.before.before in
-    setup_passes _ _ _ (right w.before) (sym w.is_Within.ensures ∙ not-false w.is_Within.result a.before.before.if2.false) a.before.if3.false
-    (sym a.are-studios.ensures ∙ not-false a.are-studios.result c.if4.false)
+returns-5 : tie.Need-returns
+returns-5 c = setup_passes _ _ _ (right c.before.before.before.before.before) (sym c.is_within.ensures ∙ c.if-not-is_within.false) c.if-places.false
+    (sym c.are_studios.ensures ∙ c.if-not-are_studios.false)
 
-pub decide-setup-spec : {M : Type 1} → statement M
-decide-setup-spec =
+pub decide_setup_spec : {M : Type 1} → statement M
+decide_setup_spec =
     tie.close
     (tie.spec
     are-lengths-requires

@@ -7,7 +7,7 @@ use Rattle.replication.proofs.control.Control.log_count.Reads as reads
 use Rattle.replication.proofs.control.Control.log_count.Lts as lts
 
 -- src/control.rt:79:9
-sub-result : tie.Need-overflow-sub-result
+sub-result : tie.Need-overflow_sub-result
 sub-result c = search rules
 
 -- src/control.rt:75:5
@@ -15,5 +15,5 @@ returns : tie.Need-returns
 unfolding log_count
 returns c = refl
 
-pub log-count-spec : {M : Type 1} → statement M
-log-count-spec = tie.close (tie.spec sub-result returns)
+pub log_count_spec : {M : Type 1} → statement M
+log_count_spec = tie.close (tie.spec sub-result returns)
