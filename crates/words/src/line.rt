@@ -1,8 +1,10 @@
 // A page, printed; and the status.
 ghost use Rattle.std.specs.Prelude.{◌≤◌, length};
 
-use libc::STDOUT_FILENO;
 use lines::text;
+
+// Standard output's descriptor.
+const STDOUT: i32 = 1;
 
 // The descriptor on which `play` is told the status: the largest digit written there.
 const STATUS: i32 = 3;
@@ -14,7 +16,7 @@ pub fn status(n: u8) {
 
 // Words on standard output; where they cannot be written, status 3.
 pub fn words(s: &[u8]) {
-    if !io::write_all(STDOUT_FILENO, s) {
+    if !io::write_all(STDOUT, s) {
         status(3);
     }
 }

@@ -6,18 +6,18 @@ use Rattle.sulyobak.proofs.sulyobak_collect.Tie as tie
 collect-requires : tie.Need-collect-requires
 collect-requires c κs = search rules
 
-of-read-requires : tie.Need-of-read-requires
+of-read-requires : tie.Need-of_read-requires
 of-read-requires c κs = search rules
 
-same_length : tie.Need-same-length
+same_length : tie.Need-shape_of-sessions
 same_length c = search rules
 
-same-length-2 : tie.Need-same-length-2
+same-length-2 : tie.Need-shape_of-output
 same-length-2 c = search rules
 
 returns : tie.Need-returns
-returns c = crosses _ _ _ _ _ _ c.before.before.before.before.before.collect.ensures c.of-read.ensures
+returns c = crosses _ _ _ _ _ _ c.collect.ensures c.of_read.ensures
 
-pub sulyobak-collect-spec : {M : Type 1} → statement M
-sulyobak-collect-spec =
+pub sulyobak_collect_spec : {M : Type 1} → statement M
+sulyobak_collect_spec =
     tie.close (tie.spec collect-requires of-read-requires same_length same-length-2 returns)

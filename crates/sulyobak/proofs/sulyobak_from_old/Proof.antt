@@ -3,18 +3,18 @@ use borrow.Author.Rules.{rules}
 use Rattle.sulyobak.proofs.sulyobak_from_old.Statement.{statement}
 use Rattle.sulyobak.proofs.sulyobak_from_old.Tie as tie
 
-from-old-requires : tie.Need-from-old-requires
+from-old-requires : tie.Need-from_old-requires
 from-old-requires c κs = search rules
 
-of-convert-requires : tie.Need-of-convert-requires
+of-convert-requires : tie.Need-of_convert-requires
 of-convert-requires c κs = search rules
 
-same_length : tie.Need-same-length
+same_length : tie.Need-shape_of-copy
 same_length c = search rules
 
 returns : tie.Need-returns
-returns c = old_crosses _ _ _ _ c.before.before.before.from_old.ensures c.of-convert.ensures
+returns c = old_crosses _ _ _ _ c.from_old.ensures c.of_convert.ensures
 
-pub sulyobak-from-old-spec : {M : Type 1} → statement M
-sulyobak-from-old-spec =
+pub sulyobak_from_old_spec : {M : Type 1} → statement M
+sulyobak_from_old_spec =
     tie.close (tie.spec from-old-requires of-convert-requires same_length returns)

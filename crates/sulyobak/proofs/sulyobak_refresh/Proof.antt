@@ -6,14 +6,14 @@ use Rattle.sulyobak.proofs.sulyobak_refresh.Tie as tie
 refresh-requires : tie.Need-refresh-requires
 refresh-requires c κs = search rules
 
-of-count-requires : tie.Need-of-count-requires
+of-count-requires : tie.Need-of_count-requires
 of-count-requires c κs = search rules
 
-same_length : tie.Need-same-length
+same_length : tie.Need-shape_of-library
 same_length c = search rules
 
 returns : tie.Need-returns
-returns c = crosses _ _ _ _ _ _ c.before.before.before.refresh.ensures c.of-count.ensures
+returns c = crosses _ _ _ _ _ _ c.refresh.ensures c.of_count.ensures
 
-pub sulyobak-refresh-spec : {M : Type 1} → statement M
-sulyobak-refresh-spec = tie.close (tie.spec refresh-requires of-count-requires same_length returns)
+pub sulyobak_refresh_spec : {M : Type 1} → statement M
+sulyobak_refresh_spec = tie.close (tie.spec refresh-requires of-count-requires same_length returns)

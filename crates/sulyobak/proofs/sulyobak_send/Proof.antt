@@ -6,11 +6,11 @@ use Rattle.sulyobak.proofs.sulyobak_send.Tie as tie
 send-requires : tie.Need-send-requires
 send-requires c κs = search rules
 
-of-count-requires : tie.Need-of-count-requires
+of-count-requires : tie.Need-of_count-requires
 of-count-requires c κs = search rules
 
 returns : tie.Need-returns
-returns c = crosses _ _ _ _ _ _ c.before.send.ensures c.of-count.ensures
+returns c = crosses _ _ _ _ _ _ c.send.ensures c.of_count.ensures
 
-pub sulyobak-send-spec : {M : Type 1} → statement M
-sulyobak-send-spec = tie.close (tie.spec send-requires of-count-requires returns)
+pub sulyobak_send_spec : {M : Type 1} → statement M
+sulyobak_send_spec = tie.close (tie.spec send-requires of-count-requires returns)

@@ -6,15 +6,15 @@ use Rattle.sulyobak.proofs.sulyobak_van_receive.Tie as tie
 receive-requires : tie.Need-receive-requires
 receive-requires c κs = search rules
 
-of-receive-requires : tie.Need-of-receive-requires
+of-receive-requires : tie.Need-of_receive-requires
 of-receive-requires c κs = search rules
 
-same_length : tie.Need-same-length
+same_length : tie.Need-shape_of-copy
 same_length c = search rules
 
 returns : tie.Need-returns
-returns c = van_crosses _ _ _ _ _ c.before.before.before.receive.ensures c.of-receive.ensures
+returns c = van_crosses _ _ _ _ _ c.receive.ensures c.of_receive.ensures
 
-pub sulyobak-van-receive-spec : {M : Type 1} → statement M
-sulyobak-van-receive-spec =
+pub sulyobak_van_receive_spec : {M : Type 1} → statement M
+sulyobak_van_receive_spec =
     tie.close (tie.spec receive-requires of-receive-requires same_length returns)

@@ -3,12 +3,12 @@ use borrow.Author.Rules.{rules}
 use Rattle.van.proofs.message.number_of.Statement.{statement}
 use Rattle.van.proofs.message.number_of.Tie as tie
 
-u16-at-requires : tie.Need-u16-at-requires
+u16-at-requires : tie.Need-u16_at-requires
 u16-at-requires c κs = search rules
 
 returns : tie.Need-returns
 unfolding message_number
-returns c = c.u16-at.ensures
+returns c = c.u16_at.ensures
 
-pub number-of-spec : {M : Type 1} → statement M
-number-of-spec = tie.close (tie.spec u16-at-requires returns)
+pub number_of_spec : {M : Type 1} → statement M
+number_of_spec = tie.close (tie.spec u16-at-requires returns)

@@ -5,58 +5,49 @@ use borrow.Author.Rules.{rules}
 use Rattle.van.proofs.receive.receive.Statement.{statement}
 use Rattle.van.proofs.receive.receive.Tie as tie
 
-decide-receive-requires : tie.Need-decide-receive-requires
+decide-receive-requires : tie.Need-decide_receive-stopped-requires
 decide-receive-requires c κs = search rules
 
-same_length : tie.Need-same-length
+same_length : tie.Need-shape_of-copy-then-stopped-ne0
 same_length c = search rules
 
-returns : tie.Need-returns
-returns c = receive_refused _ _ _ _ c.before.decide-receive.ensures c.if1.true
+returns : tie.Need-returns-then-stopped-ne0
+returns c = receive_refused _ _ _ _ c.decide_receive-stopped.ensures c.if-stopped-ne0.true
 
-abbrev start : tie.Else1 → tie.Start
-start c = c.before.before.before.before.before
+known : (c : tie.Else-stopped-ne0) → Receivable c.args.copy.now c.args.message.now
+known c = receive_known _ _ _ _ c.decide_receive-stopped.ensures c.if-stopped-ne0.false
 
-known : (c : tie.Else1) → Receivable (start c).args.copy.now (start c).args.message.now
-known c = receive_known _ _ _ _ c.before.decide-receive.ensures c.if1.false
-
-number-of-requires : tie.Need-number-of-requires
+number-of-requires : tie.Need-number_of-n-requires
 number-of-requires c κs = omega (arith, (known c).head)
 
-same-length-2 : tie.Need-same-length-2
+same-length-2 : tie.Need-shape_of-copy-then-n-applied
 same-length-2 c = search rules
 
-returns-2 : tie.Need-returns-2
-returns-2 c = let n = c.before in
-    let e = n.before in
-    let old : n.number_of.result ≤ (start e).args.applied = omega (arith, c.if2.true) in
-    receive_held _ _ _ _ e.before.decide-receive.ensures e.if1.false _ n.number_of.ensures.0 old
+returns-2 : tie.Need-returns-then-n-applied
+returns-2 c = let old : c.number_of-n.result ≤ c.args.applied = omega (arith, c.if-n-applied.true) in
+    receive_held _ _ _ _ c.decide_receive-stopped.ensures c.if-stopped-ne0.false _ c.number_of-n.ensures.0 old
 
-sub-apply-all : tie.Need-overflow-sub-apply-all
+sub-apply-all : tie.Need-slice_bounds-apply_all-count
 sub-apply-all c = omega (arith, (known c.before.before.before).head)
 
-part-apply-all-start : tie.Need-slice-bounds-apply-all-start
+part-apply-all-start : tie.Need-slice_bounds-apply_all-start
 part-apply-all-start c = let h = (known c.before.before.before).head in omega arith
 
-part-apply-all-end : tie.Need-slice-bounds-apply-all-end
+part-apply-all-end : tie.Need-slice_bounds-apply_all-end
 part-apply-all-end c = omega (arith, (known c.before.before.before).head)
 
-apply-all-requires : tie.Need-apply-all-requires
+apply-all-requires : tie.Need-apply_all-requires
 apply-all-requires c κs = let k = known c.before.before.before.before in (k.size, k.operations)
 
-same-length-3 : tie.Need-same-length-3
+same-length-3 : tie.Need-shape_of-copy
 same-length-3 c = search rules
 
-returns-3 : tie.Need-returns-3
-returns-3 c = let a = c.before.before in
-    let d = a.before.before.before in
-    let n = d.before in
-    let e = n.before in
-    let next : (start e).args.applied < n.number_of.result = omega (arith, d.if2.false) in
-    receive_applied _ _ _ _ e.before.decide-receive.ensures e.if1.false _ n.number_of.ensures.0 next _ a.apply-all.ensures
+returns-3 : tie.Need-returns
+returns-3 c = let next : c.args.applied < c.number_of-n.result = omega (arith, c.if-n-applied.false) in
+    receive_applied _ _ _ _ c.decide_receive-stopped.ensures c.if-stopped-ne0.false _ c.number_of-n.ensures.0 next _ c.apply_all.ensures
 
-pub receive-spec : {M : Type 1} → statement M
-receive-spec =
+pub receive_spec : {M : Type 1} → statement M
+receive_spec =
     tie.close
     (tie.spec
     decide-receive-requires

@@ -5,30 +5,19 @@ use borrow.Author.Rules.{rules}
 use Rattle.words.proofs.answer.moved.Statement.{statement}
 use Rattle.words.proofs.answer.moved.Tie as tie
 
-slice-aggregate-put-numbered : tie.Need-slice-aggregate-put-numbered
-slice-aggregate-put-numbered c = search rules
-
-put-numbered-requires : tie.Need-put-numbered-requires
+put-numbered-requires : tie.Need-put_numbered-a-requires
 put-numbered-requires c κs = search rules
 
-slice-aggregate-put-between : tie.Need-slice-aggregate-put-between
-slice-aggregate-put-between c = search rules
-
-slice-aggregate-put-between-2 : tie.Need-slice-aggregate-put-between-2
-slice-aggregate-put-between-2 c = search rules
-
-put-between-requires : tie.Need-put-between-requires
+put-between-requires : tie.Need-put_between-requires
 put-between-requires c κs = search rules
 
-same_length : tie.Need-same-length
+same_length : tie.Need-shape_of-out
 same_length c = search rules
 
 returns : tie.Need-returns
 unfolding moved_text
 returns c =
-    let b = c.before.before in
-    let a = b.before.before.before.before.before.before in
-    rw append_assoc (told_more (told_more (told_none _) a.put-numbered.ensures.0) b.put-between.ensures.0)
+    rw append_assoc (told_more (told_more (told_none _) c.put_numbered-a.ensures.0) c.put_between.ensures.0)
 
-pub moved-spec : {M : Type 1} → statement M
-moved-spec = tie.close (tie.spec slice-aggregate-put-numbered put-numbered-requires slice-aggregate-put-between slice-aggregate-put-between-2 put-between-requires same_length returns)
+pub moved_spec : {M : Type 1} → statement M
+moved_spec = tie.close (tie.spec put-numbered-requires put-between-requires same_length returns)

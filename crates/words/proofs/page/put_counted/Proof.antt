@@ -4,22 +4,20 @@ use borrow.Author.Rules.{rules}
 use Rattle.words.proofs.page.put_counted.Statement.{statement}
 use Rattle.words.proofs.page.put_counted.Tie as tie
 
-put-requires : tie.Need-put-requires
+put-requires : tie.Need-put-a-requires
 put-requires c κs = search rules
 
-put-count-requires : tie.Need-put-count-requires
+put-count-requires : tie.Need-put_count-requires
 put-count-requires c κs = search rules
 
-same_length : tie.Need-same-length
+same_length : tie.Need-shape_of-out
 same_length c = search rules
 
 returns : tie.Need-returns
 returns c =
-    let b = c.before.before in
-    let a = b.before.before.before.before in
-    let a₁ = a.put.ensures.end in
-    let b₁ = b.put_count.ensures.1 in
-    (put_both (omega arith) a.put.ensures b.put_count.ensures.0, omega arith)
+    let a₁ = c.put-a.ensures.end in
+    let b₁ = c.put_count.ensures.1 in
+    (put_both (omega arith) c.put-a.ensures c.put_count.ensures.0, omega arith)
 
-pub put-counted-spec : {M : Type 1} → statement M
-put-counted-spec = tie.close (tie.spec put-requires put-count-requires same_length returns)
+pub put_counted_spec : {M : Type 1} → statement M
+put_counted_spec = tie.close (tie.spec put-requires put-count-requires same_length returns)

@@ -4,14 +4,14 @@ use borrow.Author.Rules.{rules}
 use Rattle.words.proofs.page.put_long.Statement.{statement}
 use Rattle.words.proofs.page.put_long.Tie as tie
 
-put-digits-requires : tie.Need-put-digits-requires
-put-digits-requires c κs = omega (arith, decimal_long c.before.before.args.n (omega arith))
+put-digits-requires : tie.Need-put_digits-requires
+put-digits-requires c κs = omega (arith, decimal_long c.args.n (omega arith))
 
-same_length : tie.Need-same-length
+same_length : tie.Need-shape_of-out
 same_length c = search rules
 
 returns : tie.Need-returns
-returns c = let p = c.before.before.put-digits.ensures in let e = p.end in (p, omega (arith, decimal_long c.before.before.before.before.before.args.n (omega arith)))
+returns c = let p = c.put_digits.ensures in let e = p.end in (p, omega (arith, decimal_long c.args.n (omega arith)))
 
-pub put-long-spec : {M : Type 1} → statement M
-put-long-spec = tie.close (tie.spec put-digits-requires same_length returns)
+pub put_long_spec : {M : Type 1} → statement M
+put_long_spec = tie.close (tie.spec put-digits-requires same_length returns)

@@ -4,17 +4,17 @@ use borrow.Author.Rules.{rules}
 use Rattle.words.proofs.page.put_numbered.Statement.{statement}
 use Rattle.words.proofs.page.put_numbered.Tie as tie
 
-put-requires : tie.Need-put-requires
+put-requires : tie.Need-put-a-requires
 put-requires c κs = search rules
 
-put-number-requires : tie.Need-put-number-requires
+put-number-requires : tie.Need-put_number-requires
 put-number-requires c κs = search rules
 
-same_length : tie.Need-same-length
+same_length : tie.Need-shape_of-out
 same_length c = search rules
 
 returns : tie.Need-returns
-returns c = let p = c.before.before.before.before.before.before.put.ensures in let q = c.before.before.put-number.ensures in let e = p.end in let b = q.1 in (put_both (omega arith) p q.0, omega arith)
+returns c = let p = c.put-a.ensures in let q = c.put_number.ensures in let e = p.end in let b = q.1 in (put_both (omega arith) p q.0, omega arith)
 
-pub put-numbered-spec : {M : Type 1} → statement M
-put-numbered-spec = tie.close (tie.spec put-requires put-number-requires same_length returns)
+pub put_numbered_spec : {M : Type 1} → statement M
+put_numbered_spec = tie.close (tie.spec put-requires put-number-requires same_length returns)

@@ -4,18 +4,18 @@ use borrow.Author.Rules.{rules}
 use Rattle.words.proofs.page.put_title.Statement.{statement}
 use Rattle.words.proofs.page.put_title.Tie as tie
 
-part-of-requires : tie.Need-part-of-requires
+part-of-requires : tie.Need-part_of-requires
 part-of-requires c κs = search rules
 
-put-quoted-requires : tie.Need-put-quoted-requires
-put-quoted-requires c κs = rw c.part_of.ensures (omega (arith, part_fits c.before.before.before.before.args.s.now 16 c.before.before.before.before.args.n))
+put-quoted-requires : tie.Need-put_quoted-requires
+put-quoted-requires c κs = rw c.part_of.ensures (omega (arith, part_fits c.args.s.now 16 c.args.n))
 
-same_length : tie.Need-same-length
+same_length : tie.Need-shape_of-out
 same_length c = search rules
 
 returns : tie.Need-returns
-returns c = let a = c.before.before.before.before.before.before.before.args in let p = c.before.before.put-quoted.ensures in let e = rw c.before.before.before.part_of.ensures at p.1 in
-    (rw (← c.before.before.before.part_of.ensures) p.0, omega (arith, part_fits a.s.now 16 a.n))
+returns c = let a = c.args in let p = c.put_quoted.ensures in let e = rw c.part_of.ensures at p.1 in
+    (rw (← c.part_of.ensures) p.0, omega (arith, part_fits a.s.now 16 a.n))
 
-pub put-title-spec : {M : Type 1} → statement M
-put-title-spec = tie.close (tie.spec part-of-requires put-quoted-requires same_length returns)
+pub put_title_spec : {M : Type 1} → statement M
+put_title_spec = tie.close (tie.spec part-of-requires put-quoted-requires same_length returns)

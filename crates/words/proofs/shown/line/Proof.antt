@@ -7,45 +7,45 @@ use Rattle.words.proofs.PageLaws.{told_none, told_more, shown_more}
 use Rattle.words.proofs.shown.line.Statement.{statement}
 use Rattle.words.proofs.shown.line.Tie as tie
 
-abbrev invariant-loop : tie.invariant-loop
-invariant-loop out₀ s end₀ i₀ out end i = (i ≤ length s) × (end ≤ 4 * i) × (length out ≡ length out₀) × Told (shown_to s i) out₀ out end
+abbrev invariant-loop-i : tie.invariant-loop-i
+invariant-loop-i out₀ s end₀ i₀ out end i = (i ≤ length s) × (end ≤ 4 * i) × (length out ≡ length out₀) × Told (shown_to s i) out₀ out end
 
-abbrev decreases-loop : tie.decreases-loop
-decreases-loop out₀ s end₀ i₀ out end i = length s - i
+abbrev decreases-loop-i : tie.decreases-loop-i
+decreases-loop-i out₀ s end₀ i₀ out end i = length s - i
 
-loop-holds : tie.Need-loop-init invariant-loop decreases-loop
+loop-holds : tie.Need-loop-i-init invariant-loop-i decreases-loop-i
 unfolding shown_to
 loop-holds c = (omega arith, omega arith, refl, told_none _)
 
-shared-slice-read-put-shown : tie.Need-shared-slice-read-put-shown invariant-loop decreases-loop
+shared-slice-read-put-shown : tie.Need-bounds-s-i invariant-loop-i decreases-loop-i
 shared-slice-read-put-shown c = omega arith
 
-put-shown-requires : tie.Need-put-shown-requires invariant-loop decreases-loop
+put-shown-requires : tie.Need-put_shown-end-requires invariant-loop-i decreases-loop-i
 put-shown-requires c κs = omega arith
 
-add-i : tie.Need-overflow-add-i invariant-loop decreases-loop
+add-i : tie.Need-overflow_add-i invariant-loop-i decreases-loop-i
 add-i c = omega arith
 
-loop-less : tie.Need-loop-smaller invariant-loop decreases-loop
+loop-less : tie.Need-loop-i-smaller invariant-loop-i decreases-loop-i
 loop-less c = omega arith
 
-loop-again : tie.Need-loop-preserved invariant-loop decreases-loop
-loop-again c = let t = c.before.before.before.before.before.before in let p = c.before.before.put-shown.ensures in let l = p.1 in
-    (omega arith, omega arith, c.before.before.put-shown.auto.0 ∙ t.loop.invariant.2, rw (shown_more _ t.loop.i) (told_more t.loop.invariant.3 p.0))
+loop-again : tie.Need-loop-i-preserved invariant-loop-i decreases-loop-i
+loop-again c = let p = c.put_shown-end.ensures in let l = p.1 in
+    (omega arith, omega arith, c.put_shown-end.auto.out ∙ c.loop-i.invariant.2, rw (shown_more _ c.loop-i.i) (told_more c.loop-i.invariant.3 p.0))
 
-same_length : tie.Need-same-length invariant-loop decreases-loop
-same_length c = c.before.loop.invariant.2
+same_length : tie.Need-shape_of-out invariant-loop-i decreases-loop-i
+same_length c = c.loop-i.invariant.2
 
-returns : tie.Need-returns invariant-loop decreases-loop
+returns : tie.Need-returns invariant-loop-i decreases-loop-i
 unfolding shown
-returns c = let e : c.before.loop.i ≡ length c.before.before.before.before.args.s.now = omega arith in rw (← e) c.before.loop.invariant.3
+returns c = let e : c.loop-i.i ≡ length c.args.s.now = omega arith in rw (← e) c.loop-i.invariant.3
 
-pub line-spec : {M : Type 1} → statement M
-line-spec =
+pub line_spec : {M : Type 1} → statement M
+line_spec =
     tie.close
     (tie.spec
-    invariant-loop
-    decreases-loop
+    invariant-loop-i
+    decreases-loop-i
     loop-holds
     shared-slice-read-put-shown
     put-shown-requires

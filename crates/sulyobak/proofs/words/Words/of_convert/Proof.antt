@@ -6,33 +6,31 @@ use borrow.Author.Rules.{rules}
 use Rattle.sulyobak.proofs.words.Words.of_convert.Statement.{statement}
 use Rattle.sulyobak.proofs.words.Words.of_convert.Tie as tie
 
-new-requires : tie.Need-new-requires
+new-requires : tie.Need-new-control-requires
 new-requires c κs = search rules
 
-enum-known-answer : tie.Need-enum-known-answer
+enum-known-answer : tie.Need-enum_known-answer
 enum-known-answer c = search rules
 
-new-requires-2 : tie.Need-new-requires-2
+new-requires-2 : tie.Need-new-requires
 new-requires-2 c κs = search rules
 
-enum-known-answer-2 : tie.Need-enum-known-answer-2
+enum-known-answer-2 : tie.Need-enum_known-answer-in-Refused-1
 enum-known-answer-2 c = search rules
 
-new-requires-3 : tie.Need-new-requires-3
+new-requires-3 : tie.Need-new-requires-in-Refused
 new-requires-3 c κs = search rules
 
-returns : tie.Need-returns
+returns : tie.Need-returns-in-Written
 unfolding zeros
-returns c = let a = c.before.before in
-    convert_words _ _ _ a.answer.given.1 (c.new2.ensures ∙ ap (words 1 _ 0) a.before.before.new.ensures)
+returns c = convert_words _ _ _ c.in-Written.is (c.new.ensures ∙ ap (words 1 _ 0) c.new-control.ensures)
 
-returns-2 : tie.Need-returns-2
+returns-2 : tie.Need-returns-in-Refused
 unfolding zeros
-returns-2 c = let a = c.before.before in
-    convert_words _ _ _ a.answer2.given.1 (c.new3.ensures ∙ ap (words 0 _ 0) a.before.before.new.ensures)
+returns-2 c = convert_words _ _ _ c.in-Refused.is (c.new-in-Refused.ensures ∙ ap (words 0 _ 0) c.new-control.ensures)
 
-pub of-convert-spec : {M : Type 1} → statement M
-of-convert-spec =
+pub of_convert_spec : {M : Type 1} → statement M
+of_convert_spec =
     tie.close
     (tie.spec
     new-requires
