@@ -11,10 +11,10 @@ use Rattle.words.proofs.request.put_asked.Statement.{statement}
 use Rattle.words.proofs.request.put_asked.Tie as tie
 
 abbrev invariant-loop-i : tie.invariant-loop-i
-invariant-loop-i out₀ at request n end₀ i₀ t7 out end i = (i ≤ n) × (end ≤ at + 11 * i) × (length out ≡ length out₀) × Put (asked_numbers request i) out₀ at out end
+invariant-loop-i out₀ at request n end₀ i₀ out end i = (i ≤ n) × (end ≤ at + 11 * i) × (length out ≡ length out₀) × Put (asked_numbers request i) out₀ at out end
 
 abbrev decreases-loop-i : tie.decreases-loop-i
-decreases-loop-i out₀ at request n end₀ i₀ t7 out end i = n - i
+decreases-loop-i out₀ at request n end₀ i₀ out end i = n - i
 
 loop-holds : tie.Need-loop-i-init invariant-loop-i decreases-loop-i
 unfolding asked_numbers
