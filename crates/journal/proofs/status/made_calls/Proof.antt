@@ -7,5 +7,5 @@ returns : tie.Need-returns
 unfolding made_calls
 returns c = refl
 
-pub made-calls-spec : {M : Type 1} → statement M
-made-calls-spec = tie.close (tie.spec returns)
+pub made_calls_spec : {M : Type 1} → statement M
+made_calls_spec = tie.close (tie.spec returns)

@@ -4,40 +4,24 @@ use Rattle.words.proofs.PageLaws.{of_four}
 use Rattle.refusals.proofs.refusal.put_to_15.Statement.{statement}
 use Rattle.refusals.proofs.refusal.put_to_15.Tie as tie
 
-sub-put-one-of : tie.Need-overflow-sub-put-one-of
+sub-put-one-of : tie.Need-overflow_sub-n
 sub-put-one-of c = search rules
 
-slice-aggregate-put-one-of : tie.Need-slice-aggregate-put-one-of
-slice-aggregate-put-one-of c = search rules
-
-slice-aggregate-put-one-of-2 : tie.Need-slice-aggregate-put-one-of-2
-slice-aggregate-put-one-of-2 c = search rules
-
-slice-aggregate-put-one-of-3 : tie.Need-slice-aggregate-put-one-of-3
-slice-aggregate-put-one-of-3 c = search rules
-
-slice-aggregate-put-one-of-4 : tie.Need-slice-aggregate-put-one-of-4
-slice-aggregate-put-one-of-4 c = search rules
-
-put-one-of-requires : tie.Need-put-one-of-requires
+put-one-of-requires : tie.Need-put_one_of-requires
 put-one-of-requires c κs = search rules
 
-same_length : tie.Need-same-length
+same_length : tie.Need-shape_of-out
 same_length c = search rules
 
 returns : tie.Need-returns
 unfolding refusal_sentence
-returns c = let n = c.before.before.before.before.before.before.before.before.before.args.n in let p = c.before.before.put-one-of.ensures in (rw (of_four refusal_sentence 12 n (n - 12) (omega arith) (omega arith)) p.0, p.1)
+returns c = let n = c.args.n in let p = c.put_one_of.ensures in (rw (of_four refusal_sentence 12 n (n - 12) (omega arith) (omega arith)) p.0, p.1)
 
-pub put-to-15-spec : {M : Type 1} → statement M
-put-to-15-spec =
+pub put_to_15_spec : {M : Type 1} → statement M
+put_to_15_spec =
     tie.close
     (tie.spec
     sub-put-one-of
-    slice-aggregate-put-one-of
-    slice-aggregate-put-one-of-2
-    slice-aggregate-put-one-of-3
-    slice-aggregate-put-one-of-4
     put-one-of-requires
     same_length
     returns)

@@ -7,5 +7,5 @@ returns : tie.Need-returns
 unfolding compared
 returns c = (refl, omega arith)
 
-pub compared-spec : {M : Type 1} → statement M
-compared-spec = tie.close (tie.spec returns)
+pub compared_spec : {M : Type 1} → statement M
+compared_spec = tie.close (tie.spec returns)

@@ -13,7 +13,7 @@ new-requires-2 c κs = search rules
 
 returns : tie.Need-returns
 unfolding start zeros fresh_van
-returns c = rw (c.before.new.ensures, c.new2.ensures)
+returns c = rw (c.new.ensures, c.new-2.ensures)
 
 pub new_spec : {M : Type 1} → statement M
 new_spec =

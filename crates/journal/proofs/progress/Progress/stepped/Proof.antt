@@ -10,8 +10,8 @@ returns : tie.Need-returns
 unfolding stepped
 returns c = rw c.counted.ensures
 
-pub stepped-spec : {M : Type 1} → statement M
-stepped-spec =
+pub stepped_spec : {M : Type 1} → statement M
+stepped_spec =
     tie.close
     (tie.spec
     counted-requires

@@ -10,8 +10,8 @@ returns : tie.Need-returns
 unfolding stepped
 returns c = (c.stepped.ensures, rw c.stepped.ensures (omega arith))
 
-pub unreadable-spec : {M : Type 1} → statement M
-unreadable-spec =
+pub unreadable_spec : {M : Type 1} → statement M
+unreadable_spec =
     tie.close
     (tie.spec
     stepped-requires

@@ -7,5 +7,5 @@ returns : tie.Need-returns
 unfolding with_van
 returns c = refl
 
-pub with-van-spec : {M : Type 1} → statement M
-with-van-spec = tie.close (tie.spec returns)
+pub with_van_spec : {M : Type 1} → statement M
+with_van_spec = tie.close (tie.spec returns)
