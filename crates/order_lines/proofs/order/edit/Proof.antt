@@ -7,61 +7,39 @@ use borrow.Author.Rules.{rules}
 use Rattle.order_lines.proofs.order.edit.Statement.{statement}
 use Rattle.order_lines.proofs.order.edit.Tie as tie
 
-put-place-requires : tie.Need-put-place-requires
+put-place-requires : tie.Need-put_place-a-requires
 put-place-requires c κs = search rules
 
-slice-aggregate-put-between : tie.Need-slice-aggregate-put-between
-slice-aggregate-put-between c = search rules
-
-slice-aggregate-put-between-2 : tie.Need-slice-aggregate-put-between-2
-slice-aggregate-put-between-2 c = search rules
-
-put-between-requires : tie.Need-put-between-requires
+put-between-requires : tie.Need-put_between-requires
 put-between-requires c κs = search rules
 
-same_length : tie.Need-same-length
+same_length : tie.Need-shape_of-out-then-e-eq-REFUSED
 same_length c = search rules
 
-returns : tie.Need-returns
+returns : tie.Need-returns-then-e-eq-REFUSED
 unfolding edit_text
 returns c =
-    let b = c.before.before in
-    let branch = b.before.before.before.before in
-    let a = branch.before.before.before.before in
-    rw (eq-eqb _ refused_kind branch.if1.true, append_assoc) (told_more (told_more (told_none _) a.put-place.ensures.0) b.put-between.ensures.0)
+    rw (eq-eqb _ refused_kind c.if-e-eq-REFUSED.true, append_assoc) (told_more (told_more (told_none _) c.put_place-a.ensures.0) c.put_between.ensures.0)
 
-slice-aggregate-put-between-3 : tie.Need-slice-aggregate-put-between-3
-slice-aggregate-put-between-3 c = search rules
-
-slice-aggregate-put-between-4 : tie.Need-slice-aggregate-put-between-4
-slice-aggregate-put-between-4 c = search rules
-
-put-between-requires-2 : tie.Need-put-between-requires-2
+put-between-requires-2 : tie.Need-put_between-requires-2
 put-between-requires-2 c κs = search rules
 
-same-length-2 : tie.Need-same-length-2
+same-length-2 : tie.Need-shape_of-out
 same-length-2 c = search rules
 
-returns-2 : tie.Need-returns-2
+returns-2 : tie.Need-returns
 unfolding edit_text
 returns-2 c =
-    let b = c.before.before in
-    let branch = b.before.before.before.before in
-    let a = branch.before.before.before.before in
-    rw (ne_eqb _ refused_kind branch.if1.false, append_assoc) (told_more (told_more (told_none _) a.put-place.ensures.0) b.put-between2.ensures.0)
+    rw (ne_eqb _ refused_kind c.if-e-eq-REFUSED.false, append_assoc) (told_more (told_more (told_none _) c.put_place-a.ensures.0) c.put_between-2.ensures.0)
 
-pub edit-spec : {M : Type 1} → statement M
-edit-spec =
+pub edit_spec : {M : Type 1} → statement M
+edit_spec =
     tie.close
     (tie.spec
     put-place-requires
-    slice-aggregate-put-between
-    slice-aggregate-put-between-2
     put-between-requires
     same_length
     returns
-    slice-aggregate-put-between-3
-    slice-aggregate-put-between-4
     put-between-requires-2
     same-length-2
     returns-2)

@@ -4,25 +4,19 @@ use borrow.Author.Rules.{rules}
 use Rattle.order_lines.proofs.order.put_reason.Statement.{statement}
 use Rattle.order_lines.proofs.order.put_reason.Tie as tie
 
-slice-aggregate-put-pair : tie.Need-slice-aggregate-put-pair
-slice-aggregate-put-pair c = search rules
-
-slice-aggregate-put-pair-2 : tie.Need-slice-aggregate-put-pair-2
-slice-aggregate-put-pair-2 c = search rules
-
-put-pair-requires : tie.Need-put-pair-requires
+put-pair-requires : tie.Need-put_pair-requires
 put-pair-requires c κs = search rules
 
-same_length : tie.Need-same-length
+same_length : tie.Need-shape_of-out-then-next-e
 same_length c = search rules
 
-returns : tie.Need-returns
+returns : tie.Need-returns-then-next-e
 unfolding reason_text
-returns c = let p = c.before.before in rw p.before.before.before.before.if1.true p.put-pair.ensures.0
+returns c = rw c.if-next-e.true c.put_pair.ensures.0
 
-returns-2 : tie.Need-returns-2
+returns-2 : tie.Need-returns
 unfolding reason_text
-returns-2 c = rw c.if1.false (put_none _ _)
+returns-2 c = rw c.if-next-e.false (put_none _ _)
 
-pub put-reason-spec : {M : Type 1} → statement M
-put-reason-spec = tie.close (tie.spec slice-aggregate-put-pair slice-aggregate-put-pair-2 put-pair-requires same_length returns returns-2)
+pub put_reason_spec : {M : Type 1} → statement M
+put_reason_spec = tie.close (tie.spec put-pair-requires same_length returns returns-2)

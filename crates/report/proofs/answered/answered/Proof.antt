@@ -4,7 +4,7 @@ use borrow.Author.Rules.{rules}
 use Rattle.report.proofs.answered.answered.Statement.{statement}
 use Rattle.report.proofs.answered.answered.Tie as tie
 
-applied-for-requires : tie.Need-applied-for-requires
+applied-for-requires : tie.Need-applied_for-requires
 applied-for-requires c κs = search rules
 
 behind-requires : tie.Need-behind-requires
@@ -13,32 +13,27 @@ behind-requires c κs = search rules
 answered-requires : tie.Need-answered-requires
 answered-requires c κs = search rules
 
-same_length : tie.Need-same-length
+same_length : tie.Need-shape_of-out-then-state-applied_for
 same_length c = search rules
 
-returns : tie.Need-returns
+returns : tie.Need-returns-then-state-applied_for
 unfolding answer_text
 returns c =
-    let told = c.before.before in
-    let behind = told.before in
-    let same = behind.before.before in
-    rw (← same.before.applied-for.ensures, eq-eqb _ _ same.if1.true, ← behind.behind.ensures) told.answered.ensures
+    rw (← c.applied_for.ensures, eq-eqb _ _ c.if-state-applied_for.true, ← c.behind.ensures) c.answered.ensures
 
-by-head-end-requires : tie.Need-by-head-end-requires
+by-head-end-requires : tie.Need-by_head_end-requires
 by-head-end-requires c κs = search rules
 
-same-length-2 : tie.Need-same-length-2
+same-length-2 : tie.Need-shape_of-out
 same-length-2 c = search rules
 
-returns-2 : tie.Need-returns-2
+returns-2 : tie.Need-returns
 unfolding answer_text
 returns-2 c =
-    let told = c.before.before in
-    let other = told.before.before in
-    rw (← other.before.applied-for.ensures, ne_eqb _ _ other.if1.false) told.by_head_end.ensures
+    rw (← c.applied_for.ensures, ne_eqb _ _ c.if-state-applied_for.false) c.by_head_end.ensures
 
-pub answered-spec : {M : Type 1} → statement M
-answered-spec =
+pub answered_spec : {M : Type 1} → statement M
+answered_spec =
     tie.close
     (tie.spec
     applied-for-requires

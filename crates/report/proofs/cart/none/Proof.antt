@@ -4,18 +4,15 @@ use borrow.Author.Rules.{rules}
 use Rattle.report.proofs.cart.none.Statement.{statement}
 use Rattle.report.proofs.cart.none.Tie as tie
 
-slice-aggregate-put : tie.Need-slice-aggregate-put
-slice-aggregate-put c = search rules
-
 put-requires : tie.Need-put-requires
 put-requires c κs = search rules
 
-same_length : tie.Need-same-length
+same_length : tie.Need-shape_of-out
 same_length c = search rules
 
 returns : tie.Need-returns
 unfolding no_cart_text
-returns c = told_more (told_none _) c.before.before.put.ensures
+returns c = told_more (told_none _) c.put.ensures
 
 pub none_spec : {M : Type 1} → statement M
-none_spec = tie.close (tie.spec slice-aggregate-put put-requires same_length returns)
+none_spec = tie.close (tie.spec put-requires same_length returns)

@@ -6,32 +6,21 @@ use borrow.Author.Rules.{rules}
 use Rattle.report.proofs.cart.put_recording.Statement.{statement}
 use Rattle.report.proofs.cart.put_recording.Tie as tie
 
-slice-aggregate-put-numbered : tie.Need-slice-aggregate-put-numbered
-slice-aggregate-put-numbered c = search rules
-
-put-numbered-requires : tie.Need-put-numbered-requires
+put-numbered-requires : tie.Need-put_numbered-a-requires
 put-numbered-requires c κs = search rules
 
-slice-aggregate-put-between : tie.Need-slice-aggregate-put-between
-slice-aggregate-put-between c = search rules
-
-slice-aggregate-put-between-2 : tie.Need-slice-aggregate-put-between-2
-slice-aggregate-put-between-2 c = search rules
-
-put-between-requires : tie.Need-put-between-requires
+put-between-requires : tie.Need-put_between-requires
 put-between-requires c κs = search rules
 
-same_length : tie.Need-same-length
+same_length : tie.Need-shape_of-out
 same_length c = search rules
 
 returns : tie.Need-returns
 unfolding recording_text
 returns c =
-    let b = c.before.before in
-    let a = b.before.before.before.before.before.before in
-    let a₁ = a.put-numbered.ensures.1 in
-    let b₁ = b.put-between.ensures.1 in
-    rw append_assoc (put_both (omega arith) a.put-numbered.ensures.0 b.put-between.ensures.0)
+    let a₁ = c.put_numbered-a.ensures.1 in
+    let b₁ = c.put_between.ensures.1 in
+    rw append_assoc (put_both (omega arith) c.put_numbered-a.ensures.0 c.put_between.ensures.0)
 
-pub put-recording-spec : {M : Type 1} → statement M
-put-recording-spec = tie.close (tie.spec slice-aggregate-put-numbered put-numbered-requires slice-aggregate-put-between slice-aggregate-put-between-2 put-between-requires same_length returns)
+pub put_recording_spec : {M : Type 1} → statement M
+put_recording_spec = tie.close (tie.spec put-numbered-requires put-between-requires same_length returns)

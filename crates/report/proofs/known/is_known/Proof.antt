@@ -9,23 +9,23 @@ use borrow.Author.Rules.{rules}
 use Rattle.report.proofs.known.is_known.Statement.{statement}
 use Rattle.report.proofs.known.is_known.Tie as tie
 
-is-within-requires : tie.Need-is-within-requires
+is-within-requires : tie.Need-is_within-requires
 is-within-requires c κs = search rules
 
-returns : tie.Need-returns
+returns : tie.Need-returns-then-not-is_within
 unfolding known_session session_row
-returns c = rw (sym c.before.is_Within.ensures ∙ not-true c.before.is_Within.result c.if1.true)
+returns c = rw (sym c.is_within.ensures ∙ c.if-not-is_within.true)
 
 -- there is such a session
-session-there : (c : tie.Else1) → within 1 16 c.before.before.args.session ≡ true
-session-there c = sym c.before.is_Within.ensures ∙ not-false c.before.is_Within.result c.if1.false
+session-there : (c : tie.Else-not-is_within) → within 1 16 c.args.session ≡ true
+session-there c = sym c.is_within.ensures ∙ c.if-not-is_within.false
 
-studio-of-requires : tie.Need-studio-of-requires
+studio-of-requires : tie.Need-studio_of-requires
 studio-of-requires c κs = within_true 1 16 _ (session-there c)
 
-returns-2 : tie.Need-returns-2
+returns-2 : tie.Need-returns
 unfolding known_session session_row
-returns-2 c = rw (session-there c.before, ← c.studio-of.ensures)
+returns-2 c = rw (session-there c.before, ← c.studio_of.ensures)
 
-pub is-known-spec : {M : Type 1} → statement M
-is-known-spec = tie.close (tie.spec is-within-requires returns studio-of-requires returns-2)
+pub is_known_spec : {M : Type 1} → statement M
+is_known_spec = tie.close (tie.spec is-within-requires returns studio-of-requires returns-2)

@@ -3,31 +3,31 @@ use native.Mathlib.Omega.{arith}
 use Rattle.report.proofs.show.sessions_of.Statement.{statement}
 use Rattle.report.proofs.show.sessions_of.Tie as tie
 
-abbrev invariant-loop : tie.invariant-loop
-invariant-loop control sessions j₀ j = (1 ≤ j) × (j ≤ 17)
+abbrev invariant-loop-j : tie.invariant-loop-j
+invariant-loop-j control sessions j₀ j = (1 ≤ j) × (j ≤ 17)
 
-abbrev decreases-loop : tie.decreases-loop
-decreases-loop control sessions j₀ j = 17 - j
+abbrev decreases-loop-j : tie.decreases-loop-j
+decreases-loop-j control sessions j₀ j = 17 - j
 
-loop-holds : tie.Need-loop-init invariant-loop decreases-loop
+loop-holds : tie.Need-loop-j-init invariant-loop-j decreases-loop-j
 loop-holds c = (omega arith, omega arith)
 
-session-line-requires : tie.Need-session-line-requires invariant-loop decreases-loop
+session-line-requires : tie.Need-session_line-requires invariant-loop-j decreases-loop-j
 session-line-requires c κs = (omega arith, omega arith)
 
-add-j : tie.Need-overflow-add-j invariant-loop decreases-loop
+add-j : tie.Need-overflow_add-j invariant-loop-j decreases-loop-j
 add-j c = omega arith
 
-loop-less : tie.Need-loop-smaller invariant-loop decreases-loop
+loop-less : tie.Need-loop-j-smaller invariant-loop-j decreases-loop-j
 loop-less c = omega arith
 
-loop-again : tie.Need-loop-preserved invariant-loop decreases-loop
+loop-again : tie.Need-loop-j-preserved invariant-loop-j decreases-loop-j
 loop-again c = (omega arith, omega arith)
 
-returns : tie.Need-returns invariant-loop decreases-loop
+returns : tie.Need-returns invariant-loop-j decreases-loop-j
 returns c = tt
 
-pub sessions-of-spec : {M : Type 1} → statement M
-sessions-of-spec =
+pub sessions_of_spec : {M : Type 1} → statement M
+sessions_of_spec =
     tie.close
-    (tie.spec invariant-loop decreases-loop loop-holds session-line-requires add-j loop-less loop-again returns)
+    (tie.spec invariant-loop-j decreases-loop-j loop-holds session-line-requires add-j loop-less loop-again returns)

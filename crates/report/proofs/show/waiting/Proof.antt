@@ -3,29 +3,29 @@ use native.Mathlib.Omega.{arith}
 use Rattle.report.proofs.show.waiting.Statement.{statement}
 use Rattle.report.proofs.show.waiting.Tie as tie
 
-abbrev invariant-loop : tie.invariant-loop
-invariant-loop control sessions has-heading₀ j₀ has-heading j = (1 ≤ j) × (j ≤ 17)
+abbrev invariant-loop-j : tie.invariant-loop-j
+invariant-loop-j control sessions has-heading₀ j₀ has-heading j = (1 ≤ j) × (j ≤ 17)
 
-abbrev decreases-loop : tie.decreases-loop
-decreases-loop control sessions has-heading₀ j₀ has-heading j = 17 - j
+abbrev decreases-loop-j : tie.decreases-loop-j
+decreases-loop-j control sessions has-heading₀ j₀ has-heading j = 17 - j
 
-loop-holds : tie.Need-loop-init invariant-loop decreases-loop
+loop-holds : tie.Need-loop-j-init invariant-loop-j decreases-loop-j
 loop-holds c = (omega arith, omega arith)
 
-waiting-line-requires : tie.Need-waiting-line-requires invariant-loop decreases-loop
+waiting-line-requires : tie.Need-waiting_line-has_heading-requires invariant-loop-j decreases-loop-j
 waiting-line-requires c κs = (omega arith, omega arith)
 
-add-j : tie.Need-overflow-add-j invariant-loop decreases-loop
+add-j : tie.Need-overflow_add-j invariant-loop-j decreases-loop-j
 add-j c = omega arith
 
-loop-less : tie.Need-loop-smaller invariant-loop decreases-loop
+loop-less : tie.Need-loop-j-smaller invariant-loop-j decreases-loop-j
 loop-less c = omega arith
 
-loop-again : tie.Need-loop-preserved invariant-loop decreases-loop
+loop-again : tie.Need-loop-j-preserved invariant-loop-j decreases-loop-j
 loop-again c = (omega arith, omega arith)
 
-returns : tie.Need-returns invariant-loop decreases-loop
+returns : tie.Need-returns invariant-loop-j decreases-loop-j
 returns c = tt
 
-pub waiting-spec : {M : Type 1} → statement M
-waiting-spec = tie.close (tie.spec invariant-loop decreases-loop loop-holds waiting-line-requires add-j loop-less loop-again returns)
+pub waiting_spec : {M : Type 1} → statement M
+waiting_spec = tie.close (tie.spec invariant-loop-j decreases-loop-j loop-holds waiting-line-requires add-j loop-less loop-again returns)

@@ -4,41 +4,25 @@ use borrow.Author.Rules.{rules}
 use Rattle.report.proofs.state.studio.Statement.{statement}
 use Rattle.report.proofs.state.studio.Tie as tie
 
-slice-aggregate-put-pair : tie.Need-slice-aggregate-put-pair
-slice-aggregate-put-pair c = search rules
-
-slice-aggregate-put-pair-2 : tie.Need-slice-aggregate-put-pair-2
-slice-aggregate-put-pair-2 c = search rules
-
-put-pair-requires : tie.Need-put-pair-requires
+put-pair-requires : tie.Need-put_pair-a-requires
 put-pair-requires c κs = search rules
 
-slice-aggregate-put-numbered : tie.Need-slice-aggregate-put-numbered
-slice-aggregate-put-numbered c = search rules
-
-put-numbered-requires : tie.Need-put-numbered-requires
+put-numbered-requires : tie.Need-put_numbered-b-requires
 put-numbered-requires c κs = search rules
 
-put-behind-requires : tie.Need-put-behind-requires
+put-behind-requires : tie.Need-put_behind-c-requires
 put-behind-requires c κs = search rules
-
-slice-aggregate-put : tie.Need-slice-aggregate-put
-slice-aggregate-put c = search rules
 
 put-requires : tie.Need-put-requires
 put-requires c κs = search rules
 
-same_length : tie.Need-same-length
+same_length : tie.Need-shape_of-out
 same_length c = search rules
 
 returns : tie.Need-returns
 unfolding studio_text
 returns c =
-    let e = c.before.before in
-    let d = e.before.before.before.before.before in
-    let b = d.before.before.before.before in
-    let a = b.before.before.before.before.before in
-    told_more (told_more (told_more (told_more (told_none _) a.put-pair.ensures.0) b.put-numbered.ensures.0) d.put-behind.ensures.0) e.put.ensures
+    told_more (told_more (told_more (told_more (told_none _) c.put_pair-a.ensures.0) c.put_numbered-b.ensures.0) c.put_behind-c.ensures.0) c.put.ensures
 
-pub studio-spec : {M : Type 1} → statement M
-studio-spec = tie.close (tie.spec slice-aggregate-put-pair slice-aggregate-put-pair-2 put-pair-requires slice-aggregate-put-numbered put-numbered-requires put-behind-requires slice-aggregate-put put-requires same_length returns)
+pub studio_spec : {M : Type 1} → statement M
+studio_spec = tie.close (tie.spec put-pair-requires put-numbered-requires put-behind-requires put-requires same_length returns)

@@ -4,23 +4,16 @@ use borrow.Author.Rules.{rules}
 use Rattle.report.proofs.summary.cut.Statement.{statement}
 use Rattle.report.proofs.summary.cut.Tie as tie
 
-slice-aggregate-put-between : tie.Need-slice-aggregate-put-between
-slice-aggregate-put-between c = search rules
-
-slice-aggregate-put-between-2 : tie.Need-slice-aggregate-put-between-2
-slice-aggregate-put-between-2 c = search rules
-
-put-between-requires : tie.Need-put-between-requires
+put-between-requires : tie.Need-put_between-requires
 put-between-requires c κs = search rules
 
-same_length : tie.Need-same-length
+same_length : tie.Need-shape_of-out
 same_length c = search rules
 
 returns : tie.Need-returns
 unfolding cut_text
 returns c =
-    let a = c.before.before in
-    told_more (told_none _) a.put-between.ensures.0
+    told_more (told_none _) c.put_between.ensures.0
 
 pub cut_spec : {M : Type 1} → statement M
-cut_spec = tie.close (tie.spec slice-aggregate-put-between slice-aggregate-put-between-2 put-between-requires same_length returns)
+cut_spec = tie.close (tie.spec put-between-requires same_length returns)

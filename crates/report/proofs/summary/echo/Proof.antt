@@ -4,21 +4,18 @@ use borrow.Author.Rules.{rules}
 use Rattle.report.proofs.summary.echo.Statement.{statement}
 use Rattle.report.proofs.summary.echo.Tie as tie
 
-put-number-requires : tie.Need-put-number-requires
+put-number-requires : tie.Need-put_number-a-requires
 put-number-requires c κs = search rules
-
-slice-aggregate-put : tie.Need-slice-aggregate-put
-slice-aggregate-put c = search rules
 
 put-requires : tie.Need-put-requires
 put-requires c κs = search rules
 
-same_length : tie.Need-same-length
+same_length : tie.Need-shape_of-out
 same_length c = search rules
 
 returns : tie.Need-returns
 unfolding echo_text
-returns c = let at-put-number = c.before.before.before.before.before.before.before in told_more (told_more (told_none _) at-put-number.put-number.ensures.0) c.before.before.put.ensures
+returns c = told_more (told_more (told_none _) c.put_number-a.ensures.0) c.put.ensures
 
-pub echo-spec : {M : Type 1} → statement M
-echo-spec = tie.close (tie.spec put-number-requires slice-aggregate-put put-requires same_length returns)
+pub echo_spec : {M : Type 1} → statement M
+echo_spec = tie.close (tie.spec put-number-requires put-requires same_length returns)
