@@ -7,171 +7,155 @@ use borrow.Author.Rules.{rules}
 use Rattle.calls.proofs.keep.keep.Statement.{statement}
 use Rattle.calls.proofs.keep.keep.Tie as tie
 
-enum-known-came : tie.Need-enum-known-came
+enum-known-came : tie.Need-enum_known-came
 enum-known-came c = search rules
 
-after-setup-requires : tie.Need-after-setup-requires
+after-setup-requires : tie.Need-after_setup-requires
 after-setup-requires c κs = search rules
 
-enum-known-came-2 : tie.Need-enum-known-came-2
+enum-known-came-2 : tie.Need-enum_known-came-in-Commit-1
 enum-known-came-2 c = search rules
 
-cast-part-of : tie.Need-overflow-cast-part-of
+cast-part-of : tie.Need-overflow_cast-operations
 cast-part-of c = search rules
 
-mul-part-of : tie.Need-overflow-mul-part-of
+mul-part-of : tie.Need-overflow_mul-operations
 mul-part-of c = search rules
 
-part-of-requires : tie.Need-part-of-requires
+part-of-requires : tie.Need-part_of-ops-requires
 part-of-requires c κs = search rules
 
-after-commit-requires : tie.Need-after-commit-requires
+after-commit-requires : tie.Need-after_commit-requires
 after-commit-requires c κs = search rules
 
-enum-known-came-3 : tie.Need-enum-known-came-3
+enum-known-came-3 : tie.Need-enum_known-came-in-Preview-1
 enum-known-came-3 c = search rules
 
-after-count-requires : tie.Need-after-count-requires
+after-count-requires : tie.Need-after_count-requires
 after-count-requires c κs = search rules
 
-enum-known-came-4 : tie.Need-enum-known-came-4
+enum-known-came-4 : tie.Need-enum_known-came-in-SendOrRefresh-1
 enum-known-came-4 c = search rules
 
-after-count-requires-2 : tie.Need-after-count-requires-2
+after-count-requires-2 : tie.Need-after_count-requires-in-SendOrRefresh
 after-count-requires-2 c κs = search rules
 
-enum-known-came-5 : tie.Need-enum-known-came-5
+enum-known-came-5 : tie.Need-enum_known-came-in-Read-1
 enum-known-came-5 c = search rules
 
-after-read-requires : tie.Need-after-read-requires
+after-read-requires : tie.Need-after_read-requires
 after-read-requires c κs = search rules
 
-enum_told : tie.Need-enum-told
+enum_told : tie.Need-enum_told-1
 enum_told c = search rules
 
 unreadable-requires : tie.Need-unreadable-requires
 unreadable-requires c κs = search rules
 
-enum-told-2 : tie.Need-enum-told-2
+enum-told-2 : tie.Need-enum_told-in-Show
 enum-told-2 c = search rules
 
-enum-told-3 : tie.Need-enum-told-3
+enum-told-3 : tie.Need-enum_told-in-Nothing
 enum-told-3 c = search rules
 
-enum-known-came-6 : tie.Need-enum-known-came-6
+enum-known-came-6 : tie.Need-enum_known-came-in-Unwritten-1
 enum-known-came-6 c = search rules
 
-after-count-requires-3 : tie.Need-after-count-requires-3
+after-count-requires-3 : tie.Need-after_count-requires-in-Unwritten
 after-count-requires-3 c κs = search rules
 
-enum-known-came-7 : tie.Need-enum-known-came-7
+enum-known-came-7 : tie.Need-enum_known-came-in-Received-1
 enum-known-came-7 c = search rules
 
-after-receive-requires : tie.Need-after-receive-requires
+after-receive-requires : tie.Need-after_receive-requires
 after-receive-requires c κs = search rules
 
-enum-known-came-8 : tie.Need-enum-known-came-8
+enum-known-came-8 : tie.Need-enum_known-came-in-Move-1
 enum-known-came-8 c = search rules
 
-after-count-requires-4 : tie.Need-after-count-requires-4
+after-count-requires-4 : tie.Need-after_count-requires-in-Move
 after-count-requires-4 c κs = search rules
 
-enum-known-came-9 : tie.Need-enum-known-came-9
+enum-known-came-9 : tie.Need-enum_known-came-in-Load-1
 enum-known-came-9 c = search rules
 
-after-count-requires-5 : tie.Need-after-count-requires-5
+after-count-requires-5 : tie.Need-after_count-requires-in-Load
 after-count-requires-5 c κs = search rules
 
-enum-known-came-10 : tie.Need-enum-known-came-10
+enum-known-came-10 : tie.Need-enum_known-came-in-Retire-1
 enum-known-came-10 c = search rules
 
-after-count-requires-6 : tie.Need-after-count-requires-6
+after-count-requires-6 : tie.Need-after_count-requires-in-Retire
 after-count-requires-6 c κs = search rules
 
-returns : tie.Need-returns
+returns : tie.Need-returns-in-Setup
 unfolding came_kept
-returns c = let s = c.before.before.before.before.before.before.before.before.before in
-    (by_came _ _ _ _ _ _ c.before.before.came.given.1 (same_entries s.args.cells.now s.args.store.now c.after-setup.ensures.0), omega (arith, c.after-setup.ensures.1, s.requires.1))
+returns c = (by_came _ _ _ _ _ _ c.in-Setup.is (same_entries c.args.cells.now c.args.store.now c.after_setup.ensures.0), omega (arith, c.after_setup.ensures.1, c.requires.1))
 
-same_length : tie.Need-same-length
+same_length : tie.Need-shape_of-cells-in-Commit
 same_length c = search rules
 
-same-length-2 : tie.Need-same-length-2
+same-length-2 : tie.Need-shape_of-store-in-Commit
 same-length-2 c = search rules
 
-returns-2 : tie.Need-returns-2
+returns-2 : tie.Need-returns-in-Commit
 unfolding came_kept
-returns-2 c = let called = c.before.before.before.before in
-    let part = called.before.before.before in
-    let s = part.before.before.before.before.before.before.before.before.before in
-    let a = s.args in
-    let e = called.after-commit.ensures in
-    let g = part.before.before.came2.given in (
-      by_came _ _ _ _ _ _ g.1 (e.0 ∙ ap (λ ops. after_commit a.p a.turn.control g.0.0 g.0.1.0 ops a.cells.now a.store.now) part.part_of.ensures),
-      omega (arith, e.1, s.requires.0),
+returns-2 c = let a = c.args in
+    let e = c.after_commit.ensures in
+    let g = c.in-Commit in (
+      by_came _ _ _ _ _ _ g.is (e.0 ∙ ap (λ ops. after_commit a.p a.turn.control g.answer g.session ops a.cells.now a.store.now) c.part_of-ops.ensures),
+      omega (arith, e.1, c.requires.0),
     )
 
-returns-3 : tie.Need-returns-3
+returns-3 : tie.Need-returns-in-Preview
 unfolding came_kept
-returns-3 c = let s = c.before.before.before.before.before.before.before.before.before in
-    (by_came _ _ _ _ _ _ c.before.before.came3.given.1 (same_entries s.args.cells.now s.args.store.now c.after-count.ensures.0), omega (arith, c.after-count.ensures.1, s.requires.1))
+returns-3 c = (by_came _ _ _ _ _ _ c.in-Preview.is (same_entries c.args.cells.now c.args.store.now c.after_count.ensures.0), omega (arith, c.after_count.ensures.1, c.requires.1))
 
-returns-4 : tie.Need-returns-4
+returns-4 : tie.Need-returns-in-SendOrRefresh
 unfolding came_kept
-returns-4 c = let s = c.before.before.before.before.before.before.before.before.before in
-    (by_came _ _ _ _ _ _ c.before.before.came4.given.1 (same_entries s.args.cells.now s.args.store.now c.after-count2.ensures.0), omega (arith, c.after-count2.ensures.1, s.requires.1))
+returns-4 c = (by_came _ _ _ _ _ _ c.in-SendOrRefresh.is (same_entries c.args.cells.now c.args.store.now c.after_count-in-SendOrRefresh.ensures.0), omega (arith, c.after_count-in-SendOrRefresh.ensures.1, c.requires.1))
 
-same-length-3 : tie.Need-same-length-3
+same-length-3 : tie.Need-shape_of-cells-in-Read
 same-length-3 c = search rules
 
-same-length-4 : tie.Need-same-length-4
+same-length-4 : tie.Need-shape_of-store-in-Read
 same-length-4 c = search rules
 
-returns-5 : tie.Need-returns-5
+returns-5 : tie.Need-returns-in-Read
 unfolding came_kept
-returns-5 c = let called = c.before.before.before.before in
-    let s = called.before.before.before.before.before.before.before.before.before.before.before in
-    (by_came _ _ _ _ _ _ called.before.before.before.before.came5.given.1 called.after_read.ensures.0, omega (arith, called.after_read.ensures.1, s.requires.0))
+returns-5 c = (by_came _ _ _ _ _ _ c.in-Read.is c.after_read.ensures.0, omega (arith, c.after_read.ensures.1, c.requires.0))
 
-returns-6 : tie.Need-returns-6
+returns-6 : tie.Need-returns-in-Unreadable
 unfolding came_kept
-returns-6 c = let s = c.before.before.before.before.before.before.before.before in
-    (by_came _ _ _ _ _ _ c.before.enum_told.given.1 (same_entries s.args.cells.now s.args.store.now c.unreadable.ensures.0), omega (arith, c.unreadable.ensures.1, s.requires.1))
+returns-6 c = (by_came _ _ _ _ _ _ c.in-Unreadable.is (same_entries c.args.cells.now c.args.store.now c.unreadable.ensures.0), omega (arith, c.unreadable.ensures.1, c.requires.1))
 
-returns-7 : tie.Need-returns-7
+returns-7 : tie.Need-returns-in-Show
 unfolding came_kept
-returns-7 c = let s = c.before.before.before.before.before.before.before in
-    (by_came _ _ _ _ _ _ c.enum-told2.given.1 refl, s.requires.1)
+returns-7 c = (by_came _ _ _ _ _ _ c.in-Show.is refl, c.requires.1)
 
-returns-8 : tie.Need-returns-8
+returns-8 : tie.Need-returns-in-Nothing
 unfolding came_kept
-returns-8 c = let s = c.before.before.before.before.before.before.before in
-    (by_came _ _ _ _ _ _ c.enum-told3.given.1 refl, s.requires.1)
+returns-8 c = (by_came _ _ _ _ _ _ c.in-Nothing.is refl, c.requires.1)
 
-returns-9 : tie.Need-returns-9
+returns-9 : tie.Need-returns-in-Unwritten
 unfolding came_kept
-returns-9 c = let s = c.before.before.before.before.before.before.before.before.before in
-    (by_came _ _ _ _ _ _ c.before.before.came6.given.1 (same_entries s.args.cells.now s.args.store.now c.after-count3.ensures.0), omega (arith, c.after-count3.ensures.1, s.requires.1))
+returns-9 c = (by_came _ _ _ _ _ _ c.in-Unwritten.is (same_entries c.args.cells.now c.args.store.now c.after_count-in-Unwritten.ensures.0), omega (arith, c.after_count-in-Unwritten.ensures.1, c.requires.1))
 
-returns-10 : tie.Need-returns-10
+returns-10 : tie.Need-returns-in-Received
 unfolding came_kept
-returns-10 c = let s = c.before.before.before.before.before.before.before.before.before in
-    (by_came _ _ _ _ _ _ c.before.before.came7.given.1 (same_entries s.args.cells.now s.args.store.now c.after-receive.ensures.0), omega (arith, c.after-receive.ensures.1, s.requires.1))
+returns-10 c = (by_came _ _ _ _ _ _ c.in-Received.is (same_entries c.args.cells.now c.args.store.now c.after_receive.ensures.0), omega (arith, c.after_receive.ensures.1, c.requires.1))
 
-returns-11 : tie.Need-returns-11
+returns-11 : tie.Need-returns-in-Move
 unfolding came_kept
-returns-11 c = let s = c.before.before.before.before.before.before.before.before.before in
-    (by_came _ _ _ _ _ _ c.before.before.came8.given.1 (same_entries s.args.cells.now s.args.store.now c.after-count4.ensures.0), omega (arith, c.after-count4.ensures.1, s.requires.1))
+returns-11 c = (by_came _ _ _ _ _ _ c.in-Move.is (same_entries c.args.cells.now c.args.store.now c.after_count-in-Move.ensures.0), omega (arith, c.after_count-in-Move.ensures.1, c.requires.1))
 
-returns-12 : tie.Need-returns-12
+returns-12 : tie.Need-returns-in-Load
 unfolding came_kept
-returns-12 c = let s = c.before.before.before.before.before.before.before.before.before in
-    (by_came _ _ _ _ _ _ c.before.before.came9.given.1 (same_entries s.args.cells.now s.args.store.now c.after-count5.ensures.0), omega (arith, c.after-count5.ensures.1, s.requires.1))
+returns-12 c = (by_came _ _ _ _ _ _ c.in-Load.is (same_entries c.args.cells.now c.args.store.now c.after_count-in-Load.ensures.0), omega (arith, c.after_count-in-Load.ensures.1, c.requires.1))
 
-returns-13 : tie.Need-returns-13
+returns-13 : tie.Need-returns-in-Retire
 unfolding came_kept
-returns-13 c = let s = c.before.before.before.before.before.before.before.before.before in
-    (by_came _ _ _ _ _ _ c.before.before.came10.given.1 (same_entries s.args.cells.now s.args.store.now c.after-count6.ensures.0), omega (arith, c.after-count6.ensures.1, s.requires.1))
+returns-13 c = (by_came _ _ _ _ _ _ c.in-Retire.is (same_entries c.args.cells.now c.args.store.now c.after_count-in-Retire.ensures.0), omega (arith, c.after_count-in-Retire.ensures.1, c.requires.1))
 
 pub keep_spec : {M : Type 1} → statement M
 keep_spec =

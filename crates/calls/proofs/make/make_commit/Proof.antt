@@ -7,33 +7,31 @@ use borrow.Author.Rules.{rules}
 use Rattle.calls.proofs.make.make_commit.Statement.{statement}
 use Rattle.calls.proofs.make.make_commit.Tie as tie
 
-mul-part-of : tie.Need-overflow-mul-part-of
+mul-part-of : tie.Need-overflow_mul-operations
 mul-part-of c = search rules
 
-part-of-requires : tie.Need-part-of-requires
+part-of-requires : tie.Need-part_of-ops-requires
 part-of-requires c κs = search rules
 
-commit-requires : tie.Need-commit-requires
+commit-requires : tie.Need-commit-result-requires
 commit-requires c κs = search rules
 
-same_length : tie.Need-same-length
+same_length : tie.Need-shape_of-library
 same_length c = search rules
 
-same-length-2 : tie.Need-same-length-2
+same-length-2 : tie.Need-shape_of-log
 same-length-2 c = search rules
 
-same-length-3 : tie.Need-same-length-3
+same-length-3 : tie.Need-shape_of-sessions
 same-length-3 c = search rules
 
 returns : tie.Need-returns
-returns c = let called = c.before.before.before.before.before.before.before in
-    let part = called.before.before.before.before in
-    let a = part.before.before.before.before.before.args in
+returns c = let a = c.args in
     let m = memory a.library.now a.log.now a.sessions.now in
-    told_by (λ y. committed y a.session a.operations) (called.commit.ensures ∙ ap (λ ops. commit a.control m a.session ops) part.part_of.ensures)
+    told_by (λ y. committed y a.session a.operations) (c.commit-result.ensures ∙ ap (λ ops. commit a.control m a.session ops) c.part_of-ops.ensures)
 
-pub make-commit-spec : {M : Type 1} → statement M
-make-commit-spec =
+pub make_commit_spec : {M : Type 1} → statement M
+make_commit_spec =
     tie.close
     (tie.spec
     mul-part-of

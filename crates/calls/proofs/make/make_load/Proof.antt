@@ -4,11 +4,11 @@ use borrow.Author.Rules.{rules}
 use Rattle.calls.proofs.make.make_load.Statement.{statement}
 use Rattle.calls.proofs.make.make_load.Tie as tie
 
-load-requires : tie.Need-load-requires
+load-requires : tie.Need-load-result-requires
 load-requires c κs = search rules
 
 returns : tie.Need-returns
-returns c = told_by loaded c.before.load.ensures
+returns c = told_by loaded c.load-result.ensures
 
-pub make-load-spec : {M : Type 1} → statement M
-make-load-spec = tie.close (tie.spec load-requires returns)
+pub make_load_spec : {M : Type 1} → statement M
+make_load_spec = tie.close (tie.spec load-requires returns)

@@ -7,21 +7,19 @@ use borrow.Author.Rules.{rules}
 use Rattle.calls.proofs.make.make_preview.Statement.{statement}
 use Rattle.calls.proofs.make.make_preview.Tie as tie
 
-mul-part-of : tie.Need-overflow-mul-part-of
+mul-part-of : tie.Need-overflow_mul-operations
 mul-part-of c = search rules
 
-part-of-requires : tie.Need-part-of-requires
+part-of-requires : tie.Need-part_of-ops-requires
 part-of-requires c κs = search rules
 
-preview-requires : tie.Need-preview-requires
+preview-requires : tie.Need-preview-result-requires
 preview-requires c κs = search rules
 
 returns : tie.Need-returns
-returns c = let called = c.before in
-    let part = called.before in
-    let a = part.before.before.before.before.before.args in
+returns c = let a = c.args in
     let m = memory a.library.now a.log.now a.sessions.now in
-    told_by (λ y. previewed y a.session a.operations) (called.preview.ensures ∙ ap (λ ops. preview a.control m a.session ops) part.part_of.ensures)
+    told_by (λ y. previewed y a.session a.operations) (c.preview-result.ensures ∙ ap (λ ops. preview a.control m a.session ops) c.part_of-ops.ensures)
 
-pub make-preview-spec : {M : Type 1} → statement M
-make-preview-spec = tie.close (tie.spec mul-part-of part-of-requires preview-requires returns)
+pub make_preview_spec : {M : Type 1} → statement M
+make_preview_spec = tie.close (tie.spec mul-part-of part-of-requires preview-requires returns)

@@ -3,36 +3,35 @@ use borrow.Author.Rules.{rules}
 use Rattle.calls.proofs.make.make_read.Statement.{statement}
 use Rattle.calls.proofs.make.make_read.Tie as tie
 
-part-of-requires : tie.Need-part-of-requires
+part-of-requires : tie.Need-part_of-request-requires
 part-of-requires c κs = search rules
 
-put-request-requires : tie.Need-put-request-requires
+put-request-requires : tie.Need-put_request-requires
 put-request-requires c κs = search rules
 
-sub-output : tie.Need-overflow-sub-output
+sub-output : tie.Need-slice_bounds-output-count
 sub-output c = search rules
 
-part-output-start : tie.Need-slice-bounds-output-start
+part-output-start : tie.Need-slice_bounds-output-start
 part-output-start c = search rules
 
-part-output-end : tie.Need-slice-bounds-output-end
+part-output-end : tie.Need-slice_bounds-output-end
 part-output-end c = search rules
 
-read-or-forward-requires : tie.Need-read-or-forward-requires
+read-or-forward-requires : tie.Need-read_or_forward-result-requires
 read-or-forward-requires c κs = search rules
 
-same_length : tie.Need-same-length
+same_length : tie.Need-shape_of-sessions
 same_length c = search rules
 
-same-length-2 : tie.Need-same-length-2
+same-length-2 : tie.Need-shape_of-block
 same-length-2 c = search rules
 
 returns : tie.Need-returns
-returns c = let put = c.before.before.before.before.before.before.before.before.before.before in
-    read_leaves_law _ _ _ _ _ _ put.before.before.part_of.ensures put.put-request.ensures c.before.before.before.before.before.read-or-forward.ensures
+returns c = read_leaves_law _ _ _ _ _ _ c.part_of-request.ensures c.put_request.ensures c.read_or_forward-result.ensures
 
-pub make-read-spec : {M : Type 1} → statement M
-make-read-spec =
+pub make_read_spec : {M : Type 1} → statement M
+make_read_spec =
     tie.close
     (tie.spec
     part-of-requires

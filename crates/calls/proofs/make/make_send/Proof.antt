@@ -5,11 +5,11 @@ use borrow.Author.Rules.{rules}
 use Rattle.calls.proofs.make.make_send.Statement.{statement}
 use Rattle.calls.proofs.make.make_send.Tie as tie
 
-send-requires : tie.Need-send-requires
+send-requires : tie.Need-send-result-requires
 send-requires c κs = search rules
 
 returns : tie.Need-returns
-returns c = told_by (λ a. sent_or_refreshed a c.before.before.before.before.before.args.studio true) c.before.send.ensures
+returns c = told_by (λ a. sent_or_refreshed a c.args.studio true) c.send-result.ensures
 
-pub make-send-spec : {M : Type 1} → statement M
-make-send-spec = tie.close (tie.spec send-requires returns)
+pub make_send_spec : {M : Type 1} → statement M
+make_send_spec = tie.close (tie.spec send-requires returns)

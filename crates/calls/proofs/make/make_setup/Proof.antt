@@ -6,39 +6,36 @@ use borrow.Author.Rules.{rules}
 use Rattle.calls.proofs.make.make_setup.Statement.{statement}
 use Rattle.calls.proofs.make.make_setup.Tie as tie
 
-cast-part-of : tie.Need-overflow-cast-part-of
+cast-part-of : tie.Need-overflow_cast-part_of
 cast-part-of c = search rules
 
-part-of-requires : tie.Need-part-of-requires
+part-of-requires : tie.Need-part_of-places-requires
 part-of-requires c κs = search rules
 
-setup-requires : tie.Need-setup-requires
+setup-requires : tie.Need-setup-result-requires
 setup-requires c κs = search rules
 
-set-up-requires : tie.Need-set-up-requires
+set-up-requires : tie.Need-set_up-requires
 set-up-requires c κs = search rules
 
-same_length : tie.Need-same-length
+same_length : tie.Need-shape_of-library
 same_length c = search rules
 
-same-length-2 : tie.Need-same-length-2
+same-length-2 : tie.Need-shape_of-log
 same-length-2 c = search rules
 
-same-length-3 : tie.Need-same-length-3
+same-length-3 : tie.Need-shape_of-sessions
 same-length-3 c = search rules
 
-same-length-4 : tie.Need-same-length-4
+same-length-4 : tie.Need-shape_of-copy
 same-length-4 c = search rules
 
 returns : tie.Need-returns
-returns c = let van = c.before.before in
-    let called = van.before.before.before.before.before.before.before.before.before in
-    let part = called.before.before.before.before in
-    let a = part.before.before.before.before.before.before.args in
-    setup_leaves_law _ _ _ _ (called.setup.ensures ∙ ap (λ places. setup (memory a.library.now a.log.now a.sessions.now) a.studios places) part.part_of.ensures) van.set-up.ensures
+returns c = let a = c.args in
+    setup_leaves_law _ _ _ _ (c.setup-result.ensures ∙ ap (λ places. setup (memory a.library.now a.log.now a.sessions.now) a.studios places) c.part_of-places.ensures) c.set_up.ensures
 
-pub make-setup-spec : {M : Type 1} → statement M
-make-setup-spec =
+pub make_setup_spec : {M : Type 1} → statement M
+make_setup_spec =
     tie.close
     (tie.spec
     cast-part-of
