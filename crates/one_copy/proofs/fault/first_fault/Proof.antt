@@ -6,50 +6,49 @@ use native.Mathlib.Omega.{arith}
 use Rattle.one_copy.proofs.fault.first_fault.Statement.{statement}
 use Rattle.one_copy.proofs.fault.first_fault.Tie as tie
 
-abbrev invariant-loop : tie.invariant-loop
-invariant-loop copy ops row first₀ i₀ first i = (i ≤ 8) × (first ≡ first_fault copy row ops i)
+abbrev invariant-loop-i : tie.invariant-loop-i
+invariant-loop-i copy ops row first₀ i₀ first i = (i ≤ 8) × (first ≡ first_fault copy row ops i)
 
-abbrev decreases-loop : tie.decreases-loop
-decreases-loop copy ops row first₀ i₀ first i = 8 - i
+abbrev decreases-loop-i : tie.decreases-loop-i
+decreases-loop-i copy ops row first₀ i₀ first i = 8 - i
 
-loop-holds : tie.Need-loop-init invariant-loop decreases-loop
+loop-holds : tie.Need-loop-i-init invariant-loop-i decreases-loop-i
 unfolding first_fault
 loop-holds c = (omega arith, refl)
 
-add-i : tie.Need-overflow-add-i invariant-loop decreases-loop
+add-i : tie.Need-overflow_add-i invariant-loop-i decreases-loop-i
 add-i c = omega arith
 
-cast-part-of : tie.Need-overflow-cast-part-of invariant-loop decreases-loop
+cast-part-of : tie.Need-overflow_cast-i invariant-loop-i decreases-loop-i
 cast-part-of c = omega arith
 
-mul-part-of : tie.Need-overflow-mul-part-of invariant-loop decreases-loop
+mul-part-of : tie.Need-overflow_mul-i invariant-loop-i decreases-loop-i
 mul-part-of c = omega arith
 
-part-of-requires : tie.Need-part-of-requires invariant-loop decreases-loop
+part-of-requires : tie.Need-part_of-prefix-requires invariant-loop-i decreases-loop-i
 part-of-requires c κs = tt
 
-is-allowed-requires : tie.Need-is-allowed-requires invariant-loop decreases-loop
-is-allowed-requires c κs = c.before.before.before.before.before.requires
+is-allowed-requires : tie.Need-is_allowed-requires invariant-loop-i decreases-loop-i
+is-allowed-requires c κs = c.requires
 
-next-fault-requires : tie.Need-next-fault-requires invariant-loop decreases-loop
+next-fault-requires : tie.Need-next_fault-first-requires invariant-loop-i decreases-loop-i
 next-fault-requires c κs = tt
 
-loop-less : tie.Need-loop-smaller invariant-loop decreases-loop
+loop-less : tie.Need-loop-i-smaller invariant-loop-i decreases-loop-i
 loop-less c = omega arith
 
-loop-again : tie.Need-loop-preserved invariant-loop decreases-loop
-loop-again c = let t = c.before.before.before.before in
-    (omega arith, rw (fault_more _ _ _ t.loop.i, ← t.loop.invariant.1, ← c.before.before.part_of.ensures, ← c.before.is-allowed.ensures) c.next-fault.ensures)
+loop-again : tie.Need-loop-i-preserved invariant-loop-i decreases-loop-i
+loop-again c = (omega arith, rw (fault_more _ _ _ c.loop-i.i, ← c.loop-i.invariant.1, ← c.part_of-prefix.ensures, ← c.is_allowed.ensures) c.next_fault-first.ensures)
 
-returns : tie.Need-returns invariant-loop decreases-loop
-returns c = let e : c.before.loop.i ≡ 8 = omega arith in rw (← e) c.before.loop.invariant.1
+returns : tie.Need-returns invariant-loop-i decreases-loop-i
+returns c = let e : c.loop-i.i ≡ 8 = omega arith in rw (← e) c.loop-i.invariant.1
 
-pub first-fault-spec : {M : Type 1} → statement M
-first-fault-spec =
+pub first_fault_spec : {M : Type 1} → statement M
+first_fault_spec =
     tie.close
     (tie.spec
-    invariant-loop
-    decreases-loop
+    invariant-loop-i
+    decreases-loop-i
     loop-holds
     add-i
     cast-part-of

@@ -9,33 +9,33 @@ use borrow.Author.Rules.{rules}
 use Rattle.one_copy.proofs.fault.is_allowed.Statement.{statement}
 use Rattle.one_copy.proofs.fault.is_allowed.Tie as tie
 
-all-operations-requires : tie.Need-all-operations-requires
+all-operations-requires : tie.Need-all_operations-requires
 all-operations-requires c κs = search rules
 
-returns : tie.Need-returns
+returns : tie.Need-returns-then-not-all_operations
 unfolding allowed
-returns c = let r = c.before.all-operations in rw (sym r.ensures ∙ not-true r.result c.if1.true)
+returns c = let r = c.all_operations in rw (sym r.ensures ∙ c.if-not-all_operations.true)
 
-right-form : (c : tie.Else1) → every operation_form (operations_of c.before.before.before.before.args.ops.now) ≡ true
-right-form c = let r = c.before.all-operations in sym r.ensures ∙ not-false r.result c.if1.false
+right-form : (c : tie.Else-not-all_operations) → every operation_form (operations_of c.args.ops.now) ≡ true
+right-form c = let r = c.all_operations in sym r.ensures ∙ c.if-not-all_operations.false
 
-any-spaced-requires : tie.Need-any-spaced-requires
+any-spaced-requires : tie.Need-any_spaced-requires
 any-spaced-requires c κs = forms_fields _ (right-form c.before)
 
-returns-2 : tie.Need-returns-2
+returns-2 : tie.Need-returns-then-row-eq16
 unfolding allowed
-returns-2 c = rw (right-form c.before.before, eq-eqb _ 16 c.before.if2.true, c.any-spaced.ensures)
+returns-2 c = rw (right-form c.before.before, eq-eqb _ 16 c.if-row-eq16.true, c.any_spaced.ensures)
 
-meets-all-requires : tie.Need-meets-all-requires
-meets-all-requires c κs = (c.before.before.before.before.before.before.requires, forms_fields _ (right-form c.before.before))
+meets-all-requires : tie.Need-meets_all-requires
+meets-all-requires c κs = (c.requires, forms_fields _ (right-form c.before.before))
 
-returns-3 : tie.Need-returns-3
+returns-3 : tie.Need-returns-then-row-eq8
 unfolding allowed
-returns-3 c = rw (right-form c.before.before.before, ne_eqb _ 16 c.before.before.if2.false, eq-eqb _ 8 c.before.if3.true) c.meets-all.ensures
+returns-3 c = rw (right-form c.before.before.before, ne_eqb _ 16 c.if-row-eq16.false, eq-eqb _ 8 c.if-row-eq8.true) c.meets_all.ensures
 
-returns-4 : tie.Need-returns-4
+returns-4 : tie.Need-returns
 unfolding allowed
-returns-4 c = rw (right-form c.before.before, ne_eqb _ 16 c.before.if2.false, ne_eqb _ 8 c.if3.false)
+returns-4 c = rw (right-form c.before.before, ne_eqb _ 16 c.if-row-eq16.false, ne_eqb _ 8 c.if-row-eq8.false)
 
-pub is-allowed-spec : {M : Type 1} → statement M
-is-allowed-spec = tie.close (tie.spec all-operations-requires returns any-spaced-requires returns-2 meets-all-requires returns-3 returns-4)
+pub is_allowed_spec : {M : Type 1} → statement M
+is_allowed_spec = tie.close (tie.spec all-operations-requires returns any-spaced-requires returns-2 meets-all-requires returns-3 returns-4)

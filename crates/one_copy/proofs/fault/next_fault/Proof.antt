@@ -2,14 +2,14 @@ use borrow.Author.Tests.{eq-eqb, ne_eqb}
 use Rattle.one_copy.proofs.fault.next_fault.Statement.{statement}
 use Rattle.one_copy.proofs.fault.next_fault.Tie as tie
 
-returns : tie.Need-returns
-returns c = rw (ne_eqb _ 0 c.if1.true)
+returns : tie.Need-returns-then-first-ne0
+returns c = rw (ne_eqb _ 0 c.if-first-ne0.true)
 
-returns-2 : tie.Need-returns-2
-returns-2 c = rw (eq-eqb _ 0 c.before.if1.false, c.if2.true)
+returns-2 : tie.Need-returns-then-allowed
+returns-2 c = rw (eq-eqb _ 0 c.if-first-ne0.false, c.if-allowed.true)
 
-returns-3 : tie.Need-returns-3
-returns-3 c = rw (eq-eqb _ 0 c.before.if1.false, c.if2.false)
+returns-3 : tie.Need-returns
+returns-3 c = rw (eq-eqb _ 0 c.if-first-ne0.false, c.if-allowed.false)
 
-pub next-fault-spec : {M : Type 1} → statement M
-next-fault-spec = tie.close (tie.spec returns returns-2 returns-3)
+pub next_fault_spec : {M : Type 1} → statement M
+next_fault_spec = tie.close (tie.spec returns returns-2 returns-3)

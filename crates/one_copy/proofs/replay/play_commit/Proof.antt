@@ -6,38 +6,38 @@ use borrow.Author.Rules.{rules}
 use Rattle.one_copy.proofs.replay.play_commit.Statement.{statement}
 use Rattle.one_copy.proofs.replay.play_commit.Tie as tie
 
-all-operations-requires : tie.Need-all-operations-requires
+all-operations-requires : tie.Need-all_operations-requires
 all-operations-requires c κs = search rules
 
-returns : tie.Need-returns
+returns : tie.Need-returns-then-not-all_operations
 unfolding plays
-returns c = let e = sym c.before.all-operations.ensures ∙ not-true c.before.all-operations.result c.if1.true in rw e (refl, refl)
+returns c = let e = sym c.all_operations.ensures ∙ c.if-not-all_operations.true in rw e (refl, refl)
 
-meets-all-requires : tie.Need-meets-all-requires
-meets-all-requires c κs = (c.before.before.before.before.before.requires.0, forms_fields _ (sym c.before.before.all-operations.ensures ∙ not-false c.before.before.all-operations.result c.before.if1.false))
+meets-all-requires : tie.Need-meets_all-requires
+meets-all-requires c κs = (c.requires.0, forms_fields _ (sym c.all_operations.ensures ∙ c.if-not-all_operations.false))
 
-same_length : tie.Need-same-length
+same_length : tie.Need-shape_of-copy-then-not-meets_all
 same_length c = search rules
 
-returns-2 : tie.Need-returns-2
+returns-2 : tie.Need-returns-then-not-meets_all
 unfolding plays
-returns-2 c = let e = sym c.before.before.before.before.all-operations.ensures ∙ not-false c.before.before.before.before.all-operations.result c.before.before.before.if1.false in let m = sym c.before.meets-all.ensures ∙ not-true c.before.meets-all.result c.if2.true in rw (e, m) (refl, refl)
+returns-2 c = let e = sym c.all_operations.ensures ∙ c.if-not-all_operations.false in let m = sym c.meets_all.ensures ∙ c.if-not-meets_all.true in rw (e, m) (refl, refl)
 
-apply-all-requires : tie.Need-apply-all-requires
-apply-all-requires c κs = let start = c.before.before.before.before.before.before.before.before in (start.requires.0, forms_fields _ (sym c.before.before.before.before.before.all-operations.ensures ∙ not-false c.before.before.before.before.before.all-operations.result c.before.before.before.before.if1.false))
+apply-all-requires : tie.Need-apply_all-requires
+apply-all-requires c κs = (c.requires.0, forms_fields _ (sym c.all_operations.ensures ∙ c.if-not-all_operations.false))
 
-add-result : tie.Need-overflow-add-result
+add-result : tie.Need-overflow_add-result
 add-result c = search rules
 
-same-length-2 : tie.Need-same-length-2
+same-length-2 : tie.Need-shape_of-copy
 same-length-2 c = search rules
 
-returns-3 : tie.Need-returns-3
+returns-3 : tie.Need-returns
 unfolding plays
-returns-3 c = let else1 = c.before.before.before.before.before.before.before in let e = sym else1.before.all-operations.ensures ∙ not-false else1.before.all-operations.result else1.if1.false in let m = sym c.before.before.before.before.before.meets-all.ensures ∙ not-false c.before.before.before.before.before.meets-all.result c.before.before.before.before.if2.false in rw (e, m) (refl, c.before.before.apply-all.ensures)
+returns-3 c = let e = sym c.all_operations.ensures ∙ c.if-not-all_operations.false in let m = sym c.meets_all.ensures ∙ c.if-not-meets_all.false in rw (e, m) (refl, c.apply_all.ensures)
 
-pub play-commit-spec : {M : Type 1} → statement M
-play-commit-spec =
+pub play_commit_spec : {M : Type 1} → statement M
+play_commit_spec =
     tie.close
     (tie.spec
     all-operations-requires

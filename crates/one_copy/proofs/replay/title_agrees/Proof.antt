@@ -8,44 +8,44 @@ use borrow.Author.Rules.{rules}
 use Rattle.one_copy.proofs.replay.title_agrees.Statement.{statement}
 use Rattle.one_copy.proofs.replay.title_agrees.Tie as tie
 
-search-requires : tie.Need-search-requires
+search-requires : tie.Need-search-searched-requires
 search-requires c κs = search rules
 
-found-count-requires : tie.Need-found-count-requires
+found-count-requires : tie.Need-found_count-count-requires
 found-count-requires c κs = search rules
 
-part-of-requires : tie.Need-part-of-requires
+part-of-requires : tie.Need-part_of-place-requires
 part-of-requires c κs = search rules
 
-enum-known-result : tie.Need-enum-known-result
+enum-known-result : tie.Need-enum_known-result
 enum-known-result c = search rules
 
-slice-aggregate-same : tie.Need-slice-aggregate-same
+slice-aggregate-same : tie.Need-slice_bounds-same-end
 slice-aggregate-same c = search rules
 
 same-requires : tie.Need-same-requires
 same-requires c κs = search rules
 
-returns : tie.Need-returns
+returns : tie.Need-returns-in_default
 unfolding title_agrees zeros
-returns c = let s = c.before.before.before.before.before.before.before.before.before.args in let q = c.before.before.before.before.before.search.ensures.0 in
-    ap₂ (λ n b. eqb n s.found && b) (c.before.before.before.before.found-count.ensures ∙ title_found s.copy.now s.title.now _ q)
-    (c.same.ensures ∙ ap₂ (λ x y. pairwise eqb x y) (title_not_one s.copy.now s.title.now _ q c.before.before.match.keys2) c.before.before.before.part_of.ensures)
+returns c = let s = c.args in let q = c.search-searched.ensures.0 in
+    ap₂ (λ n b. eqb n s.found && b) (c.found_count-count.ensures ∙ title_found s.copy.now s.title.now _ q)
+    (c.same.ensures ∙ ap₂ (λ x y. pairwise eqb x y) (title_not_one s.copy.now s.title.now _ q c.in_default.in_default-own.keys2) c.part_of-place.ensures)
 
-cart-at-requires : tie.Need-cart-at-requires
-cart-at-requires c κs = let s = c.before.before.before.before.before.before.before.before.before in (s.requires.0, one_within s.args.copy.now s.args.title.now _ c.before.before.before.before.before.search.ensures.0 _ c.before.result.given.1)
+cart-at-requires : tie.Need-cart_at-requires
+cart-at-requires c κs = (c.requires.0, one_within c.args.copy.now c.args.title.now _ c.search-searched.ensures.0 _ c.in-One.is)
 
 same-requires-2 : tie.Need-same-requires-2
 same-requires-2 c κs = search rules
 
-returns-2 : tie.Need-returns-2
+returns-2 : tie.Need-returns
 unfolding title_agrees
-returns-2 c = let at-found-count = c.before.before.before.before.before.before in let s = c.before.before.before.before.before.before.before.before.before.before.before.args in let q = c.before.before.before.before.before.before.before.search.ensures.0 in
-    ap₂ (λ n b. eqb n s.found && b) (at-found-count.found-count.ensures ∙ title_found s.copy.now s.title.now _ q)
-    (c.same2.ensures ∙ ap₂ (λ x y. pairwise eqb x y) (c.before.cart-at.ensures.0 ∙ one_shown s.copy.now s.title.now _ q _ c.before.before.before.result.given.1) c.before.before.before.before.before.part_of.ensures)
+returns-2 c = let s = c.args in let q = c.search-searched.ensures.0 in
+    ap₂ (λ n b. eqb n s.found && b) (c.found_count-count.ensures ∙ title_found s.copy.now s.title.now _ q)
+    (c.same-2.ensures ∙ ap₂ (λ x y. pairwise eqb x y) (c.cart_at.ensures.0 ∙ one_shown s.copy.now s.title.now _ q _ c.in-One.is) c.part_of-place.ensures)
 
-pub title-agrees-spec : {M : Type 1} → statement M
-title-agrees-spec =
+pub title_agrees_spec : {M : Type 1} → statement M
+title_agrees_spec =
     tie.close
     (tie.spec
     search-requires
