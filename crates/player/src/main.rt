@@ -2,20 +2,25 @@
 // one-copy order replayed on a single library. docs/TRANSCRIPT.md has the format and the limits.
 #![tactic(auto)]
 
+mod failure;
 mod play;
+mod reading;
 
-ghost use Rattle.std.specs.Prelude.{◌≡◌, ◌≤◌, length};
+ghost use Rattle.std.specs.Prelude.{◌≡◌, ◌≤◌, length, IfOk};
 ghost use Rattle.carts.specs.Cart.{copy_size};
 ghost use Rattle.journal.specs.History.{most_entries, cells_size};
 
 use carts::cart::Cart;
+use edit_log::record::Record;
 use journal::history::Entry;
 use journal::progress::Progress;
 use lines::text::Class;
 use lines::{input, parse, text};
-use edit_log::record::Record;
 use replication::control::Control;
 use replication::session::Session;
+use std::env::{Env, FillError};
+use std::io::{Error, Read, Result};
+use std::rt::Files;
 
 // A line, where it is whole; `copy` is the van's.
 fn play_line(
@@ -124,43 +129,46 @@ fn play_input(bytes: &[u8], cut: bool) {
 }
 
 // What could not be opened or read is told on standard error.
-fn fail(what: &[u8]) {
-    os::fail(what);
+fn fail(what: &[u8], error: Error) {
+    failure::tell(what, error);
     words::line::status(2);
 }
 
-// The transcript is cut where there is more to read than the buffer holds. os::arg sets errno to 0, and only a read that
-// fails sets it after that.
-fn play_from(fd: i32) {
-    let mut text = io::large_buffer();
-    let mut name = io::buffer();
-    os::arg(0, &mut name);
-    let n = io::read_full(fd, &mut text);
-    if os::errno() != 0 {
-        fail(b"play: the transcript cannot be read");
-        return;
-    }
+// The bytes of a transcript, as many as the memory holds, and whether it is cut there: there is more to read.
+fn read_transcript<R: Read>(input: &mut R, text: &mut [u8]) -> Result<(usize, bool)>
+    ensures { IfOk result (λ r. r.0 ≤ length text.new) }
+{
+    let n = reading::read_full(input, text)?;
     let mut one = [0u8; 1];
-    let cut = (n == 65536) & (libc::read(fd, &mut one) > 0);
-    play_input(&text[..n], cut);
+    let cut = n == text.len() && input.read(&mut one)? > 0;
+    Ok((n, cut))
 }
 
-fn main() {
-    if os::arg_count() < 2 {
-        play_from(libc::STDIN_FILENO);
-        return;
+// The transcript that an open input has.
+fn play_from(input: &mut impl Read) {
+    let mut text = io::large_buffer();
+    match read_transcript(input, &mut text) {
+        Ok((n, cut)) => play_input(&text[..n], cut),
+        Err(error) => fail(b"play: the transcript cannot be read", error),
     }
+}
+
+// The transcript in the file of this name.
+fn play_file(rt: &impl Files, path: &[u8]) {
+    match reading::open(rt, path) {
+        Ok(file) => {
+            let mut file = file;
+            play_from(&mut file);
+        }
+        Err(error) => fail(path, error),
+    }
+}
+
+fn main(rt: HostRuntime) {
     let mut path = io::buffer();
-    let length = os::arg(1, &mut path);
-    if os::errno() != 0 {
-        fail(b"path");
-        return;
+    match rt.arg(1, &mut path) {
+        Ok(length) => play_file(&rt, &path[..length]),
+        Err(FillError::TooLong) => fail(b"path", failure::too_long()),
+        Err(FillError::NotPresent) => play_from(&mut rt.stdin()),
     }
-    let fd = os::open_read(&path[..length]);
-    if fd < 0 {
-        fail(&path[..length]);
-        return;
-    }
-    play_from(fd);
-    libc::close(fd);
 }
