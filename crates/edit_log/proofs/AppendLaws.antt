@@ -1,26 +1,25 @@
 -- A commit: the front of the free chain becomes the last transaction, and every record is still in exactly one chain.
-use Prim.Native.Nat.{ℕ, zero, suc, ◌+◌, ◌-◌, ◌<◌, ◌≤◌}
+use Prim.Native.Nat.{ℕ, zero, suc, ◌+◌, ◌-◌, ◌≤◌}
 use mathlib.Core.Path.{◌≡◌, refl, sym, ap, ◌∙◌}
 use mathlib.Core.Logic.{◌≢◌}
-use mathlib.Core.Bool.{Bool, true, false, cond, ◌&&◌}
+use mathlib.Core.Bool.{Bool, true, cond, ◌&&◌}
 use mathlib.Core.List.{List, [], ◌∷◌, ◌++◌, map, append_assoc, append-nil}
 use native.Mathlib.Omega.{arith}
 use native.Mathlib.Decide.{ℕ_discrete, dec_le}
-use lib.ListN.{length, take, drop, length-append, length-drop, take-append-drop}
+use lib.ListN.{length, take, drop, length-append, take-append-drop}
 use lib.Seq.{length-take-le}
 use lib.Dec.{eqb}
-use borrow.Author.Tests.{eq-eqb, ne_eqb, eqb-true}
+use borrow.Author.Tests.{ne_eqb, eqb-true}
 use Rattle.carts.specs.Bytes.{within, every}
 use Rattle.carts.specs.Operation.{operation_fields}
 use Rattle.carts.proofs.TestLaws.{and_left, and_right, within_low, within_high}
 use Rattle.edit_log.specs.Log.{record_at, next_operation, next_transaction, chain, records_of, walk, front, handed_in, transactions_from, log_records, free_records, back}
 use Rattle.edit_log.specs.Writes.{write_all, linked, appended}
 use Rattle.edit_log.specs.Chains.{free_form, count, chains_form}
-use Rattle.edit_log.proofs.BoolLaws.{and_of}
-use Rattle.edit_log.proofs.ListLaws.{Linked, linked_kept, linked_drop, take_chain, every_kept, every_append, count_more, front_append, front_chain}
+use Rattle.edit_log.proofs.ListLaws.{linked_kept, linked_drop, take_chain, every_kept, every_append, count_more, front_append, front_chain}
 use Rattle.edit_log.proofs.OnceLaws.{Once, count_nil, count_append, count_here, every_in}
-use Rattle.edit_log.proofs.WriteLaws.{Givens, given_sizes, Distinct, Wrote, wrote, written_linked, written_fields, written_last, joined_size, joined_other, joined_link, joined_next, joined_fields, joined_text, written_handed}
-use Rattle.edit_log.proofs.HoldLaws.{joined, Standing, Stand, Holds, transactions, length_transactions, holds_of, joined_transactions, used_is, oldest_is, first_is, last_is, log_lists, free_lists, of_holds, texts, shown_transactions, texts_kept, shown_kept, shown_lists}
+use Rattle.edit_log.proofs.WriteLaws.{Givens, given_sizes, Distinct, Wrote, wrote, written_linked, written_fields, written_last, joined_other, joined_link, joined_next, joined_fields, joined_text, written_handed}
+use Rattle.edit_log.proofs.HoldLaws.{joined, Standing, Stand, Holds, transactions, length_transactions, holds_of, joined_transactions, used_is, oldest_is, log_lists, free_lists, of_holds, texts, shown_transactions, texts_kept, shown_kept, shown_lists}
 
 -- where each occurs once, none occurs twice, and what occurs is one of the 512
 module _ (rs : List ℕ) (o : Once rs) (q : ℕ) where

@@ -20,8 +20,8 @@ use Rattle.edit_log.specs.Values.{walkable, Takeable}
 use Rattle.edit_log.proofs.BoolLaws.{and_of}
 use Rattle.edit_log.proofs.ChainLaws.{chain_cons, chain_zero}
 use Rattle.edit_log.proofs.ListLaws.{back_drop, take_chain, front_chain, front_append, every_append}
-use Rattle.edit_log.proofs.OnceLaws.{count_append, every_in}
-use Rattle.edit_log.proofs.HoldLaws.{joined, Stand, Holds, transactions, length_transactions, holds_of, used_is, oldest_is, last_is}
+use Rattle.edit_log.proofs.OnceLaws.{count_append}
+use Rattle.edit_log.proofs.HoldLaws.{joined, Stand, Holds, transactions, holds_of, used_is, oldest_is, last_is}
 use Rattle.edit_log.proofs.AppendLaws.{once_in, once_most, front_count, append_kept}
 use Rattle.edit_log.proofs.WriteLaws.{Givens}
 

@@ -2,14 +2,14 @@
 use mathlib.Core.Path.{◌≡◌, refl}
 use mathlib.Core.Bool.{true, false}
 use mathlib.Core.List.{List, [], ◌∷◌}
-use Prim.Native.Nat.{ℕ, ◌+◌, ◌-◌}
+use Prim.Native.Nat.{ℕ}
 use lib.ListN.{set, replicate}
-use Rattle.carts.specs.Bytes.{zeros, part, over, u16, u32, u16_bytes, within, all, every, all_zero}
+use Rattle.carts.specs.Bytes.{zeros, u16, u32, u16_bytes, within, all, every, all_zero}
 use Rattle.carts.specs.Cart.{printable, title_form, has_title, no_title, has_audio, no_audio}
 use Rattle.carts.specs.Operation.{operation_fields}
 use Rattle.carts.proofs.Samples.{u32_bytes, operation, new_cart, withdraw_cart, top_hour_a}
 use Rattle.edit_log.specs.Log.{record_at, with_record, next_operation, next_transaction, chain, records_of, free_records, log_records, walk, up_from, front, back, follow}
-use Rattle.edit_log.specs.Chains.{own_form, transactions_form, free_form, count}
+use Rattle.edit_log.specs.Chains.{own_form, transactions_form, free_form}
 use Rattle.edit_log.specs.Writes.{write_all, linked, extended, appended, released}
 
 unfoldable A : List ℕ

@@ -2,7 +2,7 @@
 use Prim.Native.Nat.{ℕ, zero, suc, ◌+◌, ◌-◌, ◌*◌, ◌<◌, ◌≤◌}
 use mathlib.Core.Path.{◌≡◌, refl, sym, ap, ◌∙◌}
 use mathlib.Core.Logic.{◌≢◌}
-use mathlib.Core.Bool.{Bool, true, false, cond, ◌&&◌}
+use mathlib.Core.Bool.{Bool, true, false, cond}
 use mathlib.Core.List.{List, [], ◌∷◌, ◌++◌}
 use native.Mathlib.Omega.{arith}
 use lib.ListN.{length, replicate}
@@ -21,7 +21,7 @@ use Rattle.edit_log.proofs.ListLaws.{count_more, front_chain, every_append}
 use Rattle.edit_log.proofs.OnceLaws.{count_here, count_append, every_in}
 use Rattle.edit_log.proofs.WriteLaws.{length_written, record_other}
 use Rattle.edit_log.proofs.LinkLaws.{linked_to, length_linked}
-use Rattle.edit_log.proofs.HoldLaws.{joined, Stand, Holds, transactions, holds_of, oldest_is, first_is, last_is}
+use Rattle.edit_log.proofs.HoldLaws.{joined, Stand, transactions, holds_of, oldest_is, first_is, last_is}
 use Rattle.edit_log.proofs.AppendLaws.{by_next, once_in, once_most}
 use Rattle.edit_log.proofs.TakeLaws.{chain_kept}
 use Rattle.edit_log.proofs.RetireLaws.{back_in, retire_kept}

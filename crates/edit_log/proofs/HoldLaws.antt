@@ -1,7 +1,7 @@
 -- A log by its lists: the transactions' records ts in their order, and the free records; and the layout's test from them and to them.
-use Prim.Native.Nat.{ℕ, zero, suc, ◌+◌, ◌-◌, ◌<◌, ◌≤◌}
+use Prim.Native.Nat.{ℕ, zero, suc, ◌+◌, ◌≤◌}
 use mathlib.Core.Path.{◌≡◌, refl, sym, ap, ◌∙◌}
-use mathlib.Core.Bool.{Bool, true, false, ◌&&◌}
+use mathlib.Core.Bool.{Bool, true, ◌&&◌}
 use mathlib.Core.List.{List, [], ◌∷◌, ◌++◌, map}
 use native.Mathlib.Omega.{arith}
 use lib.ListN.{length, drop}
@@ -10,8 +10,8 @@ use borrow.Author.Tests.{eq-eqb, eqb-true}
 use Rattle.carts.specs.Bytes.{within, all, every}
 use Rattle.carts.specs.Operation.{operation_fields}
 use Rattle.carts.proofs.TestLaws.{and_left, and_right, all_at, all_cons, all_nil, within_low, within_high, within_of}
-use Rattle.edit_log.specs.Log.{record_at, next_operation, next_transaction, chain, records_of, transaction_at, walk, front, handed_in, transactions_from, log_records, free_records, back}
-use Rattle.edit_log.specs.Chains.{own_form, transactions_form, free_form, count, once_each, chains_form}
+use Rattle.edit_log.specs.Log.{record_at, next_transaction, chain, records_of, transaction_at, front, handed_in, transactions_from, log_records, free_records, back}
+use Rattle.edit_log.specs.Chains.{own_form, transactions_form, free_form, count, chains_form}
 use Rattle.edit_log.proofs.BoolLaws.{and_of}
 use Rattle.edit_log.proofs.ListLaws.{count_more, Linked, linked_chain, front_chain, chain_linked, every_append, front_append}
 use Rattle.edit_log.proofs.OnceLaws.{count_here, count_append, Once, once_of, of_once}

@@ -1,5 +1,5 @@
 -- Chains as lists of records: each linked to the next along bytes 12–13, wherever they stand.
-use Prim.Native.Nat.{ℕ, zero, suc, ◌+◌, ◌-◌, ◌<◌, ◌≤◌}
+use Prim.Native.Nat.{ℕ, zero, suc, ◌-◌, ◌<◌, ◌≤◌}
 use mathlib.Core.Path.{◌≡◌, refl, sym, ap, ◌∙◌}
 use mathlib.Core.Bool.{Bool, true, false, ◌&&◌}
 use mathlib.Core.List.{List, [], ◌∷◌, ◌++◌}
@@ -13,7 +13,7 @@ use Rattle.edit_log.specs.Log.{next_operation, chain, front, back}
 use Rattle.edit_log.specs.Chains.{count}
 use Rattle.edit_log.proofs.BoolLaws.{and_of}
 use Rattle.edit_log.proofs.ChainLaws.{chain_cons, chain_zero}
-use Rattle.edit_log.proofs.OnceLaws.{count_here, count_append}
+use Rattle.edit_log.proofs.OnceLaws.{count_here}
 
 -- each record is linked to the next, the last to none
 unfoldable pub Linked : List ℕ → List ℕ → Type 0

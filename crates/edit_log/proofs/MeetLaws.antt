@@ -6,14 +6,14 @@ use mathlib.Core.List.{List, [], ◌∷◌, ◌++◌}
 use native.Mathlib.Omega.{arith}
 use lib.ListN.{length, drop, length-append}
 use lib.Dec.{leb, eqb, eqb-suc-suc}
-use borrow.Author.Tests.{eq-eqb, ne_eqb, le-leb, lt-leb, eqb-true, not-true, not-false}
+use borrow.Author.Tests.{eq-eqb, ne_eqb, le-leb, eqb-true, not-true, not-false}
 use Rattle.carts.specs.Bytes.{byte, within, all, every}
 use Rattle.carts.specs.Operation.{operation_fields}
-use Rattle.carts.proofs.TestLaws.{and_left, and_right, all_at, within_low, within_high}
-use Rattle.edit_log.specs.Log.{record_at, next_operation, next_transaction, chain, records_of, log_records, free_records, back}
+use Rattle.carts.proofs.TestLaws.{and_left, all_at, within_low, within_high}
+use Rattle.edit_log.specs.Log.{record_at, next_operation, next_transaction, chain, records_of, log_records, back}
 use Rattle.edit_log.specs.Chains.{own_form, transactions_form, free_form}
 use Rattle.edit_log.specs.Values.{is_left, met, met_each, are_left, operation_left, later_form, size_from, size_of, log_test, free_test}
-use Rattle.edit_log.proofs.BoolLaws.{never, not_so, so_not, and_of, both_ways, every_and}
+use Rattle.edit_log.proofs.BoolLaws.{not_so, so_not, and_of, both_ways, every_and}
 use Rattle.edit_log.proofs.ChainLaws.{chain_cons, chain_zero}
 
 -- one record: b is whether it is one of the 512

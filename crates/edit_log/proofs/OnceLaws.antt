@@ -1,15 +1,15 @@
 -- Every record in exactly one chain: by the marks, by what occurs in a list, and for lists that are joined.
 use Prim.Native.Nat.{ℕ, zero, suc, ◌+◌, ◌-◌, ◌<◌, ◌≤◌}
 use mathlib.Core.Path.{◌≡◌, refl, sym, ap, ◌∙◌}
-use mathlib.Core.Bool.{Bool, true, false, cond, ◌&&◌}
+use mathlib.Core.Bool.{Bool, true, ◌&&◌}
 use mathlib.Core.List.{List, [], ◌∷◌, ◌++◌}
 use native.Mathlib.Omega.{arith}
 use native.Mathlib.Decide.{ℕ_discrete}
-use lib.ListN.{length, get_or, replicate, length-set, length-replicate, get_or-replicate}
+use lib.ListN.{length, replicate, length-set, length-replicate, get_or-replicate}
 use lib.Seq.{get_or-set_same, get_or-set_other}
 use lib.Dec.{eqb}
 use borrow.Author.Tests.{eq-eqb, ne_eqb, eqb-true}
-use Rattle.carts.specs.Bytes.{byte, within, all, every, all_zero}
+use Rattle.carts.specs.Bytes.{byte, within, every, all_zero}
 use Rattle.carts.proofs.TestLaws.{and_left, and_right, all_at, all_cons, all_nil, within_low, within_high, within_of, every_at, at_every}
 use Rattle.edit_log.specs.Log.{up_from}
 use Rattle.edit_log.specs.Chains.{count, once_each}

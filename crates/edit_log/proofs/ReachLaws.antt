@@ -2,17 +2,17 @@
 use Prim.Native.Nat.{ℕ, zero, suc, ◌≤◌, ◌<◌}
 use mathlib.Core.Path.{◌≡◌, refl, sym, ap, ◌∙◌}
 use mathlib.Core.Bool.{Bool, true, ◌&&◌}
-use mathlib.Core.List.{List, [], ◌∷◌, ◌++◌, map}
+use mathlib.Core.List.{List, [], ◌∷◌, map}
 use native.Mathlib.Omega.{arith}
 use lib.ListN.{length, drop, length-append}
 use lib.Dec.{eqb}
-use borrow.Author.Tests.{eq-eqb, eqb-true}
+use borrow.Author.Tests.{eq-eqb}
 use Rattle.carts.specs.Bytes.{within, all, every}
 use Rattle.carts.specs.Operation.{operation_fields}
 use Rattle.carts.proofs.TestLaws.{and_left, and_right, all_at, all_cons, all_nil, every_map, within_low, within_high, within_of}
 use Rattle.carts.proofs.OperationLaws.{Operations, fields_cart}
 use Rattle.edit_log.specs.Log.{record_at, next_transaction, records_of, transaction_at, log_records, free_records, walk}
-use Rattle.edit_log.specs.Chains.{own_form, transactions_form, count, chains_form}
+use Rattle.edit_log.specs.Chains.{own_form, transactions_form, chains_form}
 use Rattle.edit_log.specs.Values.{usable, walkable}
 use Rattle.edit_log.proofs.BoolLaws.{and_of}
 use Rattle.edit_log.proofs.ListLaws.{every_append, every_kept}

@@ -1,27 +1,27 @@
 -- A retired transaction: its records join the end of the free chain, and every record is still in exactly one chain.
-use Prim.Native.Nat.{ℕ, zero, suc, ◌+◌, ◌-◌, ◌<◌, ◌≤◌}
+use Prim.Native.Nat.{ℕ, zero, suc, ◌+◌, ◌-◌, ◌≤◌}
 use mathlib.Core.Path.{◌≡◌, refl, sym, ap, ◌∙◌}
 use mathlib.Core.Logic.{◌≢◌}
-use mathlib.Core.Bool.{Bool, true, false, cond, ◌&&◌}
-use mathlib.Core.List.{List, [], ◌∷◌, ◌++◌, map, append_assoc, append-nil}
+use mathlib.Core.Bool.{true, cond, ◌&&◌}
+use mathlib.Core.List.{List, [], ◌∷◌, ◌++◌, map}
 use native.Mathlib.Omega.{arith}
 use native.Mathlib.Decide.{ℕ_discrete}
-use lib.ListN.{length, drop, replicate, length-append, length-replicate}
+use lib.ListN.{length, replicate, length-append, length-replicate}
 use lib.Dec.{eqb}
 use borrow.Author.Tests.{eq-eqb, ne_eqb}
 use Rattle.carts.specs.Bytes.{zeros, within, every}
 use Rattle.carts.specs.Operation.{operation_fields}
 use Rattle.carts.proofs.TestLaws.{and_left, and_right}
 use Rattle.carts.proofs.ZeroLaws.{length_zeros}
-use Rattle.edit_log.specs.Log.{record_at, with_record, next_operation, next_transaction, records_of, front, handed_in, transactions_from, log_records, free_records, back}
+use Rattle.edit_log.specs.Log.{record_at, next_operation, next_transaction, records_of, front, handed_in, transactions_from, log_records, free_records, back}
 use Rattle.edit_log.specs.Writes.{write_all, extended, released}
 use Rattle.edit_log.specs.Chains.{free_form, count, chains_form}
 use Rattle.edit_log.proofs.BoolLaws.{and_of}
 use Rattle.edit_log.proofs.LinkLaws.{linked_to, length_linked, linked_next, linked_free, zero_free}
-use Rattle.edit_log.proofs.ListLaws.{Linked, linked_kept, front_chain, every_kept, every_append, count_more, front_append, back_append, back_some}
-use Rattle.edit_log.proofs.OnceLaws.{Once, count_nil, count_append, count_here, every_in}
-use Rattle.edit_log.proofs.WriteLaws.{Sizes, Distinct, Written, Wrote, wrote, written_linked, length_record, length_written, record_same, record_other}
-use Rattle.edit_log.proofs.HoldLaws.{joined, Standing, Stand, Holds, transactions, length_transactions, joined_transactions, holds_of, used_is, oldest_is, first_is, last_is, log_lists, free_lists, of_holds, texts, shown_transactions, shown_kept, shown_lists}
+use Rattle.edit_log.proofs.ListLaws.{Linked, linked_kept, front_chain, every_kept, every_append, count_more, back_append, back_some}
+use Rattle.edit_log.proofs.OnceLaws.{count_nil, count_append, count_here}
+use Rattle.edit_log.proofs.WriteLaws.{Sizes, Distinct, Written, Wrote, wrote, written_linked, length_record, record_same, record_other}
+use Rattle.edit_log.proofs.HoldLaws.{joined, Standing, Stand, Holds, transactions, length_transactions, joined_transactions, holds_of, used_is, first_is, last_is, log_lists, free_lists, of_holds, texts, shown_transactions, shown_kept, shown_lists}
 use Rattle.edit_log.proofs.AppendLaws.{Grown, once_in, once_most, drop_count, front_count, standing_kept, by_next, by_link}
 
 -- transactions in a log that has the same records there

@@ -1,16 +1,16 @@
 -- A log keeps its length when a commit and a retire write to it.
-use Prim.Native.Nat.{ℕ, zero, suc, ◌+◌, ◌-◌, ◌≤◌, ◌<◌}
-use mathlib.Core.Path.{◌≡◌, refl, sym, ap, ◌∙◌}
+use Prim.Native.Nat.{ℕ, suc, ◌+◌, ◌≤◌}
+use mathlib.Core.Path.{◌≡◌, refl, sym}
 use mathlib.Core.Bool.{Bool, true, false, cond}
 use mathlib.Core.List.{List}
 use native.Mathlib.Omega.{arith}
 use lib.ListN.{length, replicate, length-replicate}
 use lib.Dec.{eqb}
-use borrow.Author.Tests.{eqb-true, eqb-false}
+use borrow.Author.Tests.{eqb-false}
 use Rattle.carts.specs.Bytes.{zeros}
-use Rattle.edit_log.specs.Log.{record_at, chain, records_of, walk, front}
+use Rattle.edit_log.specs.Log.{record_at, chain, records_of}
 use Rattle.edit_log.specs.Chains.{chains_form}
-use Rattle.edit_log.specs.Writes.{write_all, linked, extended, appended, released}
+use Rattle.edit_log.specs.Writes.{write_all, extended, appended, released}
 use Rattle.edit_log.specs.Values.{Takeable, Ending}
 use Rattle.edit_log.proofs.LinkLaws.{linked_to, length_linked}
 use Rattle.edit_log.proofs.WriteLaws.{Givens, given_sizes, wrote, length_record, length_written, joined_size}

@@ -1,8 +1,8 @@
 -- The front of the free chain, written record by record while the chain is followed.
-use Prim.Native.Nat.{ℕ, zero, suc, ◌+◌, ◌-◌, ◌*◌, ◌/◌, ◌<◌, ◌≤◌}
+use Prim.Native.Nat.{ℕ, zero, suc, ◌+◌, ◌-◌, ◌*◌, ◌<◌, ◌≤◌}
 use mathlib.Core.Path.{◌≡◌, refl, sym, ap, ◌∙◌}
 use mathlib.Core.Logic.{◌≢◌}
-use mathlib.Core.Bool.{Bool, true, false, ◌&&◌}
+use mathlib.Core.Bool.{Bool, true, false}
 use mathlib.Core.List.{List, [], ◌∷◌}
 use native.Mathlib.Omega.{arith}
 use native.Mathlib.Nat.{add-sub_cancel_left}
@@ -19,7 +19,7 @@ use Rattle.edit_log.specs.Values.{Takeable}
 use Rattle.edit_log.proofs.ChainLaws.{chain_cons, chain_zero}
 use Rattle.edit_log.proofs.ListLaws.{count_more, front_chain}
 use Rattle.edit_log.proofs.OnceLaws.{count_here, every_in}
-use Rattle.edit_log.proofs.WriteLaws.{length_written, record_other}
+use Rattle.edit_log.proofs.WriteLaws.{record_other}
 use Rattle.edit_log.proofs.AppendLaws.{by_next}
 use Rattle.edit_log.proofs.LinkLaws.{linked_to, length_linked}
 

@@ -7,7 +7,7 @@ use native.Mathlib.Omega.{arith}
 use borrow.Author.Tests.{eq-eqb}
 use lib.Dec.{eqb}
 use lib.ListN.{length, take, drop, get_or, length-map}
-use Rattle.carts.specs.Bytes.{zeros, over, u16, within, every}
+use Rattle.carts.specs.Bytes.{zeros, u16, within, every}
 use Rattle.carts.specs.Operation.{operation_form, meets, act, meets_all, act_all}
 use Rattle.carts.proofs.TestLaws.{and_left, and_right, all_at, within_low, within_high}
 use Rattle.carts.proofs.PartLaws.{take_over, drop_over_after}

@@ -1,22 +1,18 @@
 -- Records that follow one another: setup's free chain.
 use Prim.Native.Nat.{ℕ, zero, suc, ◌+◌, ◌*◌, ◌-◌, ◌<◌, ◌≤◌}
 use mathlib.Core.Path.{◌≡◌, refl, sym, ap, ◌∙◌}
-use mathlib.Core.Bool.{Bool, true, false, cond, ◌&&◌}
+use mathlib.Core.Bool.{Bool, true, ◌&&◌}
 use mathlib.Core.List.{List, [], ◌∷◌, ◌++◌}
 use native.Mathlib.Omega.{arith}
-use native.Mathlib.Nat.{add-zero}
 use native.Mathlib.Decide.{ℕ_discrete}
-use lib.ListN.{length, drop, replicate, length-append, length-replicate}
-use lib.Dec.{leb, eqb}
-use borrow.Author.Tests.{eq-eqb, eqb-true, leb-true}
-use Rattle.carts.specs.Bytes.{zeros, part, over, u16_bytes, within, all, every, pairwise}
-use Rattle.carts.proofs.TestLaws.{and_left, and_right, all_at, within_low, within_high, within_of, pairwise_eq}
+use lib.ListN.{length, replicate, length-replicate}
+use Rattle.carts.specs.Bytes.{zeros, part, over, u16_bytes, within, every}
+use Rattle.carts.proofs.TestLaws.{within_of}
 use Rattle.carts.proofs.ZeroLaws.{length_zeros, part_zeros}
-use Rattle.edit_log.specs.Log.{record_at, with_record, next_operation, next_transaction, records_of, up_from, front, log_records, free_records, back}
+use Rattle.edit_log.specs.Log.{record_at, with_record, up_from, front, back}
 use Rattle.edit_log.specs.Writes.{write_all, fresh_log}
-use Rattle.edit_log.specs.Chains.{free_form, count, chains_form}
+use Rattle.edit_log.specs.Chains.{count, chains_form}
 use Rattle.edit_log.proofs.LinkLaws.{length_linked}
-use Rattle.edit_log.proofs.ListLaws.{Linked}
 use Rattle.edit_log.proofs.OnceLaws.{Once, count_nil, count_here, count_other, up_from_every}
 use Rattle.edit_log.proofs.WriteLaws.{Distinct, Wrote, wrote, record_other, written_linked}
 use Rattle.edit_log.proofs.HoldLaws.{joined, Stand, Holds, of_holds}

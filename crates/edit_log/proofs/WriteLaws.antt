@@ -1,9 +1,9 @@
 -- Operations written to records, wherever these stand: each is linked to the next, and no other record changes.
-use Prim.Native.Nat.{ℕ, zero, suc, ◌+◌, ◌-◌, ◌*◌, ◌<◌, ◌≤◌}
+use Prim.Native.Nat.{ℕ, ◌≤◌}
 use mathlib.Core.Path.{◌≡◌, refl, sym, ap, ◌∙◌}
 use mathlib.Core.Logic.{◌≢◌}
-use mathlib.Core.Bool.{Bool, true, false, ◌&&◌}
-use mathlib.Core.List.{List, [], ◌∷◌, ◌++◌, map}
+use mathlib.Core.Bool.{true}
+use mathlib.Core.List.{List, [], ◌∷◌, map}
 use native.Mathlib.Omega.{arith}
 use lib.ListN.{length}
 use lib.Dec.{eqb}
@@ -18,7 +18,7 @@ use Rattle.edit_log.specs.Writes.{write_all, linked}
 use Rattle.edit_log.specs.Chains.{count}
 use Rattle.edit_log.proofs.BoolLaws.{and_of}
 use Rattle.edit_log.proofs.LinkLaws.{linked_to, followed_by, length_linked, linked_next, linked_fields, linked_last, length_followed, followed_next, followed_last, followed_fields, linked_handed, followed_handed}
-use Rattle.edit_log.proofs.OnceLaws.{count_nil, count_here, count_other}
+use Rattle.edit_log.proofs.OnceLaws.{count_here}
 use Rattle.edit_log.proofs.ListLaws.{Linked, count_more}
 
 -- one record written

@@ -1,5 +1,4 @@
 use Rattle.carts.proofs.LetterLaws.{SameTo, same_next, letter_differs, letters_whole}
-use borrow.Author.Tests.{not-true, not-false}
 use lib.ListN.{length}
 use mathlib.Core.Path.{sym, ◌∙◌}
 use Prim.Native.Nat.{◌≤◌, ◌-◌}

@@ -1,5 +1,4 @@
 use Rattle.carts.proofs.LetterLaws.{cart_compared, cart_other}
-use borrow.Author.Tests.{not-true, not-false}
 use lib.Dec.{eqb}
 use lib.ListN.{length}
 use mathlib.Core.Bool.{◌&&◌}

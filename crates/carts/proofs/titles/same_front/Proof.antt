@@ -1,6 +1,5 @@
 use Rattle.carts.proofs.LetterLaws.{SameTo, same_more}
 use Rattle.carts.proofs.PartLaws.{length_part}
-use borrow.Author.Tests.{not-false}
 use Rattle.carts.specs.Bytes.{pairwise}
 use lib.ListN.{length}
 use mathlib.Core.Path.{refl, sym, ◌∙◌}

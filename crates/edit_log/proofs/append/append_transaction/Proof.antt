@@ -1,6 +1,5 @@
 use Rattle.edit_log.proofs.CommitLaws.{before_last, append_first, append_later}
 use native.Mathlib.Omega.{arith}
-use mathlib.Core.Path.{◌≡◌, refl, sym, ap, ◌∙◌}
 use borrow.Author.Rules.{rules}
 use Rattle.edit_log.proofs.append.append_transaction.Statement.{statement}
 use Rattle.edit_log.proofs.append.append_transaction.Tie as tie

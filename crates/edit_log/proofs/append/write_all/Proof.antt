@@ -8,7 +8,7 @@ use Rattle.carts.specs.Operation.{operations_of}
 use lib.ListN.{length, take, drop}
 use native.Mathlib.Omega.{arith}
 use native.Mathlib.Nat.{sub-zero, add-sub_cancel_left}
-use Prim.Native.Nat.{ℕ, ◌≤◌, ◌<◌, ◌+◌, ◌-◌, ◌*◌, ◌/◌}
+use Prim.Native.Nat.{◌≤◌, ◌+◌, ◌-◌, ◌*◌, ◌/◌}
 use mathlib.Core.Path.{◌≡◌, refl, sym, ap, ◌∙◌}
 use Rattle.edit_log.proofs.append.write_all.Statement.{statement}
 use Rattle.edit_log.proofs.append.write_all.Tie as tie

@@ -1,8 +1,6 @@
 use mathlib.Core.Bool.{not}
 use Rattle.edit_log.proofs.WholeLaws.{chains_many, chains_log, chains_free, chains_is}
-use borrow.Author.Tests.{not-false}
-use native.Mathlib.Omega.{arith}
-use mathlib.Core.Path.{◌≡◌, refl, sym, ap, ◌∙◌}
+use mathlib.Core.Path.{ap, ◌∙◌}
 use borrow.Author.Rules.{rules}
 use Rattle.edit_log.proofs.chain.are_chains.Statement.{statement}
 use Rattle.edit_log.proofs.chain.are_chains.Tie as tie

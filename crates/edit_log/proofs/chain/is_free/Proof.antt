@@ -1,7 +1,5 @@
-use native.Mathlib.Nat.{sub-zero}
-use mathlib.Core.Path.{◌≡◌, refl, sym, ap, ◌∙◌}
 use mathlib.Core.Bool.{and-true}
-use Rattle.carts.specs.Bytes.{all, all_zero, part}
+use Rattle.carts.specs.Bytes.{all}
 use Rattle.edit_log.specs.Chains.{free_form}
 use borrow.Author.Rules.{rules}
 use Rattle.edit_log.proofs.chain.is_free.Statement.{statement}

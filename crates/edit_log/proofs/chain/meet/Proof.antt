@@ -1,5 +1,5 @@
 use mathlib.Core.Bool.{not}
-use mathlib.Core.Path.{ap, ◌≡◌, refl}
+use mathlib.Core.Path.{ap, refl}
 use native.Mathlib.Omega.{arith}
 use Rattle.edit_log.specs.Values.{met}
 use Rattle.edit_log.proofs.BoolLaws.{never}

@@ -8,8 +8,8 @@ use Rattle.edit_log.specs.declared.record.Record.{Record}
 use borrow.Author.Tests.{not-false}
 use lib.ListN.{length}
 use native.Mathlib.Omega.{arith}
-use Prim.Native.Nat.{ℕ, ◌≤◌, ◌<◌, ◌+◌, ◌-◌}
-use mathlib.Core.Path.{◌≡◌, refl, sym, ap, ◌∙◌}
+use Prim.Native.Nat.{◌≤◌, ◌+◌, ◌-◌}
+use mathlib.Core.Path.{◌≡◌, sym, ap, ◌∙◌}
 use Rattle.edit_log.proofs.chain.meet_free.Statement.{statement}
 use Rattle.edit_log.proofs.chain.meet_free.Tie as tie
 

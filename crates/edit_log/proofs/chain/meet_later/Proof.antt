@@ -3,10 +3,9 @@ use Rattle.edit_log.proofs.MeetLaws.{operation_in, size_end, size_full, size_out
 use Rattle.edit_log.specs.Values.{met_each, size_from}
 use Rattle.edit_log.specs.Log.{chain}
 use Rattle.edit_log.specs.declared.record.Record.{Record}
-use borrow.Author.Tests.{not-false}
 use lib.ListN.{length}
 use native.Mathlib.Omega.{arith}
-use Prim.Native.Nat.{ℕ, ◌≤◌, ◌<◌, ◌+◌, ◌-◌}
+use Prim.Native.Nat.{◌≤◌, ◌-◌}
 use mathlib.Core.Path.{◌≡◌, refl, sym, ap, ◌∙◌}
 use Rattle.edit_log.proofs.chain.meet_later.Statement.{statement}
 use Rattle.edit_log.proofs.chain.meet_later.Tie as tie

@@ -3,10 +3,8 @@ use Rattle.edit_log.proofs.BoolLaws.{never}
 use Rattle.edit_log.specs.Values.{met_each, log_test}
 use Rattle.edit_log.specs.Log.{log_records}
 use Rattle.edit_log.specs.declared.record.Record.{Record}
-use borrow.Author.Tests.{not-false}
 use lib.ListN.{length}
 use native.Mathlib.Omega.{arith}
-use Prim.Native.Nat.{ℕ, ◌≤◌, ◌<◌, ◌+◌, ◌-◌}
 use mathlib.Core.Path.{◌≡◌, refl, sym, ap, ◌∙◌}
 use Rattle.edit_log.proofs.chain.meet_log.Statement.{statement}
 use Rattle.edit_log.proofs.chain.meet_log.Tie as tie

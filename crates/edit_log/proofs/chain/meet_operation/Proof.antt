@@ -1,6 +1,5 @@
 use mathlib.Core.Bool.{not}
-use mathlib.Core.Path.{◌≡◌, refl, sym, ap, ◌∙◌}
-use borrow.Author.Tests.{not-false}
+use mathlib.Core.Path.{sym, ap, ◌∙◌}
 use Rattle.carts.specs.Operation.{operation_fields}
 use Rattle.edit_log.proofs.BoolLaws.{never}
 use Rattle.edit_log.proofs.MeetLaws.{left_in, operation_out, operation_is}

@@ -2,10 +2,8 @@ use mathlib.Core.Bool.{not}
 use Rattle.edit_log.proofs.MeetLaws.{operation_in, size_of_out, size_of_is, met_of}
 use Rattle.edit_log.specs.declared.record.Record.{Record}
 use borrow.Author.Tests.{not-false}
-use lib.ListN.{length}
 use native.Mathlib.Omega.{arith}
-use Prim.Native.Nat.{ℕ, ◌≤◌, ◌<◌, ◌+◌, ◌-◌}
-use mathlib.Core.Path.{◌≡◌, refl, sym, ap, ◌∙◌}
+use mathlib.Core.Path.{sym, ap, ◌∙◌}
 use borrow.Author.Rules.{rules}
 use Rattle.edit_log.proofs.chain.meet_transaction.Statement.{statement}
 use Rattle.edit_log.proofs.chain.meet_transaction.Tie as tie

@@ -5,7 +5,7 @@ use Rattle.edit_log.specs.Log.{back, records_of}
 use Rattle.edit_log.specs.Writes.{write_all}
 use lib.ListN.{length}
 use native.Mathlib.Omega.{arith}
-use Prim.Native.Nat.{ℕ, ◌+◌, ◌≤◌, ◌<◌}
+use Prim.Native.Nat.{◌+◌, ◌≤◌}
 use mathlib.Core.Path.{◌≡◌, refl, sym, ap, ◌∙◌}
 use Rattle.edit_log.proofs.free.free_all.Statement.{statement}
 use Rattle.edit_log.proofs.free.free_all.Tie as tie

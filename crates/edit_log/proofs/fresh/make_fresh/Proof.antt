@@ -4,8 +4,8 @@ use Rattle.edit_log.specs.Writes.{fresh_log}
 use Rattle.carts.specs.Bytes.{zeros}
 use lib.ListN.{length}
 use native.Mathlib.Omega.{arith}
-use Prim.Native.Nat.{ℕ, ◌≤◌, ◌<◌, ◌+◌, ◌-◌}
-use mathlib.Core.Path.{◌≡◌, refl, sym, ap, ◌∙◌}
+use Prim.Native.Nat.{◌≤◌, ◌-◌}
+use mathlib.Core.Path.{◌≡◌, sym, ap, ◌∙◌}
 use Rattle.edit_log.proofs.fresh.make_fresh.Statement.{statement}
 use Rattle.edit_log.proofs.fresh.make_fresh.Tie as tie
 

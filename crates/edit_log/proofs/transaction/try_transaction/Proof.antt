@@ -1,14 +1,13 @@
 -- The loop follows the chain; what is still to act is `chain left log r`.
 use mathlib.Core.Path.{◌≡◌, refl, sym, ap, ◌∙◌}
 use mathlib.Core.Bool.{Bool, true, ◌&&◌}
-use mathlib.Core.List.{List, map}
-use Prim.Native.Nat.{ℕ, ◌-◌}
+use mathlib.Core.List.{map}
 use native.Mathlib.Omega.{arith}
 use lib.ListN.{length}
 use Rattle.carts.specs.Bytes.{every}
 use Rattle.carts.specs.Operation.{meets, act, meets_all, act_all}
 use Rattle.carts.proofs.ScanLaws.{test_more, test_end}
-use Rattle.edit_log.specs.Log.{record_at, next_operation, chain, records_of, transaction_at}
+use Rattle.edit_log.specs.Log.{record_at, chain, records_of, transaction_at}
 use Rattle.edit_log.specs.Values.{usable}
 use Rattle.edit_log.specs.declared.record.Record.{Record}
 use Rattle.edit_log.proofs.TransactionLaws.{Usable, usable_here, usable_later, acts, acts_ends, acts_stops, met_then, met_ends, met_stops}

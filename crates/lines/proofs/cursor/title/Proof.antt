@@ -2,7 +2,7 @@ use mathlib.Core.Bool.{not}
 use Rattle.lines.specs.Cursor.{title_from, title_at}
 use mathlib.Core.Path.{ap, ◌≡◌, sym, ◌∙◌}
 use Rattle.lines.proofs.CursorLaws.{no_title_law}
-use borrow.Author.Tests.{le-leb, lt-leb, le-ltb, lt-ltb, eq-eqb, ne_eqb, not-false}
+use borrow.Author.Tests.{le-leb, lt-leb, le-ltb, lt-ltb, eq-eqb, ne_eqb}
 use lib.ListN.{get_or-eq_default}
 use Prim.Native.Nat.{ℕ, ◌+◌}
 use Rattle.lines.specs.declared.cursor.Mistake.TheVariants.{TitleMissing, TitleOpen, TitleEmpty, TitleTooLong, TitleUnprintable}

@@ -1,5 +1,4 @@
 use Rattle.lines.proofs.TextLaws.{run_more, run_stops, run_ends}
-use borrow.Author.Tests.{not-true, not-false}
 use Rattle.lines.specs.Text.{run_end}
 use lib.ListN.{length}
 use mathlib.Core.Path.{◌≡◌, refl, sym, ◌∙◌}

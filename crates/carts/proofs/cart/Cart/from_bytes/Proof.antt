@@ -21,12 +21,12 @@ u32-at-requires-2 c κs = search rules
 returns : tie.Need-returns
 unfolding cart_fields
 returns c = rw (
-      c.u32_at-2.ensures,
-      c.u32_at.ensures,
-      c.u16_at.ensures.0,
-      c.byte_at.ensures.0,
-      c.is_held.ensures,
-    )
+  c.u32_at-2.ensures,
+  c.u32_at.ensures,
+  c.u16_at.ensures.0,
+  c.byte_at.ensures.0,
+  c.is_held.ensures,
+)
 
 pub from_bytes_spec : {M : Type 1} → statement M
 from_bytes_spec =
