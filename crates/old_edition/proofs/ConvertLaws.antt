@@ -1,6 +1,6 @@
 -- Laws of the two conversions: what stops them, and what they leave.
 use Prim.Native.Nat.{ℕ, ◌≤◌}
-use mathlib.Core.Path.{◌≡◌, refl, sym, ap, ◌∙◌}
+use mathlib.Core.Path.{◌≡◌, sym, ap, ◌∙◌}
 use mathlib.Core.Bool.{Bool, true, false, not, ◌&&◌, and-true}
 use mathlib.Core.List.{List, [], ◌∷◌, ◌++◌, append-nil}
 use native.Mathlib.Omega.{arith}
@@ -14,7 +14,7 @@ use Rattle.carts.specs.Rows.{Row, row, stopped, unless}
 use Rattle.carts.proofs.TestLaws.{all_at, all_fails, all_nil, all_cons}
 use Rattle.carts.proofs.RowLaws.{row_stops, row_passes, passed, unless_stopped, unless_accepted}
 use Rattle.old_edition.specs.OldFile.{mark, old_cart_form, file_form}
-use Rattle.old_edition.specs.Convert.{After, after, refused, written, refusal, each_cart, widened, narrowed, copy_of, file_of, long_title, from_old_rows, to_old_rows, from_old, to_old}
+use Rattle.old_edition.specs.Convert.{After, after, refused, refusal, each_cart, widened, copy_of, long_title, from_old_rows, to_old_rows}
 
 -- row 22: one of its tests fails, or all of them pass
 pub form_fails : (n : ℕ) (bs : List Bool) (rs : List Row) → get_or bs n true ≡ false → 22 ≡ stopped (row 22 (not (all bs)) ∷ rs)

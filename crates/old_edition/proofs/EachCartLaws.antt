@@ -6,8 +6,8 @@ use mathlib.Core.List.{List, [], ◌∷◌, ◌++◌, append_assoc, append-nil}
 use native.Mathlib.Omega.{arith}
 use native.Mathlib.Nat.{mul-suc, mul-zero}
 use native.Mathlib.Numerals.{add-one}
-use lib.ListN.{length, take, drop, get_or, length-append, length-take, length-drop, take-append-drop}
-use lib.Seq.{take_all, take_at, drop_at, drop-drop, length-take-le}
+use lib.ListN.{length, take, drop, get_or, length-append, length-drop, take-append-drop}
+use lib.Seq.{take_all, take_at, drop_at, length-take-le}
 use Rattle.carts.specs.Bytes.{part, over, any}
 use Rattle.carts.proofs.TestLaws.{any_at}
 use Rattle.carts.proofs.EachLaws.{next_part}

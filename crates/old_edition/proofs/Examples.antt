@@ -8,7 +8,7 @@ use Rattle.carts.specs.Cart.{printable, title_form, has_title, has_audio, held, 
 use Rattle.carts.specs.Rows.{stopped, unless}
 use Rattle.carts.proofs.Samples.{u32_bytes, operation, new_cart, news}
 use Rattle.old_edition.specs.OldFile.{mark, has_old_title, old_held_form, old_cart_form, file_form}
-use Rattle.old_edition.specs.Convert.{Answer, refused, written, widened, narrowed, each_cart, copy_of, file_of, long_title, from_old_rows, to_old_rows, refusal, from_old, to_old}
+use Rattle.old_edition.specs.Convert.{Answer, refused, widened, narrowed, each_cart, copy_of, file_of, long_title, from_old_rows, to_old_rows, refusal, from_old, to_old}
 
 -- cart 1, "News"; cart 2, a title of so many letters, the first and the last of them a space
 unfoldable pub first : List ℕ

@@ -1,14 +1,14 @@
 -- WORKED EXAMPLES of the definitions, by computation: the rows of each call in their order, requests, sessions, counts.
 use mathlib.Core.Path.{◌≡◌, refl}
-use mathlib.Core.Bool.{Bool, true, false, ◌&&◌}
+use mathlib.Core.Bool.{true, false}
 use mathlib.Core.List.{List, [], ◌∷◌, ◌++◌}
 use Prim.Native.Nat.{ℕ}
 use lib.ListN.{set, replicate}
-use Rattle.carts.specs.Bytes.{zeros, u16, u32, u16_bytes, u16s, within, all, every, any, all_zero, pairwise, parts}
+use Rattle.carts.specs.Bytes.{zeros, u16, u32, u16_bytes, u16s, within, all, every, any, all_zero, parts}
 use Rattle.carts.specs.Cart.{cart_at, printable, title_form, has_title, no_title, has_audio, no_audio, held}
 use Rattle.carts.specs.Operation.{operation_fields, operation_form, spaced, operations_of, made, meets_cart, effect, acted_on, meets, act, meets_all, act_all}
 use Rattle.carts.specs.Transaction.{met_from}
-use Rattle.carts.proofs.Samples.{u32_bytes, operation, new_cart, withdraw_cart, top_hour_a, news, long_title}
+use Rattle.carts.proofs.Samples.{u32_bytes, operation, new_cart, top_hour_a, news, long_title}
 use Rattle.replication.specs.Memory.{session_at, with_session, sequence_of, with_sequence, studio_of}
 use Rattle.edit_log.specs.Log.{up_from}
 use Rattle.replication.specs.Log.{log_count, no_room}

@@ -1,21 +1,19 @@
 -- Laws of the layout: the parts that the code lends, and the whole test from its parts.
-use Prim.Native.Nat.{ℕ, ◌+◌, ◌-◌, ◌*◌, ◌≤◌}
-use mathlib.Core.Path.{◌≡◌, refl, sym, ap, ◌∙◌}
+use Prim.Native.Nat.{ℕ, ◌-◌, ◌≤◌}
+use mathlib.Core.Path.{◌≡◌, sym, ◌∙◌}
 use mathlib.Core.Bool.{Bool, true, false, and-true}
 use mathlib.Core.List.{List, [], ◌∷◌}
-use native.Mathlib.Nat.{add-sub_cancel_left}
 use native.Mathlib.Omega.{arith}
 use lib.ListN.{length, take, drop, get_or, length-drop}
 use lib.Seq.{take_all}
 use lib.Dec.{leb}
-use Rattle.carts.specs.Bytes.{part, within, all, every, each_part}
-use Rattle.carts.proofs.PartLaws.{length_part}
+use Rattle.carts.specs.Bytes.{within, all, every, each_part}
 use Rattle.replication.specs.Memory.{Memory, copy_at}
 use Rattle.edit_log.specs.Chains.{chains_form}
 use Rattle.replication.specs.Log.{log_count}
 use Rattle.replication.specs.Layout.{replica_form, sixth_form, session_form, counts_form, layout_tests, of_layout}
 use Rattle.carts.proofs.TestLaws.{and_left, within_low, all_fails}
-use Rattle.replication.proofs.Formed.{Counts, counts_of}
+use Rattle.replication.proofs.Formed.{counts_of}
 use Rattle.replication.specs.declared.control.Control.{Control}
 pub use Rattle.carts.proofs.EachLaws.{lent, length_lent}
 

@@ -9,7 +9,7 @@ use lib.Dec.{eqb}
 use lib.ListN.{take}
 use lib.Seq.{take_all}
 use borrow.Author.Tests.{not-false}
-use Rattle.carts.specs.Bytes.{all, every, pairwise}
+use Rattle.carts.specs.Bytes.{every, pairwise}
 use Rattle.carts.specs.Transaction.{Transaction, replay, LFrom, met_from}
 use Rattle.carts.proofs.TestLaws.{and_left, and_right, and_both, same_truth, all_at, all_cons, all_nil, pairwise_eq, pairwise_refl}
 use Rattle.replication.specs.Memory.{Memory, copy_at, nth}

@@ -1,22 +1,21 @@
 -- The log of a system of the layout, by control: its transactions, and the log after a commit and after a retire.
 use Prim.Native.Nat.{ℕ, suc, ◌+◌, ◌-◌, ◌≤◌, ◌<◌}
 use mathlib.Core.Path.{◌≡◌, refl, sym, ap, ◌∙◌}
-use mathlib.Core.Bool.{true, cond}
+use mathlib.Core.Bool.{true}
 use mathlib.Core.List.{List, [], ◌∷◌, ◌++◌, map}
 use native.Mathlib.Omega.{arith}
 use lib.ListN.{length}
-use lib.Dec.{eqb}
 use Rattle.carts.specs.Bytes.{within, every}
 use Rattle.carts.specs.Transaction.{Transaction}
 use Rattle.carts.proofs.OperationLaws.{Operations}
-use Rattle.edit_log.specs.Log.{records_of, transaction_at, handed_in, transactions_from, log_records, next_transaction, walk, follow, front, back}
+use Rattle.edit_log.specs.Log.{records_of, transaction_at, handed_in, transactions_from, log_records, next_transaction, walk, follow}
 use Rattle.edit_log.specs.Chains.{chains_form}
 use Rattle.edit_log.specs.Writes.{appended, released}
-use Rattle.edit_log.specs.Values.{usable, walkable, Takeable, Ending}
+use Rattle.edit_log.specs.Values.{usable, walkable}
 use Rattle.edit_log.proofs.ReachLaws as Reach
 use Rattle.edit_log.proofs.AppendLaws.{append_texts}
 use Rattle.edit_log.proofs.RetireLaws.{retire_kept, retire_texts}
-use Rattle.edit_log.proofs.CommitLaws.{free_takeable, commit_kept}
+use Rattle.edit_log.proofs.CommitLaws.{commit_kept}
 use Rattle.edit_log.proofs.WriteLaws.{Givens}
 use Rattle.edit_log.proofs.SizeLaws.{length_appended, length_released}
 use Rattle.replication.specs.Memory.{Memory}

@@ -1,6 +1,6 @@
 -- Sample requests for worked examples and tables. No part of the specification.
 use mathlib.Core.List.{List, [], ◌∷◌, ◌++◌}
-use Prim.Native.Nat.{ℕ, ◌+◌}
+use Prim.Native.Nat.{ℕ}
 use lib.ListN.{length, take}
 use Rattle.carts.specs.Bytes.{zeros}
 

@@ -1,5 +1,5 @@
 -- Document 01, "Of this layout", with document 02's S-9: a test of control and the three memories, for any bytes and any control.
-use Rattle.std.specs.Prelude.{Bool, cond, List, [], ◌∷◌, ℕ, ◌+◌, ◌*◌, ◌-◌, leb, eqb}
+use Rattle.std.specs.Prelude.{Bool, cond, List, [], ◌∷◌, ℕ, ◌+◌, ◌-◌, leb, eqb}
 use Rattle.carts.specs.Bytes.{part, byte, within, all, every, all_zero, each_part}
 use Rattle.carts.specs.Cart.{title_size, number_at, title_at, copy_size, copy_form}
 use Rattle.replication.specs.Memory.{Memory, copy_count, sixth, most_commits, session_size, session_count, studio_count, window, copy_at, sequence_of, nth, studio_of}

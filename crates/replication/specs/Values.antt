@@ -1,5 +1,5 @@
 -- What the code's parts give, by the definitions: a session's value; what a reading call goes by; what load compares on its walk.
-use Rattle.std.specs.Prelude.{Bool, true, false, cond, ◌&&◌, List, [], ◌∷◌, ℕ, zero, suc, ◌+◌, ◌*◌, length, leb, eqb}
+use Rattle.std.specs.Prelude.{Bool, true, false, cond, ◌&&◌, List, ℕ, zero, suc, ◌+◌, ◌*◌, leb, eqb}
 use Rattle.carts.specs.Bytes.{byte, every, pairwise}
 use Rattle.carts.specs.Cart.{cart_size}
 use Rattle.carts.specs.Operation.{meets_all, act_all}

@@ -1,6 +1,5 @@
 use Rattle.carts.specs.Bytes.{within}
 use Rattle.carts_c.proofs.SearchLaws.{lengths_fit, wrong_length, searched}
-use borrow.Author.Tests.{not-true, not-false}
 use borrow.Author.Rules.{rules}
 use Rattle.carts_c.proofs.carts_search.Statement.{statement}
 use Rattle.carts_c.proofs.carts_search.Tie as tie

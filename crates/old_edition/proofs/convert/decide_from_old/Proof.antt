@@ -1,6 +1,6 @@
 use Rattle.old_edition.proofs.ConvertLaws.{form_fails, passes_from}
 use Rattle.old_edition.specs.Convert.{from_old_rows}
-use borrow.Author.Tests.{ne_eqb, not-true, not-false}
+use borrow.Author.Tests.{ne_eqb}
 use mathlib.Core.Path.{sym, ◌∙◌}
 use native.Mathlib.Omega.{arith}
 use borrow.Author.Rules.{rules}

@@ -3,7 +3,7 @@ use Rattle.carts.proofs.RowLaws.{row_stops, row_passes}
 use Rattle.carts.specs.Bytes.{any, parts}
 use Rattle.carts.specs.Rows.{row, stopped}
 use Rattle.old_edition.specs.Convert.{long_title, to_old_rows}
-use borrow.Author.Tests.{ne_eqb, not-true, not-false}
+use borrow.Author.Tests.{ne_eqb}
 use mathlib.Core.List.{[], ◌∷◌}
 use mathlib.Core.Path.{◌≡◌, sym, ◌∙◌}
 use native.Mathlib.Omega.{arith}

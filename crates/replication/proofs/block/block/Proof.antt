@@ -33,9 +33,9 @@ same-length-3 c = search rules
 
 returns-2 : tie.Need-returns
 returns-2 c = let g = c.args in (
-      λ log. block_answers g.control (memory g.library.now log g.sessions.now) g.session _ c.at-due.ensures.0 _ _ g.output.now c.if-due.false _ c.source-source.ensures.0 _ (c.answer_from.ensures g.control log),
-      λ n w. absurd (source_answers _ _ g.control (memory g.library.now g.library.now g.sessions.now) _ _ _ _ _ _ (c.answer_from.ensures g.control g.library.now) n w),
-    )
+  λ log. block_answers g.control (memory g.library.now log g.sessions.now) g.session _ c.at-due.ensures.0 _ _ g.output.now c.if-due.false _ c.source-source.ensures.0 _ (c.answer_from.ensures g.control log),
+  λ n w. absurd (source_answers _ _ g.control (memory g.library.now g.library.now g.sessions.now) _ _ _ _ _ _ (c.answer_from.ensures g.control g.library.now) n w),
+)
 
 pub block_spec : {M : Type 1} → statement M
 block_spec =

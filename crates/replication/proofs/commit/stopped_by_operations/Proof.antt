@@ -3,7 +3,6 @@ use mathlib.Core.Bool.{true, false}
 use Prim.Native.Nat.{◌≤◌, ◌/◌}
 use native.Mathlib.Omega.{arith}
 use lib.ListN.{length}
-use borrow.Author.Tests.{not-true, not-false}
 use Rattle.carts.specs.Bytes.{every, any}
 use Rattle.carts.specs.Operation.{operation_form, spaced, operations_of}
 use Rattle.replication.specs.Rows.{size_form}

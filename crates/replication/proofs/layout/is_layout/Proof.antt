@@ -2,7 +2,7 @@ use mathlib.Core.Path.{◌≡◌, sym, ap, ◌∙◌}
 use Prim.Native.Nat.{ℕ}
 use Rattle.edit_log.specs.Chains.{chains_form}
 use Rattle.replication.specs.Log.{log_count}
-use borrow.Author.Tests.{not-true, not-false, le-leb, lt-leb}
+use borrow.Author.Tests.{le-leb, lt-leb}
 use Rattle.replication.specs.Memory.{copy_at}
 use Rattle.replication.specs.Layout.{sixth_form, layout_tests}
 use Rattle.replication.proofs.LayoutLaws.{layout_fails, layout_last, retired_first}

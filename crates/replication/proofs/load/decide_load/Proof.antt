@@ -5,7 +5,6 @@ use Prim.Native.Nat.{ℕ}
 use lib.ListN.{length}
 use native.Mathlib.Omega.{arith}
 use borrow.Author.Rules.{rules}
-use borrow.Author.Tests.{not-true, not-false}
 use Rattle.replication.specs.Memory.{memory, copy_at}
 use Rattle.replication.specs.Log.{log_count}
 use Rattle.replication.specs.Values.{are_level, whole_from}

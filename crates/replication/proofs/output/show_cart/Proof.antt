@@ -1,7 +1,6 @@
 use mathlib.Core.Path.{◌≡◌, sym, ap, ◌∙◌}
 use mathlib.Core.Bool.{Bool, cond}
 use Prim.Native.Nat.{ℕ}
-use borrow.Author.Tests.{not-true, not-false}
 use Rattle.carts.specs.Cart.{cart_at, held}
 use borrow.Author.Rules.{rules}
 use Rattle.replication.proofs.output.show_cart.Statement.{statement}

@@ -1,9 +1,8 @@
 use mathlib.Core.Path.{◌≡◌, sym, ap, ◌∙◌}
 use Prim.Native.Nat.{ℕ, ◌≤◌}
 use lib.ListN.{length}
-use borrow.Author.Tests.{not-true, not-false}
 use Rattle.replication.specs.Memory.{memory, session_at}
-use Rattle.replication.specs.Request.{request_of, is_waiting, needed}
+use Rattle.replication.specs.Request.{request_of, is_waiting}
 use Rattle.replication.specs.Rows.{stopped, request_rows, read_rows, read_stop}
 use Rattle.replication.specs.Values.{session_value}
 use Rattle.replication.proofs.RowLaws.{session_numbered}

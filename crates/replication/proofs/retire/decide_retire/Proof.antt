@@ -1,7 +1,6 @@
-use mathlib.Core.Path.{◌≡◌, sym, ◌∙◌}
+use mathlib.Core.Path.{sym, ◌∙◌}
 use native.Mathlib.Omega.{arith}
 use borrow.Author.Rules.{rules}
-use borrow.Author.Tests.{not-true, not-false}
 use Rattle.replication.specs.Memory.{memory}
 use Rattle.replication.specs.Rows.{memory_rows, retire_stop}
 use Rattle.replication.proofs.RowLaws.{stops_first}

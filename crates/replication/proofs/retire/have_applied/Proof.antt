@@ -1,5 +1,5 @@
-use mathlib.Core.Path.{◌≡◌, ap, ◌∙◌}
-use mathlib.Core.Bool.{Bool, ◌&&◌}
+use mathlib.Core.Path.{◌≡◌, ap}
+use mathlib.Core.Bool.{◌&&◌}
 use Prim.Native.Nat.{ℕ, ◌≤◌, ◌+◌, ◌-◌}
 use native.Mathlib.Omega.{arith}
 use lib.Dec.{ltb}
@@ -8,8 +8,6 @@ use Rattle.carts.specs.Bytes.{every}
 use Rattle.carts.proofs.ScanLaws.{test_more, test_end}
 use Rattle.edit_log.specs.Log.{up_from}
 use Rattle.edit_log.proofs.UpFromLaws.{up_next, up_end}
-use Rattle.replication.specs.Memory.{nth}
-use Rattle.replication.specs.declared.control.Control.{Control}
 use Rattle.replication.proofs.RetireLaws.{applied_by, applied_studios}
 use Rattle.replication.proofs.retire.have_applied.Statement.{statement}
 use Rattle.replication.proofs.retire.have_applied.Tie as tie

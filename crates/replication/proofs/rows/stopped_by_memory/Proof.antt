@@ -1,7 +1,6 @@
 use mathlib.Core.Bool.{true}
 use Rattle.replication.specs.Memory.{memory, lengths_form}
 use mathlib.Core.Path.{◌≡◌, sym, ◌∙◌}
-use borrow.Author.Tests.{not-true, not-false}
 use Rattle.replication.proofs.RowLaws.{lengths_wrong, layout_wrong, memory_right, lengths_are}
 use borrow.Author.Rules.{rules}
 use Rattle.replication.proofs.rows.stopped_by_memory.Statement.{statement}

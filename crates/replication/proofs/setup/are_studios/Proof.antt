@@ -29,10 +29,10 @@ loop-less c = omega arith
 
 loop-again : tie.Need-loop-i-preserved invariant-loop-i decreases-loop-i
 loop-again c = let g = c.args in (
-      omega arith,
-      every_more (λ b. leb b g.studios) g.places.now c.loop-i.i c.loop-i.ok (omega arith) c.loop-i.invariant.1
-          (ap (λ (n : ℕ). c.loop-i.ok && leb n g.studios) c.byte_at.ensures.0),
-    )
+  omega arith,
+  every_more (λ b. leb b g.studios) g.places.now c.loop-i.i c.loop-i.ok (omega arith) c.loop-i.invariant.1
+      (ap (λ (n : ℕ). c.loop-i.ok && leb n g.studios) c.byte_at.ensures.0),
+)
 
 returns : tie.Need-returns invariant-loop-i decreases-loop-i
 returns c = let g = c.args in

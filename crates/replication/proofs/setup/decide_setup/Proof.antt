@@ -1,5 +1,5 @@
 use mathlib.Core.Path.{◌≡◌, sym, ◌∙◌}
-use borrow.Author.Tests.{not-true, not-false, ne_eqb}
+use borrow.Author.Tests.{ne_eqb}
 use mathlib.Core.Bool.{true}
 use Rattle.replication.specs.Memory.{memory, lengths_form}
 use Rattle.replication.proofs.SetupLaws.{setup_lengths, setup_studios, setup_passes}

@@ -33,11 +33,11 @@ loop-less c = omega arith
 
 loop-again : tie.Need-loop-i-preserved invariant-loop-i decreases-loop-i
 loop-again c = let places = c.args.places.now in (
-      omega arith,
-      ap (λ (l : List ℕ). set l c.loop-i.i c.byte_at.result) c.loop-i.invariant.1
-          ∙ ap (λ (n : ℕ). set (take c.loop-i.i places ++ drop c.loop-i.i (replicate 16 0)) c.loop-i.i n) c.byte_at.ensures.0
-          ∙ copy_more (replicate 16 0) places c.loop-i.i (omega arith) (omega arith),
-    )
+  omega arith,
+  ap (λ (l : List ℕ). set l c.loop-i.i c.byte_at.result) c.loop-i.invariant.1
+      ∙ ap (λ (n : ℕ). set (take c.loop-i.i places ++ drop c.loop-i.i (replicate 16 0)) c.loop-i.i n) c.byte_at.ensures.0
+      ∙ copy_more (replicate 16 0) places c.loop-i.i (omega arith) (omega arith),
+)
 
 returns : tie.Need-returns invariant-loop-i decreases-loop-i
 returns c = let places = c.args.places.now in

@@ -3,8 +3,6 @@ use Rattle.replication.specs.Log.{log_count}
 use borrow.Author.Rules.{rules}
 use Rattle.replication.proofs.control.Control.log_count.Statement.{statement}
 use Rattle.replication.proofs.control.Control.log_count.Tie as tie
-use Rattle.replication.proofs.control.Control.log_count.Reads as reads
-use Rattle.replication.proofs.control.Control.log_count.Lts as lts
 
 -- src/control.rt:79:9
 sub-result : tie.Need-overflow_sub-result

@@ -1,9 +1,3 @@
-use mathlib.Core.Path.{◌≡◌, refl}
-use mathlib.Core.Bool.{cond}
-use native.Mathlib.Omega.{arith}
-use Prim.Native.Nat.{ℕ, ◌-◌, ◌≤◌}
-use borrow.Author.Tests.{eq-eqb, ne_eqb}
-use Rattle.replication.specs.Log.{log_count}
 use Rattle.replication.proofs.ControlLaws.{oldest_none, oldest_some}
 use Rattle.replication.proofs.control.Control.oldest_then.Statement.{statement}
 use Rattle.replication.proofs.control.Control.oldest_then.Tie as tie
