@@ -2,7 +2,7 @@
  * The scans of Sulyobak's lower crate (crates/carts_c exports them), for measuring and for tests. The engine's interface is sulyobak.h:
  * a program that uses the engine needs nothing of this.
  *
- * Link with libcarts_c.a (the command `rt staticlib carts_c` writes it to target/staticlib):
+ * Link with libcarts_c.a (the command `rust/build-archives` writes it to target/staticlib):
  *     cc -std=c99 -Iinclude program.c -Ltarget/staticlib -lcarts_c -o program
  *
  * Any bytes and any lengths have their answer, every call ends, and no call changes anything. It remains the caller's that every pointer is

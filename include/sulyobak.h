@@ -15,7 +15,7 @@
  * sessions in one chair, an edit committed in the first does not raise the second's number: a read in the second is answered at once from
  * the copy as it is, with the old cut. That is right by the rules; it is the caller who keeps a person to one session.
  *
- * Link with libsulyobak.a (the command `rt staticlib sulyobak` writes it to target/staticlib):
+ * Link with libsulyobak.a (the command `rust/build-archives` writes it to target/staticlib):
  *     cc -std=c99 -Iinclude program.c -Ltarget/staticlib -lsulyobak -o program
  * It needs memcpy and memset and no other function, allocates nothing, keeps nothing between calls, and runs on x86-64 Linux.
  * sulyobak_util.h has functions that make operations and requests and take carts, sessions and messages apart.

@@ -9,9 +9,10 @@ command -v rt >/dev/null 2>&1 || PATH="/opt/rattle/bin:$PATH"
 older=$(mktemp -d)
 trap 'rm -rf "$older"' EXIT
 
-# Builds the static library of the engine in a folder, if it is not there, and the program that times it.
+# Builds the static library of the engine in a folder, if it is not there, and the program that times it. A commit of an older kit's
+# spelling is built by that kit alone.
 build() {
-    [ -f "$1/target/staticlib/libsulyobak.a" ] || (cd "$1" && rt staticlib sulyobak >/dev/null 2>&1)
+    [ -f "$1/target/staticlib/libsulyobak.a" ] || (cd "$1" && rust/build-archives >/dev/null 2>&1)
     cc -std=c99 -O2 -Wall -Wextra -pedantic -I"$1/include" rust/bench/before.c -L"$1/target/staticlib" -lsulyobak -o "$2"
 }
 

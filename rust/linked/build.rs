@@ -8,7 +8,7 @@ fn main() {
     let archive = folder.join("libcarts_c.a");
     println!("cargo:rerun-if-changed={}", archive.display());
     if !archive.is_file() {
-        eprintln!("linked: there is no {}: build it with `rt staticlib carts_c` at the root of the repository", archive.display());
+        eprintln!("linked: there is no {}: build it with `rust/build-archives` at the root of the repository", archive.display());
         exit(1);
     }
     println!("cargo:rustc-link-search=native={}", folder.display());

@@ -13,7 +13,7 @@ fn main() {
     println!("cargo:rerun-if-changed={}", archive.display());
     if !archive.is_file() {
         eprintln!("sulyobak: there is no {}", archive.display());
-        eprintln!("sulyobak: build it with `rt staticlib sulyobak` at the root of the repository,");
+        eprintln!("sulyobak: build it with `rust/build-archives` at the root of the repository,");
         eprintln!("sulyobak: or name the folder that has libsulyobak.a in the variable SULYOBAK_LIB_DIR");
         exit(1);
     }
