@@ -1,7 +1,6 @@
 use mathlib.Core.Path.{◌≡◌, sym, ◌∙◌}
 use mathlib.Core.Bool.{true}
 use native.Mathlib.Omega.{arith}
-use borrow.Author.Tests.{not-true, not-false}
 use Rattle.van.specs.Message.{head_form}
 use Rattle.van.proofs.MessageLaws.{head_length, message_head, message_rest}
 use borrow.Author.Rules.{rules}

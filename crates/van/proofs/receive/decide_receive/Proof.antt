@@ -3,7 +3,6 @@ use mathlib.Core.Bool.{true}
 use Prim.Native.Nat.{◌+◌}
 use lib.Dec.{ltb}
 use native.Mathlib.Omega.{arith}
-use borrow.Author.Tests.{not-true, not-false}
 use Rattle.van.specs.Message.{message_number, message_form}
 use Rattle.van.specs.Receive.{van_form}
 use Rattle.van.proofs.MessageLaws.{head_length, form_head}

@@ -1,5 +1,4 @@
 use mathlib.Core.Path.{sym, ◌∙◌}
-use borrow.Author.Tests.{not-true, not-false}
 use Rattle.replication.specs.Rows.{memory_rows}
 use Rattle.replication.proofs.RowLaws.{stops_first}
 use Rattle.van.proofs.WriteLaws.{number_retired, number_wrong, number_right}
