@@ -7,8 +7,8 @@ ghost use Rattle.van.specs.Receive.{van};
 ghost use Rattle.calls.specs.Make.{told, made, beside, copy_after, van_leaves};
 
 use carts::bytes;
-use lines::text;
 use edit_log::record::Record;
+use lines::text;
 use replication::answer::{CountAnswer, SetupAnswer};
 use replication::control::Control;
 use report::turn::{Came, Turn};

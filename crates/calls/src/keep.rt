@@ -4,9 +4,9 @@ ghost use Rattle.journal.specs.History.{most_entries, cells_size};
 ghost use Rattle.journal.specs.Progress.{kept};
 ghost use Rattle.calls.specs.Keep.{came_kept};
 
+use edit_log::record::Record;
 use journal::progress::Progress;
 use lines::text;
-use edit_log::record::Record;
 use replication::answer::{CountAnswer, CountResult, ReadResult, SetupResult};
 use report::turn::{Came, Turn};
 

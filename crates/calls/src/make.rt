@@ -11,11 +11,11 @@ ghost use Rattle.journal.specs.History.{most_bytes};
 ghost use Rattle.calls.specs.Make.{committed, previewed, sent_or_refreshed, moved, loaded, told, made, leaves, retire_leaves, read_or_forward, read_leaves, collect_leaves, beside, setup_leaves, line_leaves};
 
 use crate::deliver;
+use edit_log::record::Record;
 use journal::history::Entry;
 use journal::{history, progress};
 use lines::parse::Call;
 use lines::text;
-use edit_log::record::Record;
 use replication::answer::ReadResult;
 use replication::collect::collect;
 use replication::commit::commit;

@@ -3,9 +3,9 @@ ghost use Rattle.std.specs.Prelude.{◌≤◌};
 ghost use Rattle.journal.specs.History.{most_entries};
 
 use crate::answer;
+use edit_log::record::Record;
 use journal::progress::Progress;
 use lines::text;
-use edit_log::record::Record;
 use replication::answer::{CountAnswer, SetupAnswer};
 use report::show;
 use report::turn::Came;

@@ -1,3 +1,2 @@
 // Theory without code: the calls on bytes do what the plain machine does.
 #![tactic(auto)]
-

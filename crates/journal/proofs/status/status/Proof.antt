@@ -1,6 +1,5 @@
 use Rattle.journal.specs.Status.{status_of}
 use Rattle.std.proofs.Common.{sym, ◌∙◌, rules}
-use borrow.Author.Tests.{not-true, not-false}
 use Rattle.journal.proofs.status.status.Statement.{statement}
 use Rattle.journal.proofs.status.status.Tie as tie
 

@@ -4,7 +4,7 @@ use Rattle.carts.specs.Operation.{operation_form, operations_of}
 use Rattle.one_copy.specs.Fault.{allowed}
 use mathlib.Core.Bool.{true}
 use mathlib.Core.Path.{◌≡◌, sym, ◌∙◌}
-use borrow.Author.Tests.{not-true, not-false, eq-eqb, ne_eqb}
+use borrow.Author.Tests.{eq-eqb, ne_eqb}
 use borrow.Author.Rules.{rules}
 use Rattle.one_copy.proofs.fault.is_allowed.Statement.{statement}
 use Rattle.one_copy.proofs.fault.is_allowed.Tie as tie

@@ -2,7 +2,6 @@ use Rattle.one_copy.specs.Replay.{held_at}
 use Rattle.carts.proofs.ScanLaws.{within_true}
 use Rattle.carts.specs.Cart.{held}
 use mathlib.Core.Path.{sym, ap, ◌∙◌}
-use borrow.Author.Tests.{not-true, not-false}
 use native.Mathlib.Omega.{arith}
 use borrow.Author.Rules.{rules}
 use Rattle.one_copy.proofs.replay.held_at.Statement.{statement}

@@ -1,7 +1,6 @@
 use Rattle.one_copy.specs.Replay.{place_agrees}
 use Rattle.carts.proofs.ScanLaws.{within_true}
 use mathlib.Core.Path.{sym, ◌∙◌}
-use borrow.Author.Tests.{not-true, not-false}
 use borrow.Author.Rules.{rules}
 use Rattle.one_copy.proofs.replay.place_agrees.Statement.{statement}
 use Rattle.one_copy.proofs.replay.place_agrees.Tie as tie

@@ -1,7 +1,6 @@
 use Rattle.carts.proofs.OperationLaws.{forms_fields}
 use Rattle.one_copy.specs.Replay.{plays}
 use mathlib.Core.Path.{refl, sym, ◌∙◌}
-use borrow.Author.Tests.{not-true, not-false}
 use borrow.Author.Rules.{rules}
 use Rattle.one_copy.proofs.replay.play_commit.Statement.{statement}
 use Rattle.one_copy.proofs.replay.play_commit.Tie as tie

@@ -3,7 +3,6 @@ use mathlib.Core.Bool.{true, false}
 use Rattle.carts.specs.Bytes.{within}
 use Rattle.carts.proofs.ScanLaws.{within_true}
 use Rattle.report.specs.Answered.{applied_for}
-use borrow.Author.Tests.{not-true, not-false}
 use borrow.Author.Rules.{rules}
 use Rattle.report.proofs.answered.applied_for.Statement.{statement}
 use Rattle.report.proofs.answered.applied_for.Tie as tie

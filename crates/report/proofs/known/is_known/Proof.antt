@@ -4,7 +4,6 @@ use Rattle.carts.specs.Bytes.{within}
 use Rattle.carts.proofs.ScanLaws.{within_true}
 use Rattle.replication.specs.Rows.{session_row}
 use Rattle.report.specs.Known.{known_session}
-use borrow.Author.Tests.{not-true, not-false}
 use borrow.Author.Rules.{rules}
 use Rattle.report.proofs.known.is_known.Statement.{statement}
 use Rattle.report.proofs.known.is_known.Tie as tie

@@ -1,6 +1,5 @@
 use lib.ListN.{length}
-use mathlib.Core.Path.{◌≡◌, ap, ◌∙◌}
-use Prim.Native.Nat.{◌+◌}
+use mathlib.Core.Path.{◌≡◌, ap}
 use native.Mathlib.Omega.{arith}
 use Rattle.words.specs.Page.{decimal}
 use Rattle.words.proofs.PageLaws.{put_both, decimal_last, decimal_more, longer}

@@ -66,16 +66,16 @@ same-length-3 c = search rules
 
 returns-2 : tie.Need-returns-in-Waits
 returns-2 c = let a = c.args in (
-      read_waits a.self a.res.control a.res.answer a.session a.block.now a.cells.now a.store.now _ c.in-Waits.is
-          (c.keep_request.ensures ∙ ap (λ x. kept_in a.store.now a.session x) c.part_of.ensures) c.stepped.ensures,
-      same_room a.self a.res.control Waited (length a.cells.now) c.requires c.stepped.ensures,
-    )
+  read_waits a.self a.res.control a.res.answer a.session a.block.now a.cells.now a.store.now _ c.in-Waits.is
+      (c.keep_request.ensures ∙ ap (λ x. kept_in a.store.now a.session x) c.part_of.ensures) c.stepped.ensures,
+  same_room a.self a.res.control Waited (length a.cells.now) c.requires c.stepped.ensures,
+)
 
 returns-3 : tie.Need-returns-in-Refused
 returns-3 c = let a = c.args in (
-      read_refused a.self a.res.control a.res.answer a.session a.block.now a.cells.now a.store.now _ c.in-Refused.is c.stepped-in-Refused.ensures,
-      same_room a.self a.res.control Refused (length a.cells.now) c.requires c.stepped-in-Refused.ensures,
-    )
+  read_refused a.self a.res.control a.res.answer a.session a.block.now a.cells.now a.store.now _ c.in-Refused.is c.stepped-in-Refused.ensures,
+  same_room a.self a.res.control Refused (length a.cells.now) c.requires c.stepped-in-Refused.ensures,
+)
 
 pub after_read_spec : {M : Type 1} → statement M
 after_read_spec =
