@@ -156,10 +156,7 @@ fn play_from(input: &mut impl Read) {
 // The transcript in the file of this name.
 fn play_file(rt: &impl Files, path: &[u8]) {
     match reading::open(rt, path) {
-        Ok(file) => {
-            let mut file = file;
-            play_from(&mut file);
-        }
+        Ok(mut file) => play_from(&mut file),
         Err(error) => fail(path, error),
     }
 }
