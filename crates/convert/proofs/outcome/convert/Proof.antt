@@ -4,43 +4,37 @@ use borrow.Author.Rules.{rules}
 use Rattle.convert.proofs.outcome.convert.Statement.{statement}
 use Rattle.convert.proofs.outcome.convert.Tie as tie
 
-is-marked-requires : tie.Need-is-marked-requires
+is-marked-requires : tie.Need-is_marked-requires
 is-marked-requires c κs = search rules
 
-from-old-requires : tie.Need-from-old-requires
+from-old-requires : tie.Need-from_old-requires
 from-old-requires c κs = search rules
 
-judge-file-requires : tie.Need-judge-file-requires
+judge-file-requires : tie.Need-judge_file-requires
 judge-file-requires c κs = search rules
 
-same_length : tie.Need-same-length
+same_length : tie.Need-shape_of-copy-then-is_marked
 same_length c = search rules
 
-returns : tie.Need-returns
+returns : tie.Need-returns-then-is_marked
 returns c =
-    let t = c.before.before.before in
-    let b = t.before.before.before in
-    let s = b.before.before.before.before in
-    converted_file s.args.input.now s.args.copy.now t.from_old.new.1.0 s.args.file.now _ (sym b.is-marked.ensures ∙ t.before.before.if1.true) s.requires.0 t.from_old.ensures c.judge-file.ensures
+    converted_file c.args.input.now c.args.copy.now c.from_old.new.copy c.args.file.now _ (sym c.is_marked.ensures ∙ c.if-is_marked.true) c.requires.0 c.from_old.ensures c.judge_file.ensures
 
-to-old-requires : tie.Need-to-old-requires
+to-old-requires : tie.Need-to_old-requires
 to-old-requires c κs = search rules
 
-judge-copy-requires : tie.Need-judge-copy-requires
+judge-copy-requires : tie.Need-judge_copy-requires
 judge-copy-requires c κs = search rules
 
-same-length-2 : tie.Need-same-length-2
+same-length-2 : tie.Need-shape_of-file
 same-length-2 c = search rules
 
-returns-2 : tie.Need-returns-2
+returns-2 : tie.Need-returns
 returns-2 c =
-    let t = c.before.before.before in
-    let b = t.before.before.before in
-    let s = b.before.before.before.before in
-    converted_copy s.args.input.now s.args.copy.now s.args.file.now t.to-old.new.1.0 _ (sym b.is-marked.ensures ∙ t.before.before.if1.false) s.requires.1 t.to-old.ensures c.judge-copy.ensures
+    converted_copy c.args.input.now c.args.copy.now c.args.file.now c.to_old.new.file _ (sym c.is_marked.ensures ∙ c.if-is_marked.false) c.requires.1 c.to_old.ensures c.judge_copy.ensures
 
-pub convert-spec : {M : Type 1} → statement M
-convert-spec =
+pub convert_spec : {M : Type 1} → statement M
+convert_spec =
     tie.close
     (tie.spec
     is-marked-requires

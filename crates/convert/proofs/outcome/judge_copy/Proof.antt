@@ -9,39 +9,39 @@ use borrow.Author.Rules.{rules}
 use Rattle.convert.proofs.outcome.judge_copy.Statement.{statement}
 use Rattle.convert.proofs.outcome.judge_copy.Tie as tie
 
-returns : tie.Need-returns
+returns : tie.Need-returns-then-copy-ne-COPY_SIZE
 unfolding copy_outcome
-returns c = rw (ne_eqb _ 10240 c.if1.true)
+returns c = rw (ne_eqb _ 10240 c.if-copy-ne-COPY_SIZE.true)
 
-first-fault-requires : tie.Need-first-fault-requires
+first-fault-requires : tie.Need-first_fault-c-requires
 first-fault-requires c κs = search rules
 
-returns-2 : tie.Need-returns-2
+returns-2 : tie.Need-returns-then-c-ne0
 unfolding copy_outcome
-returns-2 c = rw (eq-eqb _ 10240 c.before.before.if1.false, ← c.before.first-fault.ensures, ne_eqb _ 0 c.if2.true)
+returns-2 c = rw (eq-eqb _ 10240 c.if-copy-ne-COPY_SIZE.false, ← c.first_fault-c.ensures, ne_eqb _ 0 c.if-c-ne0.true)
 
-first-fault-requires-2 : tie.Need-first-fault-requires-2
+first-fault-requires-2 : tie.Need-first_fault-long-requires
 first-fault-requires-2 c κs = search rules
 
-cart-at-requires : tie.Need-cart-at-requires
-cart-at-requires c κs = let l = c.before.first-fault2.ensures in let m = fault_most (keeps ShortTitle) 80 128 1 0 c.before.before.before.before.before.before.args.copy.now refl in (omega arith, (omega arith, omega arith))
+cart-at-requires : tie.Need-cart_at-requires
+cart-at-requires c κs = let l = c.first_fault-long.ensures in let m = fault_most (keeps ShortTitle) 80 128 1 0 c.args.copy.now refl in (omega arith, (omega arith, omega arith))
 
-byte-at-requires : tie.Need-byte-at-requires
+byte-at-requires : tie.Need-byte_at-requires
 byte-at-requires c κs = search rules
 
-returns-3 : tie.Need-returns-3
+returns-3 : tie.Need-returns-then-long-ne0
 unfolding copy_outcome
-returns-3 c = let t = c.before.before in let e = t.before.before in rw (eq-eqb _ 10240 e.before.before.if1.false, ← e.before.first-fault.ensures, eq-eqb _ 0 e.if2.false, ← t.before.first-fault2.ensures, ne_eqb _ 0 t.if3.true, c.byte_at.ensures.0, c.before.cart-at.ensures.0)
+returns-3 c = rw (eq-eqb _ 10240 c.if-copy-ne-COPY_SIZE.false, ← c.first_fault-c.ensures, eq-eqb _ 0 c.if-c-ne0.false, ← c.first_fault-long.ensures, ne_eqb _ 0 c.if-long-ne0.true, c.byte_at.ensures.0, c.cart_at.ensures.0)
 
-count-held-requires : tie.Need-count-held-requires
+count-held-requires : tie.Need-count_held-requires
 count-held-requires c κs = search rules
 
-returns-4 : tie.Need-returns-4
+returns-4 : tie.Need-returns
 unfolding copy_outcome
-returns-4 c = let t = c.before in let e = t.before.before in rw (eq-eqb _ 10240 e.before.before.if1.false, ← e.before.first-fault.ensures, eq-eqb _ 0 e.if2.false, ← t.before.first-fault2.ensures, eq-eqb _ 0 t.if3.false, c.count_held.ensures)
+returns-4 c = rw (eq-eqb _ 10240 c.if-copy-ne-COPY_SIZE.false, ← c.first_fault-c.ensures, eq-eqb _ 0 c.if-c-ne0.false, ← c.first_fault-long.ensures, eq-eqb _ 0 c.if-long-ne0.false, c.count_held.ensures)
 
-pub judge-copy-spec : {M : Type 1} → statement M
-judge-copy-spec =
+pub judge_copy_spec : {M : Type 1} → statement M
+judge_copy_spec =
     tie.close
     (tie.spec
     returns

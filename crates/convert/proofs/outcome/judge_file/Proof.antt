@@ -5,35 +5,35 @@ use borrow.Author.Rules.{rules}
 use Rattle.convert.proofs.outcome.judge_file.Statement.{statement}
 use Rattle.convert.proofs.outcome.judge_file.Tie as tie
 
-returns : tie.Need-returns
+returns : tie.Need-returns-then-file-ne-SIZE
 unfolding file_outcome
-returns c = rw (ne_eqb _ 6150 c.if1.true)
+returns c = rw (ne_eqb _ 6150 c.if-file-ne-SIZE.true)
 
-sub-carts : tie.Need-overflow-sub-carts
+sub-carts : tie.Need-slice_bounds-carts-count
 sub-carts c = search rules
 
-part-carts-start : tie.Need-slice-bounds-carts-start
+part-carts-start : tie.Need-slice_bounds-carts-start
 part-carts-start c = search rules
 
-part-carts-end : tie.Need-slice-bounds-carts-end
+part-carts-end : tie.Need-slice_bounds-carts-end
 part-carts-end c = search rules
 
-first-fault-requires : tie.Need-first-fault-requires
+first-fault-requires : tie.Need-first_fault-c-requires
 first-fault-requires c κs = search rules
 
-returns-2 : tie.Need-returns-2
+returns-2 : tie.Need-returns-then-c-ne0
 unfolding file_outcome
-returns-2 c = let file = c.before.before.before.before.before.args.file.now in let f = rw (rest_lent file 6) at c.before.first-fault.ensures in rw (eq-eqb _ 6150 c.before.before.before.if1.false, ← f, ne_eqb _ 0 c.if2.true)
+returns-2 c = let file = c.args.file.now in let f = rw (rest_lent file 6) at c.first_fault-c.ensures in rw (eq-eqb _ 6150 c.if-file-ne-SIZE.false, ← f, ne_eqb _ 0 c.if-c-ne0.true)
 
-count-held-requires : tie.Need-count-held-requires
+count-held-requires : tie.Need-count_held-requires
 count-held-requires c κs = search rules
 
-returns-3 : tie.Need-returns-3
+returns-3 : tie.Need-returns
 unfolding file_outcome
-returns-3 c = let t = c.before in let file = t.before.before.before.before.before.args.file.now in let f = rw (rest_lent file 6) at t.before.first-fault.ensures in let g = rw (rest_lent file 6) at c.count_held.ensures in rw (eq-eqb _ 6150 t.before.before.before.if1.false, ← f, eq-eqb _ 0 t.if2.false, g)
+returns-3 c = let file = c.args.file.now in let f = rw (rest_lent file 6) at c.first_fault-c.ensures in let g = rw (rest_lent file 6) at c.count_held.ensures in rw (eq-eqb _ 6150 c.if-file-ne-SIZE.false, ← f, eq-eqb _ 0 c.if-c-ne0.false, g)
 
-pub judge-file-spec : {M : Type 1} → statement M
-judge-file-spec =
+pub judge_file_spec : {M : Type 1} → statement M
+judge_file_spec =
     tie.close
     (tie.spec
     returns

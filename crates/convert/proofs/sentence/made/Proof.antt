@@ -4,26 +4,21 @@ use borrow.Author.Rules.{rules}
 use Rattle.convert.proofs.sentence.made.Statement.{statement}
 use Rattle.convert.proofs.sentence.made.Tie as tie
 
-slice-aggregate-put-counted : tie.Need-slice-aggregate-put-counted
-slice-aggregate-put-counted c = search rules
-
-put-counted-requires : tie.Need-put-counted-requires
+put-counted-requires : tie.Need-put_counted-a-requires
 put-counted-requires c κs = search rules
 
 put-requires : tie.Need-put-requires
 put-requires c κs = search rules
 
-same_length : tie.Need-same-length
+same_length : tie.Need-shape_of-out
 same_length c = search rules
 
 returns : tie.Need-returns
 unfolding made_text
 returns c =
-    let b = c.before.before in
-    let a = b.before.before.before.before in
-    told_more (told_more (told_none _) a.put-counted.ensures.0) b.put.ensures
+    told_more (told_more (told_none _) c.put_counted-a.ensures.0) c.put.ensures
 
-pub made-spec : {M : Type 1} → statement M
-made-spec =
+pub made_spec : {M : Type 1} → statement M
+made_spec =
     tie.close
-    (tie.spec slice-aggregate-put-counted put-counted-requires put-requires same_length returns)
+    (tie.spec put-counted-requires put-requires same_length returns)
