@@ -239,9 +239,12 @@ static void test_retire(void)
 static void test_sentences(void)
 {
     uint32_t i, j;
-    for (i = 0; i <= 23; i++)
-        for (j = i + 1; j <= 24; j++)
-            HOLD(strcmp(sulyobak_refusal_sentence(i), sulyobak_refusal_sentence(j)) != 0 || (i == 0 && j == 24));
+    for (i = 0; i <= 21; i++)
+        for (j = i + 1; j <= 22; j++)
+            HOLD(strcmp(sulyobak_refusal_sentence(i), sulyobak_refusal_sentence(j)) != 0 || (i == 0 && j == 22));
+    for (i = 22; i <= 23; i++) /* a conversion's */
+        for (j = 0; j <= 24; j++)
+            HOLD(i == j || strcmp(sulyobak_refusal_sentence(i), sulyobak_refusal_sentence(j)) != 0);
     for (i = 0; i <= 7; i++)
         for (j = i + 1; j <= 8; j++)
             HOLD(strcmp(sulyobak_made_sentence((int)i), sulyobak_made_sentence((int)j)) != 0);

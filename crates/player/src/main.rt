@@ -140,7 +140,7 @@ fn read_transcript<R: Read>(input: &mut R, text: &mut [u8]) -> Result<(usize, bo
 {
     let n = reading::read_full(input, text)?;
     let mut one = [0u8; 1];
-    let cut = n == text.len() && input.read(&mut one)? > 0;
+    let cut = n == text.len() && input.read(&mut one).is_ok_and(|more| more > 0);
     Ok((n, cut))
 }
 

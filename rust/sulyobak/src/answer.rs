@@ -77,8 +77,8 @@ pub enum Refusal {
 }
 
 impl Refusal {
-    // Every refusal, by its number from 1.
-    const ALL: [Refusal; 23] = [
+    // Every refusal, by its number from 1, but a conversion's.
+    const ALL: [Refusal; 21] = [
         Refusal::Lengths,
         Refusal::Layout,
         Refusal::Nobody,
@@ -100,14 +100,21 @@ impl Refusal {
         Refusal::NotWhole,
         Refusal::NotRetirable,
         Refusal::Retired,
-        Refusal::NotConvertible,
-        Refusal::LongTitle,
     ];
 
     /// The refusal with this number of documents 01 and 02.
     pub fn from_number(number: u32) -> Refusal {
         let place = (number as usize).checked_sub(1);
         place.and_then(|place| Refusal::ALL.get(place)).copied().unwrap_or(Refusal::Unknown(number))
+    }
+
+    // A conversion has two numbers of its own, which version 9 gives to no other call.
+    pub(crate) fn of_conversion(number: u32) -> Refusal {
+        match number {
+            22 => Refusal::NotConvertible,
+            23 => Refusal::LongTitle,
+            _ => Refusal::from_number(number),
+        }
     }
 
     /// Its number in documents 01 and 02; 0 for [`Refusal::Version`], which they do not have.
@@ -288,13 +295,21 @@ mod tests {
 
     #[test]
     fn every_refusal_has_its_number() {
-        for number in 1..=23 {
+        for number in 1..=21 {
             let refusal = Refusal::from_number(number);
             assert_eq!(refusal.number(), number);
             assert!(!matches!(refusal, Refusal::Unknown(_)));
         }
-        for number in [0, 24, u32::MAX] {
+        for number in [0, 22, u32::MAX] {
             assert_eq!(Refusal::from_number(number), Refusal::Unknown(number));
+        }
+    }
+
+    #[test]
+    fn conversions_have_two_numbers_more() {
+        for (number, refusal) in [(22, Refusal::NotConvertible), (23, Refusal::LongTitle), (24, Refusal::Unknown(24)), (1, Refusal::Lengths)] {
+            assert_eq!(Refusal::of_conversion(number), refusal);
+            assert_eq!(refusal.number(), number);
         }
     }
 }

@@ -58,7 +58,7 @@ pub fn from_old_into(file: &[u8], copy: &mut [u8]) -> Result<usize, Refusal> {
     // SAFETY: each pointer comes with its length from one slice, which stays borrowed for the whole call; what is written is borrowed
     // mutably. The engine accepts any bytes, keeps no pointer, and does not unwind.
     let answer = unsafe { sys::sulyobak_from_old(file.as_ptr(), file.len(), copy.as_mut_ptr(), copy.len()) };
-    counted(&answer).map(|written| written as usize)
+    written(&answer)
 }
 
 /// Converts a copy to an old file, for example the head end's: the first [`sizes::COPY`] bytes of library memory. A copy that is not of its
@@ -98,7 +98,15 @@ pub fn to_old_into(copy: &[u8], file: &mut [u8]) -> Result<usize, Refusal> {
     version::check()?;
     // SAFETY: as in `from_old_into`.
     let answer = unsafe { sys::sulyobak_to_old(copy.as_ptr(), copy.len(), file.as_mut_ptr(), file.len()) };
-    counted(&answer).map(|written| written as usize)
+    written(&answer)
+}
+
+// What a conversion wrote, or its refusal.
+fn written(answer: &sys::Answer) -> Result<usize, Refusal> {
+    match answer.kind {
+        sys::REFUSED => Err(Refusal::of_conversion(answer.value)),
+        _ => counted(answer).map(|written| written as usize),
+    }
 }
 
 /// What a conversion finds fault with, for the person who mends it. Whether it is refused the engine alone decides.

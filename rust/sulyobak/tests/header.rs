@@ -47,8 +47,12 @@ fn version_and_sizes() {
 
 #[test]
 fn sentences() {
-    for number in 1..=23 {
+    for number in 1..=21 {
         let sentence = Refusal::from_number(number).sentence();
         assert!(HELPERS.contains(&format!("return \"{sentence}\";")), "{number}: {sentence}");
+    }
+    for refusal in [Refusal::NotConvertible, Refusal::LongTitle] {
+        let sentence = refusal.sentence();
+        assert!(HELPERS.contains(&format!("return \"{sentence}\";")), "{refusal:?}: {sentence}");
     }
 }
