@@ -307,7 +307,9 @@ mod tests {
 
     #[test]
     fn conversions_have_two_numbers_more() {
-        for (number, refusal) in [(22, Refusal::NotConvertible), (23, Refusal::LongTitle), (24, Refusal::Unknown(24)), (1, Refusal::Lengths)] {
+        for (number, refusal) in
+            [(22, Refusal::NotConvertible), (23, Refusal::LongTitle), (24, Refusal::Unknown(24)), (1, Refusal::Lengths)]
+        {
             assert_eq!(Refusal::of_conversion(number), refusal);
             assert_eq!(refusal.number(), number);
         }
