@@ -2,11 +2,9 @@
 // tells which way. Document 02, S-10.
 #![tactic(auto)]
 
-mod failure;
 mod fault;
 mod held;
 mod outcome;
-mod reading;
 mod save;
 mod sentence;
 
@@ -14,6 +12,7 @@ ghost use Rattle.std.specs.Prelude.{◌≤◌, length};
 ghost use Rattle.words.specs.Page.{page_size};
 
 use carts::cart::Cart;
+use files::{failure, reading};
 use lines::text;
 use old_edition::file;
 use outcome::Outcome;

@@ -3,7 +3,7 @@ ghost use Rattle.std.specs.Prelude.{◌≡◌, ◌≤◌, length};
 ghost use Rattle.words.specs.Page.{page_size, Told};
 ghost use Rattle.convert.specs.Names.{name_size, partial_name};
 
-use crate::failure;
+use files::failure;
 use lines::text;
 use std::fs;
 use std::fs::{OpenFile, OpenOptions};

@@ -2,9 +2,7 @@
 // one-copy order replayed on a single library. docs/TRANSCRIPT.md has the format and the limits.
 #![tactic(auto)]
 
-mod failure;
 mod play;
-mod reading;
 
 ghost use Rattle.std.specs.Prelude.{◌≡◌, ◌≤◌, length, IfOk};
 ghost use Rattle.carts.specs.Cart.{copy_size};
@@ -12,6 +10,7 @@ ghost use Rattle.journal.specs.History.{most_entries, cells_size};
 
 use carts::cart::Cart;
 use edit_log::record::Record;
+use files::{failure, reading};
 use journal::history::Entry;
 use journal::progress::Progress;
 use lines::text::Class;
