@@ -12,6 +12,7 @@ pub fn byte_at(s: &[u8], at: usize) -> u32
 }
 
 // The u16 at an index.
+#[tactic(auto, unfolding(crate::specs::Bytes::u16))]
 pub fn u16_at(s: &[u8], at: usize) -> u32
     requires { at + 2 ≤ length s.now }
     ensures { (result ≡ u16 s.now at) × (result < 65536) }
@@ -20,6 +21,7 @@ pub fn u16_at(s: &[u8], at: usize) -> u32
 }
 
 // The u32 at an index.
+#[tactic(auto, unfolding(crate::specs::Bytes::u32))]
 pub fn u32_at(s: &[u8], at: usize) -> u32
     requires { at + 4 ≤ length s.now }
     ensures { result ≡ u32 s.now at }
@@ -31,6 +33,7 @@ pub fn u32_at(s: &[u8], at: usize) -> u32
 }
 
 // The u16 at an index becomes v.
+#[tactic(auto, using(crate::proofs::PartLaws::over_pair), unfolding(crate::specs::Bytes::u16_bytes))]
 pub fn put_u16(s: &mut [u8], at: usize, v: u32)
     requires { (at + 2 ≤ length s.old) × (v < 65536) }
     ensures { s.new ≡ over s.old at 2 (u16_bytes v) }
@@ -40,6 +43,7 @@ pub fn put_u16(s: &mut [u8], at: usize, v: u32)
 }
 
 // low ≤ n ≤ high.
+#[tactic(auto, unfolding(crate::specs::Bytes::within))]
 pub fn is_within(low: u32, high: u32, n: u32) -> bool
     ensures { result ≡ within low high n }
 {
@@ -47,6 +51,7 @@ pub fn is_within(low: u32, high: u32, n: u32) -> bool
 }
 
 // A byte that a title may have.
+#[tactic(auto, unfolding(crate::specs::Cart::printable, crate::specs::Bytes::within))]
 pub fn is_printable(b: u8) -> bool
     ensures { result ≡ printable b }
 {
@@ -58,10 +63,8 @@ pub fn all_zero(s: &[u8]) -> bool
     ensures { result ≡ all_zero s.now }
 {
     let mut joined: u8 = 0;
-    let mut i = 0;
-    while i < s.len() {
-        joined |= s[i];
-        i += 1;
+    for b in s {
+        joined |= *b;
     }
     joined == 0
 }
@@ -71,10 +74,8 @@ pub fn all_printable(s: &[u8]) -> bool
     ensures { result ≡ every printable s.now }
 {
     let mut ok = true;
-    let mut i = 0;
-    while i < s.len() {
-        ok &= is_printable(s[i]);
-        i += 1;
+    for b in s {
+        ok &= is_printable(*b);
     }
     ok
 }
@@ -85,10 +86,8 @@ pub fn are_equal(a: &[u8], b: &[u8]) -> bool
     ensures { result ≡ pairwise eqb a.now b.now }
 {
     let mut ok = true;
-    let mut i = 0;
-    while i < a.len() {
-        ok &= a[i] == b[i];
-        i += 1;
+    for (x, y) in a.iter().zip(b) {
+        ok &= *x == *y;
     }
     ok
 }
@@ -98,20 +97,13 @@ pub fn copy_all(dst: &mut [u8], src: &[u8])
     requires { length dst.old ≡ length src.now }
     ensures { dst.new ≡ src.now }
 {
-    let mut i = 0;
-    while i < dst.len() {
-        dst[i] = src[i];
-        i += 1;
-    }
+    dst.copy_from_slice(src);
 }
 
 // dst becomes zeros.
+#[tactic(auto, unfolding(crate::specs::Bytes::zeros))]
 pub fn clear(dst: &mut [u8])
     ensures { dst.new ≡ zeros (length dst.old) }
 {
-    let mut i = 0;
-    while i < dst.len() {
-        dst[i] = 0;
-        i += 1;
-    }
+    dst.fill(0);
 }
