@@ -4,6 +4,7 @@ pub mod CellLaws
 pub mod EachLaws
 pub mod Examples
 pub mod FieldLaws
+pub mod IndexLaws
 pub mod KeepLaws
 pub mod LetterLaws
 pub mod OperationLaws

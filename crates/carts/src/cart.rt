@@ -1,7 +1,7 @@
 // Carts: 80 bytes each, 128 of them in a copy.
 ghost use Rattle.std.specs.Prelude.{◌≡◌, cond, ◌&&◌, ◌≤◌, length, take, drop, ltb, eqb};
 ghost use Rattle.carts.specs.Bytes.{every, all_zero};
-ghost use Rattle.carts.specs.Cart.{cart_size, cart_count, copy_size, title_size, cart_at, printable, has_title, no_title, has_audio, no_audio, held, cart_fields, held_form, cart_form, copy_form};
+ghost use Rattle.carts.specs.Cart.{cart_size, cart_count, copy_size, cart_at, printable, has_title, no_title, has_audio, no_audio, held, cart_fields, held_form, cart_form, copy_form};
 
 use crate::bytes;
 
@@ -41,6 +41,7 @@ impl Cart {
     pub const TITLE_AT: usize = 16;
 
     // The fields in a cart's bytes.
+    #[tactic(auto, unfolding(crate::specs::Cart::cart_fields))]
     pub fn from_bytes(s: &[u8]) -> Cart
         requires { length s.now ≡ cart_size }
         ensures { result ≡ cart_fields s.now }
@@ -56,6 +57,7 @@ impl Cart {
 }
 
 // The cart is held.
+#[tactic(auto, unfolding(crate::specs::Cart::held))]
 pub fn is_held(cart: &[u8]) -> bool
     requires { length cart.now ≡ cart_size }
     ensures { result ≡ held cart.now }
@@ -65,6 +67,7 @@ pub fn is_held(cart: &[u8]) -> bool
 
 // The byte at index j of a title's field: a letter where the title of n letters has one, else zero. With no choice between two
 // tests, it vectorises in fewer instructions.
+#[tactic(auto, using(crate::proofs::CartLaws::title_byte))]
 fn is_title_byte(b: u8, j: u8, n: u8) -> bool
     ensures { result ≡ cond (ltb j n) (printable b) (eqb b 0) }
 {
@@ -78,22 +81,11 @@ pub fn is_title_in(field: &[u8], n: u8) -> bool
     ensures { result ≡ (every printable (take n field.now) && all_zero (drop n field.now)) }
 {
     let mut ok = true;
-    let mut place: u8 = 0; // j in a byte: the comparison with n then vectorises in bytes
-    let mut j = 0;
-    while j < field.len() {
-        ok &= is_title_byte(field[j], place, n);
-        place += 1;
-        j += 1;
+    // the index is a byte: its comparison with n then vectorises in bytes
+    for (b, j) in field.iter().zip(0..u8::MAX) {
+        ok &= is_title_byte(*b, j, n);
     }
     ok
-}
-
-// A cart's title field has n letters, then zeros.
-fn is_title(field: &[u8], n: u8) -> bool
-    requires { length field.now ≡ title_size }
-    ensures { result ≡ (every printable (take n field.now) && all_zero (drop n field.now)) }
-{
-    is_title_in(field, n)
 }
 
 // What holds of a field: one test where the field is asked for, the other where it must be absent.
@@ -110,7 +102,7 @@ pub fn is_title_as_asked(s: &[u8], asked: bool) -> bool
 {
     let n = s[1];
     is_as_asked(asked, (1 <= n) & (n <= Cart::TITLE_LONGEST), n == 0)
-        & is_title(&s[Cart::TITLE_AT..Cart::SIZE], n)
+        & is_title_in(&s[Cart::TITLE_AT..Cart::SIZE], n)
 }
 
 // Audio number and length are at least 1 where they are asked for, else zero.
@@ -140,6 +132,7 @@ fn is_held_cart(s: &[u8], c: u32) -> bool
 }
 
 // An empty cart, or a held one of number c.
+#[tactic(auto, using(crate::proofs::CartLaws::cart_empty, crate::proofs::CartLaws::cart_held))]
 pub fn is_cart(s: &[u8], c: u32) -> bool
     requires { length s.now ≡ cart_size }
     ensures { result ≡ cart_form c s.now }
@@ -151,6 +144,7 @@ pub fn is_cart(s: &[u8], c: u32) -> bool
 }
 
 // The 80 bytes of cart c of a copy.
+#[tactic(auto, using(crate::proofs::CartLaws::length_cart), unfolding(crate::specs::Cart::cart_at))]
 pub fn cart_at(copy: &[u8], c: u32) -> &[u8]
     requires { (length copy.now ≡ copy_size) × ((1 ≤ c) × (c ≤ cart_count)) }
     ensures { (result.now ≡ cart_at copy.now c) × (length result.now ≡ cart_size) }
@@ -160,14 +154,13 @@ pub fn cart_at(copy: &[u8], c: u32) -> &[u8]
 }
 
 // Each of a copy's carts is of its form.
+#[tactic(auto, unfolding(crate::specs::Cart::copy_form))]
 pub fn is_copy(copy: &[u8]) -> bool
     requires { length copy.now ≡ copy_size }
     ensures { result ≡ copy_form copy.now }
 {
     let mut ok = true;
-    let mut c: u32 = 0;
-    while c < Cart::COUNT {
-        c += 1;
+    for c in 1..=Cart::COUNT {
         ok &= is_cart(cart_at(copy, c), c);
     }
     ok
