@@ -1,6 +1,7 @@
 -- Sample data, worked examples, and laws on the definitions of specs/ for the proofs of this crate and of its callers.
 pub mod CartLaws
 pub mod CellLaws
+pub mod ChunkLaws
 pub mod EachLaws
 pub mod Examples
 pub mod FieldLaws

@@ -3,5 +3,6 @@
 
 pub mod bytes;
 pub mod cart;
+pub mod kind;
 pub mod operation;
 pub mod titles;

@@ -1,4 +1,4 @@
-use Rattle.std.proofs.Common.{◌&&◌, ◌+◌, ◌-◌, length, drop, get_or, cond, ltb, eqb, ap, refl, arith}
+use Rattle.std.proofs.Common.{◌&&◌, ◌+◌, ◌-◌, ◌≡◌, min, length, drop, get_or, cond, ltb, eqb, ap, refl, arith}
 use Rattle.std.proofs.lemmas.Iterator.{YieldsList-from_slice, YieldsList-from_range, YieldsList-from_zip}
 use Rattle.std.proofs.lemmas.List.{length_push}
 use Rattle.carts.specs.Cart.{printable}
@@ -23,6 +23,5 @@ pub returns : goal.returns
 returns c =
     let field = c.args.field.now in
     let xs = c.loop-b.yielded in
-    let e = YieldsList-from_zip (YieldsList-from_slice field (cc)) (YieldsList-from_range 0 255 255 (cc) refl) in
-    let t = index_end field 255 e xs c.loop-b.b-iterator c.loop-b.yielded_by c.next.result c.next.new.self c.in-None.is c.next.ensures.steps in
+    let t : length xs ≡ min (length field) 255 = index_end field 255 (YieldsList-from_zip (YieldsList-from_slice field (cc)) (YieldsList-from_range 0 255 255 (cc) refl)) xs c.loop-b.b-iterator c.loop-b.yielded_by c.next.result c.next.new.self c.in-None.is c.next.ensures.steps in
     test_end c.loop-b.ok c.loop-b.invariant (letters_end c.args.n (length xs) field (omega (arith, t)))
