@@ -22,7 +22,7 @@ pub struct Searched {
     pub letters: u32,
 }
 
-// Whether a title is the one asked, and its letters that S-5 counts.
+// Whether a title is the one asked, and its letters that S-5 counts: they are counted either way, so it is no Option.
 #[derive(Clone, Copy)]
 struct Compared {
     same: bool,
@@ -41,6 +41,7 @@ impl Compared {
 }
 
 // Two letters count as equal.
+#[tactic(auto, unfolding(crate::specs::Title::same_letter))]
 pub fn same_letter(a: u8, b: u8) -> bool
     ensures { result ≡ same_letter a b }
 {
@@ -48,20 +49,16 @@ pub fn same_letter(a: u8, b: u8) -> bool
 }
 
 // Two parts of one length have the same letters.
+#[tactic(auto, unfolding(crate::specs::Title::same_letter))]
 fn are_same_letters(a: &[u8], b: &[u8]) -> bool
     requires { length a.now ≡ length b.now }
     ensures { result ≡ pairwise same_letter a.now b.now }
 {
-    let mut ok = true;
-    let mut i = 0;
-    while i < a.len() {
-        ok &= same_letter(a[i], b[i]);
-        i += 1;
-    }
-    ok
+    bytes::are_equal(a, b)
 }
 
-// How many letters at the front are passed over: blocks of eight, as long as all eight are the same.
+// How many letters at the front are passed over: blocks of eight, as long as all eight are the same. The index is the answer, so
+// a `for` over the blocks of both would count beside it what it has passed, and be no plainer.
 fn same_front(a: &[u8], b: &[u8]) -> usize
     requires { (length a.now ≡ length b.now) × (length a.now ≤ title_size) }
     ensures { (result ≤ length a.now) × (pairwise same_letter (take result a.now) (take result b.now) ≡ true) }
@@ -82,14 +79,12 @@ fn compare_letters(a: &[u8], b: &[u8]) -> Compared
     requires { (length a.now ≡ length b.now) × (length a.now ≤ title_size) }
     ensures { (result.same ≡ pairwise same_letter a.now b.now) × (result.letters ≡ letters_compared a.now b.now) }
 {
-    let mut i = same_front(a, b);
-    while i < a.len() {
+    for i in same_front(a, b)..a.len() {
         if !same_letter(a[i], b[i]) {
             return Compared::new(false, i as u32 + 1);
         }
-        i += 1;
     }
-    Compared::new(true, i as u32)
+    Compared::new(true, a.len() as u32)
 }
 
 // The cart is held and has exactly the title. Letters are compared only where it is held and of the length asked.
@@ -107,16 +102,15 @@ fn compare_title(cart: &[u8], title: &[u8]) -> Compared
 }
 
 // The answer for so many carts, the last of them with this number.
+#[tactic(auto, using(crate::proofs::TitleLaws::answer_none, crate::proofs::TitleLaws::answer_one, crate::proofs::TitleLaws::answer_several))]
 fn found_of(count: u32, last: u32) -> Found
     ensures { result ≡ search_answer (replicate count last) }
 {
-    if count == 0 {
-        return Found::None;
+    match count {
+        0 => Found::None,
+        1 => Found::One(last),
+        _ => Found::Several(count),
     }
-    if count == 1 {
-        return Found::One(last);
-    }
-    Found::Several(count)
 }
 
 // The carts of a copy that have the title, and the letters counted in all of them.
@@ -127,9 +121,7 @@ pub fn search(copy: &[u8], title: &[u8]) -> Searched
     let mut count: u32 = 0;
     let mut last: u32 = 0;
     let mut letters: u32 = 0;
-    let mut c: u32 = 0;
-    while c < Cart::COUNT {
-        c += 1;
+    for c in 1..=Cart::COUNT {
         let compared = compare_title(cart::cart_at(copy, c), title);
         letters += compared.letters;
         if compared.same {
