@@ -31,20 +31,17 @@ fn free_all(log: &mut [u8], first: u32) -> Freed
     ensures { (log.new ≡ free_all (records_of log.old first) log.old) × (result ≡ freed_of log.old first) }
 {
     let mut r = first;
-    let mut last: u32 = 0;
-    let mut count: u32 = 0;
-    while 0 < r {
-        let links = Record::at(log, r);
-        let next = links.next_operation;
+    let mut last = 0;
+    let mut count = 0;
+    // A `while`: the records say where the chain ends, and it has as many as there are.
+    while r != 0 {
+        let next = Record::at(log, r).next_operation;
         free_record(log, r, next);
         last = r;
         r = next;
         count += 1;
     }
-    Freed {
-        count: count,
-        last: last,
-    }
+    Freed { count, last }
 }
 
 // The records of the transaction at record oldest join the free chain, whose last record is last, 0 for none; the last of them is its new last record.
