@@ -7,7 +7,7 @@ use native.Mathlib.Omega.{arith}
 use lib.ListN.{length, drop, drop_of_length-le, length-append}
 use Rattle.std.proofs.Common.{get_or, ◌||◌, Option, None, Some, MatchOption, add-one, drop-cons}
 use lib.Dec.{leb, eqb, eqb-suc-suc}
-use borrow.Author.Tests.{eq-eqb, ne_eqb, le-leb, eqb-true, not-true, not-false}
+use borrow.Author.Tests.{eq-eqb, ne_eqb, le-leb, eqb-true}
 use Rattle.std.proofs.lemmas.Bool.{lt-leb}
 use Rattle.carts.specs.Bytes.{within, all, every}
 use Rattle.carts.specs.Operation.{operation_fields}
@@ -36,29 +36,29 @@ unfolding every
 marks_end left i any h e = sym (e ∙ rw (drop_of_length-le left h, and-true))
 
 -- one record: b is whether it is one of the 512
-pub in_log : (r : ℕ) (b : Bool) → b ≡ within 1 512 r → not b ≡ false → (1 ≤ r) × (r ≤ 512)
-in_log r b e t = let w : within 1 512 r ≡ true = sym e ∙ not-false b t in (within_low 1 512 r w, within_high 1 512 r w)
+pub in_log : (r : ℕ) (b : Bool) → b ≡ within 1 512 r → b ≡ true → (1 ≤ r) × (r ≤ 512)
+in_log r b e t = let w : within 1 512 r ≡ true = sym e ∙ t in (within_low 1 512 r w, within_high 1 512 r w)
 
-pub meet_out : (left : List Bool) (r : ℕ) (b : Bool) → b ≡ within 1 512 r → not b ≡ true → false ≡ is_left left r
+pub meet_out : (left : List Bool) (r : ℕ) (b : Bool) → b ≡ within 1 512 r → b ≡ false → false ≡ is_left left r
 unfolding is_left
-meet_out left r b e t = rw (← e, not-true b t)
+meet_out left r b e t = rw (← e, t)
 
-pub meet_is : (left : List Bool) (r : ℕ) (b : Bool) → b ≡ within 1 512 r → not b ≡ false → get_or left (r - 1) false ≡ is_left left r
+pub meet_is : (left : List Bool) (r : ℕ) (b : Bool) → b ≡ within 1 512 r → b ≡ true → get_or left (r - 1) false ≡ is_left left r
 unfolding is_left
-meet_is left r b e t = rw (← e, not-false b t)
+meet_is left r b e t = rw (← e, t)
 
 pub left_in : (left : List Bool) (r : ℕ) → is_left left r ≡ true → (1 ≤ r) × (r ≤ 512)
 unfolding is_left
 left_in left r h = let w = and_left (within 1 512 r) (get_or left (r - 1) false) h in (within_low 1 512 r w, within_high 1 512 r w)
 
 -- the same of an operation
-pub operation_out : (log : List ℕ) (left : List Bool) (r : ℕ) (b : Bool) → b ≡ is_left left r → not b ≡ true → false ≡ operation_left log left r
+pub operation_out : (log : List ℕ) (left : List Bool) (r : ℕ) (b : Bool) → b ≡ is_left left r → b ≡ false → false ≡ operation_left log left r
 unfolding operation_left
-operation_out log left r b e t = rw (← e, not-true b t)
+operation_out log left r b e t = rw (← e, t)
 
-pub operation_is : (log : List ℕ) (left : List Bool) (r : ℕ) (b : Bool) → b ≡ is_left left r → not b ≡ false → operation_fields (record_at log r) ≡ operation_left log left r
+pub operation_is : (log : List ℕ) (left : List Bool) (r : ℕ) (b : Bool) → b ≡ is_left left r → b ≡ true → operation_fields (record_at log r) ≡ operation_left log left r
 unfolding operation_left
-operation_is log left r b e t = rw (← e, not-false b t)
+operation_is log left r b e t = rw (← e, t)
 
 pub operation_in : (log : List ℕ) (left : List Bool) (r : ℕ) → operation_left log left r ≡ true → (1 ≤ r) × (r ≤ 512)
 unfolding operation_left
@@ -311,31 +311,31 @@ module _ (log : List ℕ) (left : List Bool) (d : ℕ) where
     fewer : many ≡ suc (many - 1)
     fewer = omega arith
 
-    pub free_out : not b ≡ true → false ≡ free_test log left (chain (many + d) log r) many before last
-    free_out t = sym (ap (λ k. free_test log left (chain (k + d) log r) k before last) fewer ∙ go r (sym e ∙ not-true b t))
+    pub free_out : b ≡ false → false ≡ free_test log left (chain (many + d) log r) many before last
+    free_out t = sym (ap (λ k. free_test log left (chain (k + d) log r) k before last) fewer ∙ go r (sym e ∙ t))
       where
         go : (q : ℕ) → is_left left q ≡ false → free_test log left (chain (suc (many - 1) + d) log q) (suc (many - 1)) before last ≡ false
         go zero f = free_none (many - 1) before last
         go (suc q) f = free_turn (many - 1) (suc q) before last (omega arith) ∙ rw f
 
-    module _ (t : not b ≡ false) (c : Bool) (g : c ≡ free_form (record_at log r)) where
+    module _ (t : b ≡ true) (c : Bool) (g : c ≡ free_form (record_at log r)) where
       by_first : free_test log left (chain (many + d) log r) many before last ≡ (c && free_test log (met left r) (chain (many - 1 + d) log (next_operation log r)) (many - 1) r last)
       by_first =
-          let i : is_left left r ≡ true = sym e ∙ not-false b t in
+          let i : is_left left r ≡ true = sym e ∙ t in
           ap (λ k. free_test log left (chain (k + d) log r) k before last) fewer ∙ free_turn (many - 1) r before last (left_in left r i).0 ∙ rw (i, ← g)
 
-      pub free_bad : not c ≡ true → false ≡ free_test log left (chain (many + d) log r) many before last
-      free_bad z = sym (by_first ∙ rw (not-true c z))
+      pub free_bad : c ≡ false → false ≡ free_test log left (chain (many + d) log r) many before last
+      free_bad z = sym (by_first ∙ rw (z))
 
       module _ (next : ℕ) (u : next ≡ next_operation log r) (new : List Bool) (w : new ≡ met left r) where
-        pub free_step : not c ≡ false → free_test log left (chain (many + d) log r) many before last ≡ free_test log new (chain (many - 1 + d) log next) (many - 1) r last
-        free_step z = by_first ∙ rw (not-false c z, u, w)
+        pub free_step : c ≡ true → free_test log left (chain (many + d) log r) many before last ≡ free_test log new (chain (many - 1 + d) log next) (many - 1) r last
+        free_step z = by_first ∙ rw (z, u, w)
 
         pub met_free : met_each left (chain (many + d) log r) ≡ met_each new (chain (many - 1 + d) log next)
         unfolding met_each
         met_free =
             let a : many + d ≡ suc (many - 1 + d) = omega arith in
-            rw (a, chain_cons (many - 1 + d) log r (left_in left r (sym e ∙ not-false b t)).0, u, w)
+            rw (a, chain_cons (many - 1 + d) log r (left_in left r (sym e ∙ t)).0, u, w)
 
   pub free_done : (many r before last : ℕ) → many ≤ 0 → 0 < d → (eqb r 0 && eqb before last) ≡ free_test log left (chain (many + d) log r) many before last
   unfolding free_test are_left every back all

@@ -1,12 +1,12 @@
 -- The whole test of the two chains, from what the two passes find.
 use Prim.Native.Nat.{ℕ, ◌+◌, ◌-◌, ◌<◌, ◌≤◌}
 use mathlib.Core.Path.{◌≡◌, sym, ◌∙◌}
-use mathlib.Core.Bool.{Bool, true, false, not, ◌&&◌}
+use mathlib.Core.Bool.{Bool, true, false, ◌&&◌}
 use mathlib.Core.List.{List, [], ◌∷◌, ◌++◌}
 use native.Mathlib.Omega.{arith}
 use lib.ListN.{length, replicate}
 use lib.Dec.{eqb}
-use borrow.Author.Tests.{eq-eqb, eqb-true, not-true, not-false}
+use borrow.Author.Tests.{eq-eqb, eqb-true}
 use Rattle.carts.specs.Bytes.{all, every}
 use Rattle.carts.proofs.TestLaws.{and_left, and_right, all_at, all_cons, all_nil}
 use Rattle.edit_log.specs.Log.{record_at, log_records, free_records, back}
@@ -80,15 +80,15 @@ module _ (n : ℕ) (log : List ℕ) (used oldest first last : ℕ) where
       no h = let e = eqb-true (used + length free) 512 (all_at 2 chains_tests h) in omega arith
 
   module _ (u : used ≤ 512) (b : Bool) (e : b ≡ log_test n log ones oldest used) where
-    pub chains_log : not b ≡ true → false ≡ chains_form n log used oldest first last
-    chains_log t = sym (passes u ∙ rw (← e, not-true b t))
+    pub chains_log : b ≡ false → false ≡ chains_form n log used oldest first last
+    chains_log t = sym (passes u ∙ rw (← e, t))
 
-    module _ (t : not b ≡ false) (new : List Bool) (w : new ≡ left) (c : Bool) (g : c ≡ free_test log new free (512 - used) 0 last) where
+    module _ (t : b ≡ true) (new : List Bool) (w : new ≡ left) (c : Bool) (g : c ≡ free_test log new free (512 - used) 0 last) where
       by_free : chains_form n log used oldest first last ≡ (c && all_met (met_each left free))
-      by_free = passes u ∙ rw (← e, not-false b t, ← w, ← g)
+      by_free = passes u ∙ rw (← e, t, ← w, ← g)
 
-      pub chains_free : not c ≡ true → false ≡ chains_form n log used oldest first last
-      chains_free z = sym (by_free ∙ rw (not-true c z))
+      pub chains_free : c ≡ false → false ≡ chains_form n log used oldest first last
+      chains_free z = sym (by_free ∙ rw (z))
 
-      pub chains_is : not c ≡ false → (newer : List Bool) → newer ≡ met_each new free → all_met newer ≡ chains_form n log used oldest first last
-      chains_is z newer q = sym (by_free ∙ rw (not-false c z, q, w))
+      pub chains_is : c ≡ true → (newer : List Bool) → newer ≡ met_each new free → all_met newer ≡ chains_form n log used oldest first last
+      chains_is z newer q = sym (by_free ∙ rw (z, q, w))

@@ -9,7 +9,7 @@ use crate::record::Record;
 use carts::{bytes, operation};
 
 // The records, for an array with a mark for each.
-const MARKS: usize = 512;
+const MARKS: usize = Record::COUNT as usize;
 
 // The records that have still to be met.
 #[derive(Drop)]

@@ -21,8 +21,7 @@ fn free_record(log: &mut [u8], r: u32, next: u32)
     requires { (length log.old ≡ log_size) × ((1 ≤ r) × ((r ≤ record_count) × (next < 65536))) }
     ensures { log.new ≡ with_record log.old r (over (zeros record_size) links_at 2 (u16_bytes next)) }
 {
-    let blank = [0u8; Record::SIZE];
-    cell::fill(log, r, &blank, Record::NEXT_OPERATION, next);
+    cell::fill(log, r, &[0; Record::SIZE], Record::NEXT_OPERATION, next);
 }
 
 // The records of the transaction at record first become free, each with the index of the next one.

@@ -1,4 +1,4 @@
-use Rattle.std.proofs.Common.{not, sym, ap, ◌∙◌}
+use Rattle.std.proofs.Common.{sym, ap, ◌∙◌}
 use Rattle.edit_log.specs.declared.chain.Unmet.{Unmet}
 use Rattle.edit_log.proofs.BoolLaws.{so_not}
 use Rattle.edit_log.proofs.WholeLaws.{chains_many, chains_log, chains_free, chains_is}
@@ -16,7 +16,7 @@ returns-then-meet_free c =
       | then-meet_log w ↦ let ok = w.if-meet_log.true in
           let free = w.meet_free.ensures in
           let all = sym w.value-is ∙ c.if-meet_free.true in
-          c.is_empty.ensures ∙ chains_is g.transactions g.log.now g.used g.oldest g.first g.last c.if-used-gt-COUNT.false _ own.0 (ap not ok) _ (own.1 ok) _ free.0 (ap not all) _ (ap (λ (u : Unmet). u.left) w.unmet-is ∙ free.1 all)
+          c.is_empty.ensures ∙ chains_is g.transactions g.log.now g.used g.oldest g.first g.last c.if-used-gt-COUNT.false _ own.0 ok _ (own.1 ok) _ free.0 all _ (ap (λ (u : Unmet). u.left) w.unmet-is ∙ free.1 all)
       | else-meet_log w ↦ absurd (so_not _ (w.value-is ∙ w.if-meet_log.false) c.if-meet_free.true)
     ]
 
@@ -29,6 +29,6 @@ returns-else-meet_free c =
       | then-meet_log w ↦ let ok = w.if-meet_log.true in
           let free = w.meet_free.ensures in
           let none = sym w.value-is ∙ c.if-meet_free.false in
-          chains_free g.transactions g.log.now g.used g.oldest g.first g.last c.if-used-gt-COUNT.false _ own.0 (ap not ok) _ (own.1 ok) _ free.0 (ap not none)
-      | else-meet_log w ↦ chains_log g.transactions g.log.now g.used g.oldest g.first g.last c.if-used-gt-COUNT.false _ own.0 (ap not w.if-meet_log.false)
+          chains_free g.transactions g.log.now g.used g.oldest g.first g.last c.if-used-gt-COUNT.false _ own.0 ok _ (own.1 ok) _ free.0 none
+      | else-meet_log w ↦ chains_log g.transactions g.log.now g.used g.oldest g.first g.last c.if-used-gt-COUNT.false _ own.0 w.if-meet_log.false
     ]

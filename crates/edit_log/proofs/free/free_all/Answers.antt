@@ -1,19 +1,13 @@
-use Rattle.std.proofs.Common.{arith, refl, sym, ap, ◌∙◌}
+use Rattle.std.proofs.Common.{arith, sym, ap, ◌∙◌}
 use Rattle.edit_log.specs.declared.record.Record.{Record}
 use Rattle.edit_log.proofs.FreeLaws.{none_left, free_end, ending_in, size_next, ending_next, free_next, back_next, one_fewer, fewer_next, freed_is}
 use Rattle.edit_log.proofs.free.free_all.Goals as goal
-
-pub loop-r-init : goal.loop-r-init
-loop-r-init c = (c.requires.0, c.requires.1, refl, refl, omega arith, c.requires.1.few)
 
 pub at-next-requires : goal.at-next-requires
 at-next-requires c = (c.loop-r.invariant.0, ending_in c.loop-r.log c.loop-r.r (omega arith) c.loop-r.invariant.1)
 
 pub free_record-requires : goal.free_record-requires
 free_record-requires c = let i = ending_in c.loop-r.log c.loop-r.r (omega arith) c.loop-r.invariant.1 in (c.loop-r.invariant.0, (i.0, (i.1, c.at-next.ensures.1.0)))
-
-pub overflow_add-count : goal.overflow_add-count
-overflow_add-count c = let e = c.loop-r.invariant.4 in let f = c.loop-r.invariant.5 in omega arith
 
 pub loop-r-smaller : goal.loop-r-smaller
 loop-r-smaller c = fewer_next c.loop-r.log c.loop-r.r (omega arith) c.loop-r.invariant.1 c.loop-r.invariant.0 _ (ap (λ (x : Record). x.next_operation) c.at-next.ensures.0) _ c.free_record.ensures

@@ -1,9 +1,6 @@
-use Rattle.std.proofs.Common.{◌≡◌, ◌+◌, ◌-◌, arith, refl, sym, ◌∙◌}
+use Rattle.std.proofs.Common.{◌≡◌, ◌+◌, ◌-◌, arith, sym, ◌∙◌}
 use Rattle.edit_log.proofs.WalkLaws.{walk_none, walk_on, walk_here, walk_later}
 use Rattle.edit_log.proofs.walk.walk.Goals as goal
-
-pub loop-init : goal.loop-init
-loop-init c = let e : c.args.left - 0 ≡ c.args.left = omega arith in rw e (c.requires.1, refl)
 
 pub at-at-requires : goal.at-at-requires
 at-at-requires c = (c.requires.0, walk_here _ _ _ (λ e. omega arith) c.loop.invariant.0)

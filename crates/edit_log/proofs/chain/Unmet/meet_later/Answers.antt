@@ -1,10 +1,7 @@
-use Rattle.std.proofs.Common.{arith, refl, sym, ap, ◌∙◌}
+use Rattle.std.proofs.Common.{arith, sym, ap, ◌∙◌}
 use Rattle.edit_log.specs.declared.record.Record.{Record}
 use Rattle.edit_log.proofs.MeetLaws.{size_end, size_out, size_linked, size_more, size_past, met_more, met_end}
 use Rattle.edit_log.proofs.chain.Unmet.meet_later.Goals as goal
-
-pub loop-n-init : goal.loop-n-init
-loop-n-init c = (refl, refl)
 
 pub returns-then-r-eq0 : goal.returns-then-r-eq0
 returns-then-r-eq0 c = let v = c.loop-n.invariant in (omega arith, (size_end _ _ _ _ (omega arith) (omega arith) ∙ sym v.0, sym (v.1 ∙ met_end _ _ _ _ (omega arith))))

@@ -4,9 +4,6 @@ use Rattle.edit_log.proofs.BoolLaws.{never}
 use Rattle.edit_log.proofs.MeetLaws.{sized_in, log_bad, log_over, log_step, met_step, log_done, met_none}
 use Rattle.edit_log.proofs.chain.Unmet.meet_log.Goals as goal
 
-pub loop-init : goal.loop-init
-loop-init c = let e : c.args.transactions - 0 ≡ c.args.transactions = omega arith in rw e (refl, refl)
-
 pub returns-in_default : goal.returns-in_default
 returns-in_default c = (log_bad _ _ _ 0 (sym c.in_default.ensures) _ _ (omega arith) refl ∙ sym c.loop.invariant.0, λ e. never e)
 
