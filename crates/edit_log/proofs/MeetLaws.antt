@@ -1,7 +1,7 @@
 -- The records met one after the other: what the code's parts find, by what is left.
 use Prim.Native.Nat.{ℕ, zero, suc, ◌+◌, ◌-◌, ◌<◌, ◌≤◌}
 use mathlib.Core.Path.{◌≡◌, refl, sym, ap, ◌∙◌}
-use mathlib.Core.Bool.{Bool, true, false, not, cond, ◌&&◌, and-false, and-true}
+use mathlib.Core.Bool.{Bool, true, false, not, cond, ◌&&◌, and_assoc, and-false, and-true}
 use mathlib.Core.List.{List, [], ◌∷◌, ◌++◌}
 use native.Mathlib.Omega.{arith}
 use lib.ListN.{length, drop, drop_of_length-le, length-append}
@@ -73,11 +73,7 @@ met_append left (x ∷ xs) ys = met_append (met left x) xs ys
 pub left_append : (left : List Bool) (xs ys : List ℕ) → are_left left (xs ++ ys) ≡ (are_left left xs && are_left (met_each left xs) ys)
 unfolding are_left met_each
 left_append left [] ys = refl
-left_append left (x ∷ xs) ys = rw (left_append (met left x) xs ys) (group (is_left left x) (are_left (met left x) xs) (are_left (met_each (met left x) xs) ys))
-  where
-    group : (a b c : Bool) → (a && (b && c)) ≡ ((a && b) && c)
-    group true b c = refl
-    group false b c = refl
+left_append left (x ∷ xs) ys = rw (left_append (met left x) xs ys) (sym (and_assoc (is_left left x) (are_left (met left x) xs) (are_left (met_each (met left x) xs) ys)))
 
 -- the later records of a transaction, of which n have been met
 pub size_end : (n : ℕ) (log : List ℕ) (left : List Bool) (r : ℕ) → n ≤ 8 → r ≤ 0 → n ≡ size_from n log left r
@@ -107,11 +103,7 @@ module _ (n : ℕ) (log : List ℕ) (left : List Bool) (r : ℕ) (h : 0 < r) whe
 
   later_split : (is_left left r && later_form log r) ≡ (operation_left log left r && eqb (next_transaction log r) 0)
   unfolding later_form operation_left
-  later_split = group (is_left left r) (operation_fields (record_at log r)) (eqb (next_transaction log r) 0)
-    where
-      group : (a b c : Bool) → (a && (b && c)) ≡ ((a && b) && c)
-      group true b c = refl
-      group false b c = refl
+  later_split = sym (and_assoc (is_left left r) (operation_fields (record_at log r)) (eqb (next_transaction log r) 0))
 
   module _ (l : n < 9) where
     pub size_out : operation_left log left r ≡ false → 0 ≡ size_from n log left r

@@ -11,7 +11,7 @@ use carts::{bytes, operation};
 // The records, for an array with a mark for each.
 const MARKS: usize = Record::COUNT as usize;
 
-// The records that have still to be met.
+// The records that have still to be met. The log is no field: each method would have to promise that it stays.
 #[derive(Drop)]
 struct Unmet {
     left: [bool; MARKS],

@@ -50,9 +50,8 @@ pub fn retire_transaction(log: &mut [u8], oldest: u32, last: u32) -> Freed
     ensures { (log.new ≡ released log.old oldest last) × (result ≡ freed_of log.old oldest) }
 {
     let freed = free_all(log, oldest);
-    if last == 0 {
-        return freed;
+    if last != 0 {
+        cell::put(log, last, Record::NEXT_OPERATION, oldest);
     }
-    cell::put(log, last, Record::NEXT_OPERATION, oldest);
     freed
 }
