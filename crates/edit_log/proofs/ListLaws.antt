@@ -1,7 +1,7 @@
 -- Chains as lists of records: each linked to the next along bytes 12–13, wherever they stand.
 use Prim.Native.Nat.{ℕ, zero, suc, ◌-◌, ◌<◌, ◌≤◌}
 use mathlib.Core.Path.{◌≡◌, refl, sym, ap, ◌∙◌}
-use mathlib.Core.Bool.{Bool, true, false, ◌&&◌}
+use mathlib.Core.Bool.{Bool, true, false, ◌&&◌, and_assoc}
 use mathlib.Core.List.{List, [], ◌∷◌, ◌++◌}
 use native.Mathlib.Omega.{arith}
 use lib.ListN.{length, take, drop, length-drop}
@@ -100,11 +100,7 @@ every_kept p p' (r ∷ rs) f h =
 pub every_append : (p : ℕ → Bool) (xs ys : List ℕ) → every p (xs ++ ys) ≡ (every p xs && every p ys)
 unfolding every
 every_append p [] ys = refl
-every_append p (x ∷ xs) ys = rw (every_append p xs ys) (group (p x) (every p xs) (every p ys))
-  where
-    group : (a b c : Bool) → (a && (b && c)) ≡ ((a && b) && c)
-    group true b c = refl
-    group false b c = refl
+every_append p (x ∷ xs) ys = rw (every_append p xs ys) (sym (and_assoc (p x) (every p xs) (every p ys)))
 
 -- two lists joined: the first ones, the last ones
 module _ (p : ℕ → Bool) (xs ys : List ℕ) (h : every p (xs ++ ys) ≡ true) where

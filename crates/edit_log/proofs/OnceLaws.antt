@@ -1,19 +1,20 @@
 -- Every record in exactly one chain: by the marks, by what occurs in a list, and for lists that are joined.
 use Prim.Native.Nat.{ℕ, zero, suc, ◌+◌, ◌-◌, ◌<◌, ◌≤◌}
 use mathlib.Core.Path.{◌≡◌, refl, sym, ap, ◌∙◌}
-use mathlib.Core.Bool.{Bool, true, ◌&&◌}
+use mathlib.Core.Bool.{Bool, true, false, not, cond, ◌&&◌}
 use mathlib.Core.List.{List, [], ◌∷◌, ◌++◌}
 use native.Mathlib.Omega.{arith}
 use native.Mathlib.Decide.{ℕ_discrete}
 use lib.ListN.{length, replicate, length-set, length-replicate, get_or-replicate}
+use Rattle.std.proofs.Common.{get_or}
 use lib.Seq.{get_or-set_same, get_or-set_other}
 use lib.Dec.{eqb}
-use borrow.Author.Tests.{eq-eqb, ne_eqb, eqb-true}
-use Rattle.carts.specs.Bytes.{byte, within, every, all_zero}
+use borrow.Author.Tests.{eq-eqb, ne_eqb, eqb-true, not-true}
+use Rattle.carts.specs.Bytes.{within, every}
 use Rattle.carts.proofs.TestLaws.{and_left, and_right, all_at, all_cons, all_nil, within_low, within_high, within_of, every_at, at_every}
 use Rattle.edit_log.specs.Log.{up_from}
 use Rattle.edit_log.specs.Chains.{count, once_each}
-use Rattle.edit_log.specs.Values.{is_left, met, met_each, are_left}
+use Rattle.edit_log.specs.Values.{is_left, met, met_each, all_met, are_left}
 use Rattle.edit_log.proofs.BoolLaws.{both_ways, and_of}
 
 -- how often a record occurs in one list before another
@@ -76,37 +77,54 @@ unfolding once_each
 of_once rs o = all_cons _ _ o.inside (all_cons _ _ (up_from_every (λ r. eqb (count r rs) 1) 1 512 (λ r a b. eq-eqb (count r rs) 1 (o.once r a (omega arith)))) all_nil)
 
 -- what is left of each record is how often it occurs in the rest
-abbrev Owed : List ℕ → List ℕ → Type 0
-Owed left rs = (q : ℕ) → 1 ≤ q → q ≤ 512 → count q rs ≡ byte left (q - 1)
+abbrev owes : List Bool → ℕ → ℕ
+owes left i = cond (get_or left i false) 1 0
 
-zero_at : (left : List ℕ) (i : ℕ) → all_zero left ≡ true → i < length left → byte left i ≡ 0
-unfolding all_zero
-zero_at left i h l = eqb-true (byte left i) 0 (every_at (λ b. eqb b 0) left 0 i h l)
+abbrev Owed : List Bool → List ℕ → Type 0
+Owed left rs = (q : ℕ) → 1 ≤ q → q ≤ 512 → count q rs ≡ owes left (q - 1)
 
-met_same : (left : List ℕ) (r : ℕ) → length left ≡ 512 → 1 ≤ r → r ≤ 512 → byte (met left r) (r - 1) ≡ 0
+zero_at : (left : List Bool) (i : ℕ) → all_met left ≡ true → i < length left → owes left i ≡ 0
+unfolding all_met
+zero_at left i h l = rw (not-true (get_or left i false) (every_at not left false i h l))
+
+at_zero : (left : List Bool) (i : ℕ) → owes left i ≡ 0 → not (get_or left i false) ≡ true
+at_zero left i h = go (get_or left i false) h
+  where
+    go : (b : Bool) → ◌≡◌ {A = ℕ} (cond b 1 0) 0 → not b ≡ true
+    go true e = let z : ⊥ = omega arith in absurd z
+    go false e = refl
+
+at_one : (left : List Bool) (i : ℕ) → owes left i ≡ 1 → get_or left i false ≡ true
+at_one left i h = go (get_or left i false) h
+  where
+    go : (b : Bool) → ◌≡◌ {A = ℕ} (cond b 1 0) 1 → b ≡ true
+    go true e = refl
+    go false e = let z : ⊥ = omega arith in absurd z
+
+met_same : (left : List Bool) (r : ℕ) → length left ≡ 512 → 1 ≤ r → r ≤ 512 → owes (met left r) (r - 1) ≡ 0
 unfolding met
-met_same left r n a b = get_or-set_same left (r - 1) 0 0 (omega arith)
+met_same left r n a b = rw (get_or-set_same left (r - 1) false false (omega arith))
 
-met_other : (left : List ℕ) (r q : ℕ) → 1 ≤ r → 1 ≤ q → (r ≡ q → ⊥) → byte (met left r) (q - 1) ≡ byte left (q - 1)
+met_other : (left : List Bool) (r q : ℕ) → 1 ≤ r → 1 ≤ q → (r ≡ q → ⊥) → owes (met left r) (q - 1) ≡ owes left (q - 1)
 unfolding met
-met_other left r q a b n = get_or-set_other left (r - 1) (q - 1) 0 0 (λ e. n (omega arith))
+met_other left r q a b n = ap (λ x. cond x 1 0) (get_or-set_other left (r - 1) (q - 1) false false (λ e. n (omega arith)))
 
-length_met : (left : List ℕ) (r : ℕ) → length left ≡ 512 → length (met left r) ≡ 512
+length_met : (left : List Bool) (r : ℕ) → length left ≡ 512 → length (met left r) ≡ 512
 unfolding met
-length_met left r n = length-set left (r - 1) 0 ∙ n
+length_met left r n = length-set left (r - 1) false ∙ n
 
-left_parts : (left : List ℕ) (r : ℕ) → is_left left r ≡ true → ((1 ≤ r) × (r ≤ 512)) × (byte left (r - 1) ≡ 1)
+left_parts : (left : List Bool) (r : ℕ) → is_left left r ≡ true → ((1 ≤ r) × (r ≤ 512)) × (owes left (r - 1) ≡ 1)
 unfolding is_left
 left_parts left r h =
-    let w = and_left (within 1 512 r) (eqb (byte left (r - 1)) 1) h in
-    ((within_low 1 512 r w, within_high 1 512 r w), eqb-true (byte left (r - 1)) 1 (and_right (within 1 512 r) (eqb (byte left (r - 1)) 1) h))
+    let w = and_left (within 1 512 r) (get_or left (r - 1) false) h in
+    ((within_low 1 512 r w, within_high 1 512 r w), rw (and_right (within 1 512 r) (get_or left (r - 1) false) h))
 
-of_left : (left : List ℕ) (r : ℕ) → within 1 512 r ≡ true → byte left (r - 1) ≡ 1 → is_left left r ≡ true
+of_left : (left : List Bool) (r : ℕ) → within 1 512 r ≡ true → owes left (r - 1) ≡ 1 → is_left left r ≡ true
 unfolding is_left
-of_left left r w e = and_of _ _ w (eq-eqb (byte left (r - 1)) 1 e)
+of_left left r w e = and_of _ _ w (at_one left (r - 1) e)
 
 -- all are met, each when it was left
-owed : (left rs : List ℕ) → length left ≡ 512 → are_left left rs ≡ true → all_zero (met_each left rs) ≡ true → (every (within 1 512) rs ≡ true) × Owed left rs
+owed : (left : List Bool) (rs : List ℕ) → length left ≡ 512 → are_left left rs ≡ true → all_met (met_each left rs) ≡ true → (every (within 1 512) rs ≡ true) × Owed left rs
 unfolding are_left met_each every count
 owed left [] n h z = (refl, λ q a b. sym (zero_at left (q - 1) z (omega arith)))
 owed left (r ∷ rs) n h z =
@@ -114,25 +132,25 @@ owed left (r ∷ rs) n h z =
     let rec = owed (met left r) rs (length_met left r n) (and_right (is_left left r) (are_left (met left r) rs) h) z in
     (and_of _ _ (within_of 1 512 r here.0.0 here.0.1) rec.0, λ q a b. go here rec.1 q a b (ℕ_discrete r q))
   where
-    go : ((1 ≤ r) × (r ≤ 512)) × (byte left (r - 1) ≡ 1) → Owed (met left r) rs → (q : ℕ) → 1 ≤ q → q ≤ 512 → Dec (r ≡ q) → count q (r ∷ rs) ≡ byte left (q - 1)
+    go : ((1 ≤ r) × (r ≤ 512)) × (owes left (r - 1) ≡ 1) → Owed (met left r) rs → (q : ℕ) → 1 ≤ q → q ≤ 512 → Dec (r ≡ q) → count q (r ∷ rs) ≡ owes left (q - 1)
     go here f q a b (yes e) =
         let x = f r here.0.0 here.0.1 in
         let y = met_same left r n here.0.0 here.0.1 in
         let w = here.1 in
         let c = count_here r rs in
-        ap (λ k. count k (r ∷ rs)) (sym e) ∙ (let d : count r (r ∷ rs) ≡ byte left (r - 1) = omega arith in d) ∙ ap (λ k. byte left (k - 1)) e
+        ap (λ k. count k (r ∷ rs)) (sym e) ∙ (let d : count r (r ∷ rs) ≡ owes left (r - 1) = omega arith in d) ∙ ap (λ k. owes left (k - 1)) e
     go here f q a b (no e) = count_other q r rs e ∙ f q a b ∙ met_other left r q here.0.0 a e
 
 -- and the other way round, where nothing is owed more than once
-of_owed : (left rs : List ℕ) → length left ≡ 512 → ((q : ℕ) → 1 ≤ q → q ≤ 512 → byte left (q - 1) ≤ 1) → every (within 1 512) rs ≡ true → Owed left rs
-    → (are_left left rs ≡ true) × (all_zero (met_each left rs) ≡ true)
-unfolding are_left met_each every all_zero
-of_owed left [] n s h f = (refl, at_every (λ b. eqb b 0) left 0 (λ i l. eq-eqb (byte left i) 0 (zero_here i l)))
+of_owed : (left : List Bool) (rs : List ℕ) → length left ≡ 512 → ((q : ℕ) → 1 ≤ q → q ≤ 512 → owes left (q - 1) ≤ 1) → every (within 1 512) rs ≡ true → Owed left rs
+    → (are_left left rs ≡ true) × (all_met (met_each left rs) ≡ true)
+unfolding are_left met_each every all_met
+of_owed left [] n s h f = (refl, at_every not left false (λ i l. at_zero left i (zero_here i l)))
   where
-    zero_here : (i : ℕ) → i < length left → byte left i ≡ 0
+    zero_here : (i : ℕ) → i < length left → owes left i ≡ 0
     zero_here i l =
         let e : suc i - 1 ≡ i = omega arith in
-        ap (byte left) (sym e) ∙ sym (f (suc i) (omega arith) (omega arith)) ∙ count_nil (suc i)
+        ap (λ k. owes left k) (sym e) ∙ sym (f (suc i) (omega arith) (omega arith)) ∙ count_nil (suc i)
 of_owed left (r ∷ rs) n s h f =
     let w = and_left (within 1 512 r) (every (within 1 512) rs) h in
     let low = within_low 1 512 r w in
@@ -140,40 +158,40 @@ of_owed left (r ∷ rs) n s h f =
     let c = count_here r rs in
     let d = f r low high in
     let e = s r low high in
-    let one : byte left (r - 1) ≡ 1 = omega arith in
+    let one : owes left (r - 1) ≡ 1 = omega arith in
     let none : count r rs ≡ 0 = omega arith in
     let same = met_same left r n low high in
     let rec = of_owed (met left r) rs (length_met left r n) (λ q a b. small low same q a b (ℕ_discrete r q)) (and_right (within 1 512 r) (every (within 1 512) rs) h) (λ q a b. rest low none same q a b (ℕ_discrete r q)) in
     (and_of _ _ (of_left left r w one) rec.0, rec.1)
   where
-    small : 1 ≤ r → byte (met left r) (r - 1) ≡ 0 → (q : ℕ) → 1 ≤ q → q ≤ 512 → Dec (r ≡ q) → byte (met left r) (q - 1) ≤ 1
+    small : 1 ≤ r → owes (met left r) (r - 1) ≡ 0 → (q : ℕ) → 1 ≤ q → q ≤ 512 → Dec (r ≡ q) → owes (met left r) (q - 1) ≤ 1
     small low same q a b (yes e) = rw (← e, same) (omega arith)
     small low same q a b (no e) = rw (met_other left r q low a e) (s q a b)
 
-    rest : 1 ≤ r → count r rs ≡ 0 → byte (met left r) (r - 1) ≡ 0 → (q : ℕ) → 1 ≤ q → q ≤ 512 → Dec (r ≡ q) → count q rs ≡ byte (met left r) (q - 1)
+    rest : 1 ≤ r → count r rs ≡ 0 → owes (met left r) (r - 1) ≡ 0 → (q : ℕ) → 1 ≤ q → q ≤ 512 → Dec (r ≡ q) → count q rs ≡ owes (met left r) (q - 1)
     rest low none same q a b (yes e) = rw (← e) (none ∙ sym same)
     rest low none same q a b (no e) = sym (count_other q r rs e) ∙ f q a b ∙ sym (met_other left r q low a e)
 
 -- the marks at the start: each record once
-pub once_left : (rs : List ℕ) → once_each rs ≡ (are_left (replicate 512 1) rs && all_zero (met_each (replicate 512 1) rs))
+pub once_left : (rs : List ℕ) → once_each rs ≡ (are_left (replicate 512 true) rs && all_met (met_each (replicate 512 true) rs))
 once_left rs = both_ways _ _ there back
   where
-    ones : List ℕ
-    ones = replicate 512 1
+    ones : List Bool
+    ones = replicate 512 true
 
     many : length ones ≡ 512
-    many = length-replicate {A = ℕ} 512 1
+    many = length-replicate {A = Bool} 512 true
 
-    one : (q : ℕ) → 1 ≤ q → q ≤ 512 → byte ones (q - 1) ≡ 1
-    one q a b = get_or-replicate 512 (q - 1) 1 0 (omega arith)
+    one : (q : ℕ) → 1 ≤ q → q ≤ 512 → owes ones (q - 1) ≡ 1
+    one q a b = rw (get_or-replicate 512 (q - 1) true false (omega arith))
 
-    there : once_each rs ≡ true → (are_left ones rs && all_zero (met_each ones rs)) ≡ true
+    there : once_each rs ≡ true → (are_left ones rs && all_met (met_each ones rs)) ≡ true
     there h =
         let o = once_of rs h in
         let p = of_owed ones rs many (λ q a b. rw (one q a b) (omega arith)) o.inside (λ q a b. o.once q a b ∙ sym (one q a b)) in
         and_of _ _ p.0 p.1
 
-    back : (are_left ones rs && all_zero (met_each ones rs)) ≡ true → once_each rs ≡ true
+    back : (are_left ones rs && all_met (met_each ones rs)) ≡ true → once_each rs ≡ true
     back h =
-        let p = owed ones rs many (and_left (are_left ones rs) (all_zero (met_each ones rs)) h) (and_right (are_left ones rs) (all_zero (met_each ones rs)) h) in
+        let p = owed ones rs many (and_left (are_left ones rs) (all_met (met_each ones rs)) h) (and_right (are_left ones rs) (all_met (met_each ones rs)) h) in
         of_once rs (record { inside = p.0; once = λ q a b. p.1 q a b ∙ one q a b })

@@ -3,10 +3,11 @@ use Prim.Native.Nat.{ℕ, zero, suc, ◌+◌, ◌-◌, ◌*◌, ◌<◌, ◌≤�
 use mathlib.Core.Path.{◌≡◌, refl, sym, ap, ◌∙◌}
 use mathlib.Core.Logic.{◌≢◌}
 use mathlib.Core.Bool.{Bool, true, false}
-use mathlib.Core.List.{List, [], ◌∷◌}
+use mathlib.Core.List.{List, [], ◌∷◌, ◌++◌}
 use native.Mathlib.Omega.{arith}
-use native.Mathlib.Nat.{add-sub_cancel_left}
-use lib.ListN.{length, take, drop}
+use lib.ListN.{length, take, drop, length-append, length-drop}
+use Rattle.std.proofs.Math.Seq.{take-append_seam, drop-append_seam}
+use Rattle.std.proofs.lemmas.List.{drop-drop}
 use lib.Dec.{eqb}
 use borrow.Author.Tests.{eqb-true, eqb-false}
 use Rattle.carts.specs.Bytes.{over, u16_bytes, within, every, parts}
@@ -117,6 +118,22 @@ pub next_front : (k : ℕ) (log : List ℕ) (after v : ℕ) → (k ≡ 0 → v �
 next_front zero log after v f g = f refl ∙ sym (ap front (none log after) ∙ front_nil)
 next_front (suc k) log after v f g = g (omega arith) ∙ sym (front_chain (suc k) log after (omega arith))
 
+-- the next of the operations, each of 80 bytes: the one at the front of what is left of s
+module _ (s : List ℕ) (i : ℕ) (op rest : List ℕ) (e : drop (80 * i) s ≡ op ++ rest) (long : length op ≡ 80) where
+  pub op_fits : 80 * i + 80 ≤ length s
+  op_fits =
+      let l : length (drop (80 * i) s) ≡ length op + length rest = ap length e ∙ length-append op rest in
+      let d : length (drop (80 * i) s) ≡ length s - 80 * i = length-drop (80 * i) s in
+      omega arith
+
+  pub op_is : op ≡ take 80 (drop (80 * i) s)
+  op_is = sym (ap (take 80) e ∙ ap (λ n. take n (op ++ rest)) (sym long) ∙ take-append_seam op rest)
+
+  pub op_rest : rest ≡ drop (80 * (i + 1)) s
+  op_rest =
+      let f : 80 * (i + 1) ≡ 80 * i + 80 = omega arith in
+      sym (ap (λ n. drop n s) f ∙ sym (drop-drop 80 (80 * i) s) ∙ ap (drop 80) e ∙ ap (λ n. drop n (op ++ rest)) (sym long) ∙ drop-append_seam op rest)
+
 -- n operations in s, of which i have been written; the next one goes to record r
 module _ (n i : ℕ) (s log : List ℕ) (r : ℕ) where
   abbrev pub ToWrite : List ℕ
@@ -144,16 +161,12 @@ module _ (n i : ℕ) (s log : List ℕ) (r : ℕ) where
     here = (take_some k log r y, take_most k log r y)
 
     module _ (size : length log ≡ 40960) (after : ℕ) (a : after ≡ next_operation log r) (v : ℕ) (last : n - i - 1 ≡ 0 → v ≡ 0) (more : 1 ≤ n - i - 1 → v ≡ after)
-        (long : length (take 80 (drop (80 * i) s)) ≡ 80) (new : List ℕ) (w : new ≡ over log (80 * (r - 1)) 80 (over (take (80 * i + 80 - 80 * i) (drop (80 * i) s)) 12 2 (u16_bytes v))) where
-      unfoldable op : List ℕ
-      op = take 80 (drop (80 * i) s)
-
+        (op : List ℕ) (long : length op ≡ 80) (is_op : op ≡ take 80 (drop (80 * i) s)) (new : List ℕ) (w : new ≡ over log (80 * (r - 1)) 80 (over op 12 2 (u16_bytes v))) where
       is_new_law : new ≡ with_record log r (linked_to v op)
-      unfolding with_record op
-      is_new_law = w ∙ rw add-sub_cancel_left
+      unfolding with_record
+      is_new_law = w
 
       same : (q : ℕ) → 1 ≤ q → q ≢ r → record_at new q ≡ record_at log q
-      unfolding op
       same q l ne = ap (λ z. record_at z q) is_new_law ∙ record_other log size r here.0 here.1 (linked_to v op) (length_linked v op long) q l ne
 
       is_front : v ≡ front (chain k log (next_operation log r))
@@ -162,7 +175,7 @@ module _ (n i : ℕ) (s log : List ℕ) (r : ℕ) where
           next_front k log (next_operation log r) v (λ z. last (e ∙ z)) (λ z. more (omega arith) ∙ a)
 
       pub write_next : ToWrite ≡ write_all (chain k new after) (parts 80 k (drop (80 * (i + 1)) s)) new
-      unfolding write_all op
+      unfolding write_all
       write_next = s1 ∙ s2 ∙ ap (write_all rest ps) (sym is_new_law) ∙ ap (λ z. write_all z ps new) (sym (ap (chain k new) a ∙ later_chain k log r y new same))
         where
           rest : List ℕ
@@ -171,8 +184,8 @@ module _ (n i : ℕ) (s log : List ℕ) (r : ℕ) where
           ps : List (List ℕ)
           ps = parts 80 k (drop (80 * (i + 1)) s)
 
-          parts_k : parts 80 (suc k) (drop (80 * i) s) ≡ take 80 (drop (80 * i) s) ∷ ps
-          parts_k = ap (λ z. parts 80 z (drop (80 * i) s)) (sym fewer) ∙ parts_next 80 n i s h
+          parts_k : parts 80 (suc k) (drop (80 * i) s) ≡ op ∷ ps
+          parts_k = ap (λ z. parts 80 z (drop (80 * i) s)) (sym fewer) ∙ parts_next 80 n i s h ∙ ap (λ z. z ∷ ps) (sym is_op)
 
           s1 : ToWrite ≡ write_all (r ∷ rest) (op ∷ ps) log
           s1 = rw (fewer, chain_cons k log r here.0, parts_k)

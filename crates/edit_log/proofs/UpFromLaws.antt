@@ -122,36 +122,36 @@ fresh_chains = rw (joined_none [] refl, front_nil, first, last) at (of_holds fre
     last : back 0 (up_from 1 512) ≡ 512
     last = let e = back_up_from 0 1 512 (omega arith) in omega arith
 
--- setup's loop: r records are free, the others zero
+-- setup's loop: the records before r are free, the others zero
 abbrev pub Blank : ℕ → List ℕ → Type 0
-Blank r log = (q : ℕ) → r < q → q ≤ 512 → record_at log q ≡ zeros 80
+Blank r log = (q : ℕ) → r ≤ q → q ≤ 512 → record_at log q ≡ zeros 80
 
-pub blank_start : (log : List ℕ) → log ≡ zeros 40960 → Blank 0 log
+pub blank_start : (log : List ℕ) → log ≡ zeros 40960 → Blank 1 log
 unfolding record_at
 blank_start log e q low high = ap (λ (s : List ℕ). part s (80 * (q - 1)) 80) e ∙ part_zeros 40960 (80 * (q - 1)) 80 (omega arith)
 
 module _ (r : ℕ) (log : List ℕ) where
   abbrev pub ToFree : List ℕ
-  ToFree = write_all (up_from (r + 1) (512 - r)) (replicate (512 - r) (zeros 80)) log
+  ToFree = write_all (up_from r (513 - r)) (replicate (513 - r) (zeros 80)) log
 
-  pub free_done : 512 ≤ r → ToFree ≡ log
+  pub free_done : 513 ≤ r → ToFree ≡ log
   unfolding up_from write_all
-  free_done h = let e : 512 - r ≡ 0 = omega arith in rw e
+  free_done h = let e : 513 - r ≡ 0 = omega arith in rw e
 
-  -- the next record gets its link
-  module _ (size : length log ≡ 40960) (h : r < 512) (blank : Blank r log) (next : ℕ) (new : List ℕ) (w : new ≡ with_record log (r + 1) (over (record_at log (r + 1)) 12 2 (u16_bytes next))) where
-    written : new ≡ with_record log (r + 1) (over (zeros 80) 12 2 (u16_bytes next))
-    written = w ∙ ap (λ (x : List ℕ). with_record log (r + 1) (over x 12 2 (u16_bytes next))) (blank (r + 1) (omega arith) (omega arith))
+  -- record r gets its link
+  module _ (size : length log ≡ 40960) (low : 1 ≤ r) (h : r ≤ 512) (blank : Blank r log) (next : ℕ) (new : List ℕ) (w : new ≡ with_record log r (over (record_at log r) 12 2 (u16_bytes next))) where
+    written : new ≡ with_record log r (over (zeros 80) 12 2 (u16_bytes next))
+    written = w ∙ ap (λ (x : List ℕ). with_record log r (over x 12 2 (u16_bytes next))) (blank r (omega arith) h)
 
-    pub free_one : next ≡ front (up_from (r + 1 + 1) (512 - (r + 1))) → ToFree ≡ write_all (up_from (r + 1 + 1) (512 - (r + 1))) (replicate (512 - (r + 1)) (zeros 80)) new
+    pub free_one : next ≡ front (up_from (r + 1) (512 - r)) → ToFree ≡ write_all (up_from (r + 1) (513 - (r + 1))) (replicate (513 - (r + 1)) (zeros 80)) new
     unfolding up_from write_all
-    free_one q = let e : 512 - r ≡ suc (512 - (r + 1)) = omega arith in rw (e, written, q)
+    free_one q = let e : 513 - r ≡ suc (512 - r) = omega arith in let f : 513 - (r + 1) ≡ 512 - r = omega arith in rw (e, f, written, q)
 
     pub blank_one : Blank (r + 1) new
-    blank_one q low high = ap (λ (s : List ℕ). record_at s q) written
-        ∙ record_other log size (r + 1) (omega arith) (omega arith) _ (length_linked next (zeros 80) (length_zeros 80)) q (omega arith) (λ e. omega arith) ∙ blank q (omega arith) high
+    blank_one q from high = ap (λ (s : List ℕ). record_at s q) written
+        ∙ record_other log size r low h _ (length_linked next (zeros 80) (length_zeros 80)) q (omega arith) (λ e. omega arith) ∙ blank q (omega arith) high
 
-pub fresh_start : (log : List ℕ) → log ≡ zeros 40960 → fresh_log ≡ ToFree 0 log
+pub fresh_start : (log : List ℕ) → log ≡ zeros 40960 → fresh_log ≡ ToFree 1 log
 unfolding fresh_log
 fresh_start log e = rw (length_up_from 1 512, e)
 

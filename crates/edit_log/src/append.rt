@@ -13,10 +13,7 @@ fn next_operation(after: u32, left: usize) -> u32
     requires { after < 65536 }
     ensures { (left ≡ 0 → result ≡ 0) × ((1 ≤ left → result ≡ after) × (result < 65536)) }
 {
-    if left == 0 {
-        return 0;
-    }
-    after
+    if left == 0 { 0 } else { after }
 }
 
 // Each operation is written to its record, along the free chain from record `first` on, with the index of the next one: the free record
@@ -27,20 +24,11 @@ fn write_all(log: &mut [u8], first: u32, ops: &[u8]) -> u32
 {
     let count = ops.len() / Record::SIZE;
     let mut r = first;
-    let mut i = 0;
-    while i < count {
-        let links = Record::at(log, r);
-        let start = Record::SIZE * i;
-        let next = next_operation(links.next_operation, count - i - 1);
-        cell::fill(
-            log,
-            r,
-            &ops[start..start + Record::SIZE],
-            Record::NEXT_OPERATION,
-            next,
-        );
-        r = links.next_operation;
-        i += 1;
+    for (i, op) in ops.chunks_exact(Record::SIZE).enumerate() {
+        let after = Record::at(log, r).next_operation;
+        let next = next_operation(after, count - i - 1);
+        cell::fill(log, r, op, Record::NEXT_OPERATION, next);
+        r = after;
     }
     r
 }

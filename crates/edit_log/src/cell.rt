@@ -12,7 +12,7 @@ fn store(dst: &mut [u8], x: &[u8], at: usize, v: u32)
     requires at_bound { (at + 2 ≤ record_size) × (v < 65536) }
     ensures { dst.new ≡ over x.now at 2 (u16_bytes v) }
 {
-    bytes::copy_all(dst, x);
+    dst.copy_from_slice(x);
     bytes::put_u16(dst, at, v);
 }
 

@@ -1,99 +1,128 @@
-// The test of the log's two chains: one pass along each, and a byte for each record, 1 until the record is met.
-ghost use Rattle.std.specs.Prelude.{◌≡◌, true, ℕ, ◌+◌, ◌*◌, ◌-◌, ◌<◌, ◌≤◌, length};
+// The test of the log's two chains: one pass along each, and a mark for each record, true until the record is met.
+ghost use Rattle.std.specs.Prelude.{◌≡◌, true, false, ℕ, ◌+◌, ◌*◌, ◌-◌, ◌<◌, ◌≤◌, length, MatchOption};
 ghost use Rattle.edit_log.specs.Log.{record_size, record_count, log_size, most_operations, records_of, chain, log_records, free_records};
 ghost use Rattle.edit_log.specs.Chains.{free_form, chains_form};
-ghost use Rattle.edit_log.specs.Values.{is_left, met, met_each, operation_left, size_from, size_of, log_test, free_test};
+ghost use Rattle.edit_log.specs.Values.{is_left, met, met_each, all_met, operation_left, links_of, size_from, size_of, log_test, free_test};
 
 use crate::record;
 use crate::record::Record;
 use carts::{bytes, operation};
 
-// The records, for an array of as many bytes.
-const MARKS: usize = 512;
+// The records, for an array with a mark for each.
+const MARKS: usize = Record::COUNT as usize;
 
-// Record r is met, if it is one of the 512 and has not been met before.
-fn meet(left: &mut [u8], r: u32) -> bool
-    requires { length left.old ≡ record_count }
-    ensures { (result ≡ is_left left.old r) × (result ≡ true → left.new ≡ met left.old r) }
-{
-    if !bytes::is_within(1, Record::COUNT, r) {
-        return false;
-    }
-    let at = r as usize - 1;
-    let here = left[at];
-    left[at] = 0;
-    here == 1
+// The records that have still to be met. The log is no field: each method would have to promise that it stays.
+#[derive(Drop)]
+struct Unmet {
+    left: [bool; MARKS],
 }
 
-// Record r is met, and holds an operation.
-fn meet_operation(log: &[u8], left: &mut [u8], r: u32) -> bool
-    requires { (length log.now ≡ log_size) × (length left.old ≡ record_count) }
-    ensures { (result ≡ operation_left log.now left.old r) × (result ≡ true → left.new ≡ met left.old r) }
-{
-    if !meet(left, r) {
-        return false;
-    }
-    operation::has_fields(record::record_at(log, r))
-}
-
-// The records of a transaction after its first are met, from record `next` on: how many it has with the first; 0 where they are not of the layout.
-fn meet_later(log: &[u8], left: &mut [u8], next: u32) -> u32
-    requires { (length log.now ≡ log_size) × (length left.old ≡ record_count) }
-    ensures { (result ≡ size_from 1 log.now left.old next) × (1 ≤ result → left.new ≡ met_each left.old (chain most_operations log.now next)) }
-{
-    let mut r = next;
-    let mut n: u32 = 1;
-    while 0 < r {
-        if n == Record::MOST {
-            return 0;
-        }
-        if !meet_operation(log, left, r) {
-            return 0;
-        }
-        let links = Record::at(log, r);
-        if 0 < links.next_transaction {
-            return 0;
-        }
-        r = links.next_operation;
-        n += 1;
-    }
-    n
-}
-
-// The records of the transaction at record first are met: how many it has; 0 where they are not of the layout.
-fn meet_transaction(log: &[u8], left: &mut [u8], first: u32) -> u32
-    requires { (length log.now ≡ log_size) × (length left.old ≡ record_count) }
-    ensures { (result ≡ size_of log.now left.old first) × (1 ≤ result → left.new ≡ met_each left.old (records_of log.now first)) }
-{
-    if !meet_operation(log, left, first) {
-        return 0;
-    }
-    let links = Record::at(log, first);
-    meet_later(log, left, links.next_operation)
-}
-
-// The log's chain has exactly `transactions` transactions, from record `oldest` on, and `used` records, which are met.
-fn meet_log(log: &[u8], left: &mut [u8], transactions: u32, used: u32, oldest: u32) -> bool
-    requires { (length log.now ≡ log_size) × (length left.old ≡ record_count) }
-    ensures { (result ≡ log_test transactions log.now left.old oldest used) × (result ≡ true → left.new ≡ met_each left.old (log_records transactions log.now oldest)) }
-{
-    let mut first = oldest;
-    let mut room = used;
-    let mut to_go = transactions;
-    while 0 < to_go {
-        let n = meet_transaction(log, left, first);
-        if n == 0 {
+impl Unmet {
+    // Record r is met, if it is one of the 512 and has not been met before.
+    fn meet(&mut self, r: u32) -> bool
+        ensures { (result ≡ is_left self.old.left r) × (result ≡ true → self.new.left ≡ met self.old.left r) }
+    {
+        if !bytes::is_within(1, Record::COUNT, r) {
             return false;
         }
-        if room < n {
-            return false;
-        }
-        let links = Record::at(log, first);
-        first = links.next_transaction;
-        room -= n;
-        to_go -= 1;
+        let at = r as usize - 1;
+        let here = self.left[at];
+        self.left[at] = false;
+        here
     }
-    (first == 0) & (room == 0)
+
+    // Record r is met, and holds an operation: its links.
+    fn meet_operation(&mut self, log: &[u8], r: u32) -> Option<Record>
+        requires { length log.now ≡ log_size }
+        ensures { MatchOption result (operation_left log.now self.old.left r ≡ false) (λ links. (operation_left log.now self.old.left r ≡ true) × ((links ≡ links_of log.now r) × (self.new.left ≡ met self.old.left r))) }
+    {
+        if !self.meet(r) {
+            return None;
+        }
+        if !operation::has_fields(record::record_at(log, r)) {
+            return None;
+        }
+        Some(Record::at(log, r))
+    }
+
+    // The records of a transaction after its first are met, from record `next` on: how many it has with the first.
+    fn meet_later(&mut self, log: &[u8], next: u32) -> Option<u32>
+        requires { length log.now ≡ log_size }
+        ensures { MatchOption result (size_from 1 log.now self.old.left next ≡ 0) (λ n. (1 ≤ n) × ((n ≡ size_from 1 log.now self.old.left next) × (self.new.left ≡ met_each self.old.left (chain most_operations log.now next)))) }
+    {
+        let mut r = next;
+        for n in 1..=Record::MOST {
+            if r == 0 {
+                return Some(n);
+            }
+            let links = self.meet_operation(log, r)?;
+            if links.next_transaction != 0 {
+                return None;
+            }
+            r = links.next_operation;
+        }
+        None
+    }
+
+    // The records of the transaction at record first are met: how many it has.
+    fn meet_transaction(&mut self, log: &[u8], first: u32) -> Option<u32>
+        requires { length log.now ≡ log_size }
+        ensures { MatchOption result (size_of log.now self.old.left first ≡ 0) (λ n. (1 ≤ n) × ((n ≡ size_of log.now self.old.left first) × (self.new.left ≡ met_each self.old.left (records_of log.now first)))) }
+    {
+        let links = self.meet_operation(log, first)?;
+        self.meet_later(log, links.next_operation)
+    }
+
+    // The log's chain has exactly `transactions` transactions, from record `oldest` on, and `used` records, which are met.
+    fn meet_log(&mut self, log: &[u8], transactions: u32, used: u32, oldest: u32) -> bool
+        requires { length log.now ≡ log_size }
+        ensures { (result ≡ log_test transactions log.now self.old.left oldest used) × (result ≡ true → self.new.left ≡ met_each self.old.left (log_records transactions log.now oldest)) }
+    {
+        let mut first = oldest;
+        let mut room = used;
+        for _ in 0..transactions {
+            let Some(n) = self.meet_transaction(log, first) else {
+                return false;
+            };
+            if room < n {
+                return false;
+            }
+            room -= n;
+            first = Record::at(log, first).next_transaction;
+        }
+        (first == 0) & (room == 0)
+    }
+
+    // The free chain goes from record first to record last and has the records that are not used, which are met.
+    fn meet_free(&mut self, log: &[u8], used: u32, first: u32, last: u32) -> bool
+        requires { (length log.now ≡ log_size) × (used ≤ record_count) }
+        ensures { (result ≡ free_test log.now self.old.left (free_records log.now first) (record_count - used) 0 last) × (result ≡ true → self.new.left ≡ met_each self.old.left (free_records log.now first)) }
+    {
+        let mut r = first;
+        let mut before: u32 = 0;
+        for _ in used..Record::COUNT {
+            if !self.meet(r) {
+                return false;
+            }
+            if !is_free(record::record_at(log, r)) {
+                return false;
+            }
+            before = r;
+            r = Record::at(log, r).next_operation;
+        }
+        (r == 0) & (before == last)
+    }
+
+    // Every record has been met. No early exit, so that the loop vectorises.
+    fn is_empty(&self) -> bool
+        ensures { result ≡ all_met self.now.left }
+    {
+        let mut any = false;
+        for left in &self.left {
+            any |= *left;
+        }
+        !any
+    }
 }
 
 // A record is zero but for bytes 12-13.
@@ -103,29 +132,6 @@ fn is_free(x: &[u8]) -> bool
 {
     bytes::all_zero(&x[0..Record::NEXT_OPERATION])
         & bytes::all_zero(&x[Record::NEXT_TRANSACTION..Record::SIZE])
-}
-
-// The free chain goes from record first to record last and has the records that are not used, which are met.
-fn meet_free(log: &[u8], left: &mut [u8], used: u32, first: u32, last: u32) -> bool
-    requires { (length log.now ≡ log_size) × ((length left.old ≡ record_count) × (used ≤ record_count)) }
-    ensures { (result ≡ free_test log.now left.old (free_records log.now first) (record_count - used) 0 last) × (result ≡ true → left.new ≡ met_each left.old (free_records log.now first)) }
-{
-    let mut r = first;
-    let mut before: u32 = 0;
-    let mut to_go = Record::COUNT - used;
-    while 0 < to_go {
-        if !meet(left, r) {
-            return false;
-        }
-        if !is_free(record::record_at(log, r)) {
-            return false;
-        }
-        let links = Record::at(log, r);
-        before = r;
-        r = links.next_operation;
-        to_go -= 1;
-    }
-    (r == 0) & (before == last)
 }
 
 // Every record is in exactly one of the two chains, and each chain ends.
@@ -143,12 +149,10 @@ pub fn are_chains(
     if Record::COUNT < used {
         return false;
     }
-    let mut left = [1u8; MARKS];
-    if !meet_log(log, &mut left, transactions, used, oldest) {
-        return false;
-    }
-    if !meet_free(log, &mut left, used, first, last) {
-        return false;
-    }
-    bytes::all_zero(&left)
+    let mut unmet = Unmet {
+        left: [true; MARKS],
+    };
+    unmet.meet_log(log, transactions, used, oldest)
+        && unmet.meet_free(log, used, first, last)
+        && unmet.is_empty()
 }

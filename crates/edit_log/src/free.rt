@@ -21,8 +21,7 @@ fn free_record(log: &mut [u8], r: u32, next: u32)
     requires { (length log.old ≡ log_size) × ((1 ≤ r) × ((r ≤ record_count) × (next < 65536))) }
     ensures { log.new ≡ with_record log.old r (over (zeros record_size) links_at 2 (u16_bytes next)) }
 {
-    let blank = [0u8; Record::SIZE];
-    cell::fill(log, r, &blank, Record::NEXT_OPERATION, next);
+    cell::fill(log, r, &[0; Record::SIZE], Record::NEXT_OPERATION, next);
 }
 
 // The records of the transaction at record first become free, each with the index of the next one.
@@ -31,20 +30,17 @@ fn free_all(log: &mut [u8], first: u32) -> Freed
     ensures { (log.new ≡ free_all (records_of log.old first) log.old) × (result ≡ freed_of log.old first) }
 {
     let mut r = first;
-    let mut last: u32 = 0;
-    let mut count: u32 = 0;
-    while 0 < r {
-        let links = Record::at(log, r);
-        let next = links.next_operation;
+    let mut last = 0;
+    let mut count = 0;
+    // A `while`: the records say where the chain ends, and it has as many as there are.
+    while r != 0 {
+        let next = Record::at(log, r).next_operation;
         free_record(log, r, next);
         last = r;
         r = next;
         count += 1;
     }
-    Freed {
-        count: count,
-        last: last,
-    }
+    Freed { count, last }
 }
 
 // The records of the transaction at record oldest join the free chain, whose last record is last, 0 for none; the last of them is its new last record.
@@ -54,9 +50,8 @@ pub fn retire_transaction(log: &mut [u8], oldest: u32, last: u32) -> Freed
     ensures { (log.new ≡ released log.old oldest last) × (result ≡ freed_of log.old oldest) }
 {
     let freed = free_all(log, oldest);
-    if last == 0 {
-        return freed;
+    if last != 0 {
+        cell::put(log, last, Record::NEXT_OPERATION, oldest);
     }
-    cell::put(log, last, Record::NEXT_OPERATION, oldest);
     freed
 }

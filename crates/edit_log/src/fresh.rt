@@ -12,10 +12,7 @@ fn next_free(r: u32) -> u32
     requires { r ≤ record_count }
     ensures { (result ≡ front (up_from (r + 1) (record_count - r))) × (result ≤ record_count) }
 {
-    if r == Record::COUNT {
-        return 0;
-    }
-    r + 1
+    if r == Record::COUNT { 0 } else { r + 1 }
 }
 
 // Every record becomes free.
@@ -24,10 +21,7 @@ pub fn make_fresh(log: &mut [u8])
     ensures { log.new ≡ fresh_log }
 {
     bytes::clear(log);
-    let mut r: u32 = 0;
-    while r < Record::COUNT {
-        r += 1;
-        let next = next_free(r);
-        cell::put(log, r, Record::NEXT_OPERATION, next);
+    for r in 1..=Record::COUNT {
+        cell::put(log, r, Record::NEXT_OPERATION, next_free(r));
     }
 }

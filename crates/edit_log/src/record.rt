@@ -6,6 +6,7 @@ ghost use Rattle.edit_log.specs.Values.{links_of};
 use carts::bytes;
 
 // A record's links, as a value: the next operation of its transaction, and in a first record the next transaction; 0 for none.
+// Numbers and no Option: the definition links_of, which the theorems of crates above cite, has the two u16 as they are stored.
 #[derive(Clone, Copy)]
 pub struct Record {
     pub next_operation: u32,

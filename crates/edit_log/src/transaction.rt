@@ -18,17 +18,14 @@ pub fn try_transaction(copy: &mut [u8], log: &[u8], first: u32) -> bool
 {
     let mut ok = true;
     let mut r = first;
-    let mut left = Record::TOO_MANY;
-    while 0 < left {
+    for _ in 0..Record::TOO_MANY {
         if r == 0 {
             return ok;
         }
         let op = record::record_at(log, r);
         ok &= operation::meets(copy, op);
         operation::apply(copy, op);
-        let links = Record::at(log, r);
-        r = links.next_operation;
-        left -= 1;
+        r = Record::at(log, r).next_operation;
     }
     ok
 }

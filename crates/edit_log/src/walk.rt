@@ -5,17 +5,17 @@ ghost use Rattle.edit_log.specs.Values.{walkable};
 
 use crate::record::Record;
 
-// The first record of the transaction `left` further on than the one at record r: one fewer to go at each call.
-// The log is passed by a reference to the slice: each call passes the same one on, and the compiler makes a loop of them.
+// The first record of the transaction `left` further on than the one at record r.
+// Its log stays a `&&[u8]`: a public function keeps its signature.
 pub fn walk(log: &&[u8], left: u32, r: u32) -> u32
     requires { (length log.now.now ≡ log_size) × (walkable left log.now.now r ≡ true) }
     ensures { result ≡ walk left log.now.now r }
 {
-    if left == 0 {
-        return r;
+    let mut at = r;
+    for _ in 0..left {
+        at = Record::at(*log, at).next_transaction;
     }
-    let links = Record::at(*log, r);
-    walk(log, left - 1, links.next_transaction)
+    at
 }
 
 // The same, for a log that is not passed on.
