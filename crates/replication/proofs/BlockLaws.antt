@@ -3,15 +3,12 @@ use Prim.Native.Nat.{ℕ, ◌+◌, ◌<◌, ◌≤◌}
 use mathlib.Core.Path.{◌≡◌, refl, sym, ap, ◌∙◌}
 use mathlib.Core.Bool.{Bool, true, false, cond}
 use mathlib.Core.List.{List, [], ◌∷◌}
-use mathlib.Core.Logic.{⊎_elim}
 use native.Mathlib.Omega.{arith}
 use lib.Dec.{leb}
 use borrow.Author.Tests.{le-leb, lt-leb}
-use types.Run.{OneOf}
-use denote.Enum.Declared.{tag_of}
-use Rattle.replication.specs.declared.answer.ReadAnswer.{ReadAnswer}
-use Rattle.replication.specs.declared.answer.ReadAnswer.TheVariants.{Answered, Waits, Refused}
-use Rattle.replication.specs.contracts.answer.ReadAnswer.{the_type}
+use Rattle.std.specs.Prelude.{Result, Ok}
+use Rattle.replication.specs.declared.answer.Reading.{Reading}
+use Rattle.replication.specs.declared.answer.Reading.TheVariants.{Answered, Waits}
 use Rattle.carts.proofs.TestLaws.{cond_both}
 use Rattle.replication.specs.Answer.{Answer, read_answer, refused, done, waits, answered}
 use Rattle.replication.specs.Memory.{Memory, copy_at, session_at, with_session, sequence_of, with_sequence, nth, studio_of}
@@ -64,11 +61,9 @@ pub answered_waits : (state found n : ℕ) → answered state found ≡ waits n 
 unfolding wait_number
 answered_waits state found n e = let z : 0 ≡ n + 1 = ap wait_number e in absurd (omega arith)
 
-pub not_waits : (r : ReadAnswer) → OneOf (0 ∷ 2 ∷ []) (tag_of the_type r) → (n : ℕ) → read_answer r ≡ waits n → ⊥
-unfolding wait_number
+pub not_waits : (r : Reading) → ((k : ℕ) → r ≡ Waits k → ⊥) → (n : ℕ) → read_answer (Ok r) ≡ waits n → ⊥
 not_waits (Answered state found) k n e = answered_waits state found n e
-not_waits (Waits j) k n e = ⊎_elim (λ q. omega arith) (λ q. omega arith) k
-not_waits (Refused j) k n e = let z : 0 ≡ n + 1 = ap wait_number e in absurd (omega arith)
+not_waits (Waits j) k n e = k j refl
 
 -- a wait that changes nothing
 abbrev pub waits_in : Control → Memory → ℕ → List ℕ → After
