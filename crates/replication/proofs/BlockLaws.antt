@@ -6,11 +6,8 @@ use mathlib.Core.List.{List, [], ◌∷◌}
 use native.Mathlib.Omega.{arith}
 use lib.Dec.{leb}
 use borrow.Author.Tests.{le-leb, lt-leb}
-use Rattle.std.specs.Prelude.{Result, Ok}
-use Rattle.replication.specs.declared.answer.Reading.{Reading}
-use Rattle.replication.specs.declared.answer.Reading.TheVariants.{Answered, Waits}
 use Rattle.carts.proofs.TestLaws.{cond_both}
-use Rattle.replication.specs.Answer.{Answer, read_answer, refused, done, waits, answered}
+use Rattle.replication.specs.Answer.{Answer, refused, done, waits, answered}
 use Rattle.replication.specs.Memory.{Memory, copy_at, session_at, with_session, sequence_of, with_sequence, nth, studio_of}
 use Rattle.replication.specs.Request.{Request}
 use Rattle.replication.specs.Calls.{After, after, with_sessions, number_after, answer_from, block_by, block}
@@ -53,17 +50,9 @@ wait_number (done k) = 0
 wait_number (waits k) = k + 1
 wait_number (answered k l) = 0
 
-pub wait_small : (k n : ℕ) → k < 65536 → waits k ≡ waits n → n < 65536
-unfolding wait_number
-wait_small k n h e = let z : k + 1 ≡ n + 1 = ap wait_number e in omega arith
-
 pub answered_waits : (state found n : ℕ) → answered state found ≡ waits n → ⊥
 unfolding wait_number
 answered_waits state found n e = let z : 0 ≡ n + 1 = ap wait_number e in absurd (omega arith)
-
-pub not_waits : (r : Reading) → ((k : ℕ) → r ≡ Waits k → ⊥) → (n : ℕ) → read_answer (Ok r) ≡ waits n → ⊥
-not_waits (Answered state found) k n e = answered_waits state found n e
-not_waits (Waits j) k n e = k j refl
 
 -- a wait that changes nothing
 abbrev pub waits_in : Control → Memory → ℕ → List ℕ → After
