@@ -2,7 +2,6 @@
 use mathlib.Core.Path.{◌≡◌}
 use mathlib.Core.Bool.{true, ◌&&◌}
 use Prim.Native.Nat.{◌-◌}
-use lib.ListN.{length}
 use Rattle.carts.specs.Bytes.{every}
 use Rattle.edit_log.specs.Log.{log_records}
 use Rattle.edit_log.specs.Values.{usable, walkable}
@@ -14,7 +13,6 @@ abbrev pub invariant-loop-n : goal.invariant-loop-n
 invariant-loop-n l =
     let k = l.system.control in let library = l.system.library.now in let log = l.system.log.now in
     record {
-      size : length l.copy ≡ 10240;
       walks : walkable (k.commits - l.n) log l.r ≡ true;
       acts : every (usable log) (log_records (k.commits - l.n) log l.r) ≡ true;
       left : (are_level k library l.fn.copy k.retired && whole_from k library log (log_count k) k.retired k.oldest l.fn.copy)
