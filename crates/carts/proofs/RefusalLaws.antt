@@ -1,6 +1,8 @@
--- A refusal's number is none of an accepted call.
+-- Laws of a refusal's number.
 use Prim.Native.Nat.{ℕ}
-use mathlib.Core.Path.{◌≡◌}
+use mathlib.Core.Bool.{false}
+use mathlib.Core.Path.{◌≡◌, refl}
+use lib.Dec.{eqb}
 use native.Mathlib.Omega.{arith}
 use Rattle.carts.specs.Refusal.{refusal_number}
 use Rattle.carts.specs.declared.refusal.Refusal.{Refusal}
@@ -31,3 +33,29 @@ refuses NotRetirable e = omega arith
 refuses RetiredEdit e = omega arith
 refuses FileForm e = omega arith
 refuses LongTitle e = omega arith
+
+-- 8 is the number of WrongState alone
+pub other_than_8 : (r : Refusal) → (r ≡ WrongState → ⊥) → eqb (refusal_number r) 8 ≡ false
+other_than_8 Length n = refl
+other_than_8 Layout n = refl
+other_than_8 NoSuchPlace n = refl
+other_than_8 ReadWaits n = refl
+other_than_8 OperationCount n = refl
+other_than_8 OperationForm n = refl
+other_than_8 NoRoom n = refl
+other_than_8 WrongState n = absurd (n refl)
+other_than_8 AllSent n = refl
+other_than_8 WindowFull n = refl
+other_than_8 AllApplied n = refl
+other_than_8 RequestForm n = refl
+other_than_8 ShortOutput n = refl
+other_than_8 NothingWaits n = refl
+other_than_8 SetupForm n = refl
+other_than_8 SpacedTitle n = refl
+other_than_8 NoMessage n = refl
+other_than_8 NotNext n = refl
+other_than_8 OtherCopy n = refl
+other_than_8 NotRetirable n = refl
+other_than_8 RetiredEdit n = refl
+other_than_8 FileForm n = refl
+other_than_8 LongTitle n = refl
