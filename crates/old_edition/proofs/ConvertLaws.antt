@@ -1,10 +1,11 @@
 -- Laws of the two conversions: what stops them, and what they leave.
-use Prim.Native.Nat.{ℕ, ◌≤◌}
-use mathlib.Core.Path.{◌≡◌, sym, ap, ◌∙◌}
+use Prim.Native.Nat.{ℕ, zero, suc, ◌≤◌}
+use mathlib.Core.Path.{◌≡◌, refl, sym, ap, ◌∙◌}
 use mathlib.Core.Bool.{Bool, true, false, not, ◌&&◌, and-true}
 use mathlib.Core.List.{List, [], ◌∷◌, ◌++◌, append-nil}
 use native.Mathlib.Omega.{arith}
-use lib.Dec.{eqb}
+use lib.Dec.{eqb, eqb-zero-suc, eqb-suc-zero, eqb-suc-suc}
+use lib.Pointwise.{pointwise}
 use lib.ListN.{length, take, drop, get_or, length-drop, drop_of_length-le}
 use lib.Seq.{take_all}
 use borrow.Author.Tests.{eq-eqb, ne_eqb, eqb-true, not-false}
@@ -15,6 +16,20 @@ use Rattle.carts.proofs.TestLaws.{all_at, all_fails, all_nil, all_cons}
 use Rattle.carts.proofs.RowLaws.{row_stops, row_passes, passed, unless_stopped, unless_accepted}
 use Rattle.old_edition.specs.OldFile.{mark, old_cart_form, file_form}
 use Rattle.old_edition.specs.Convert.{After, after, refused, refusal, each_cart, widened, copy_of, long_title, from_old_rows, to_old_rows}
+
+-- the library's comparison takes the two lists the other way round
+eqb-sym : (a b : ℕ) → eqb a b ≡ eqb b a
+eqb-sym zero zero = refl
+eqb-sym zero (suc b) = eqb-zero-suc b ∙ sym (eqb-suc-zero b)
+eqb-sym (suc a) zero = eqb-suc-zero a ∙ sym (eqb-zero-suc a)
+eqb-sym (suc a) (suc b) = eqb-suc-suc a b ∙ eqb-sym a b ∙ sym (eqb-suc-suc b a)
+
+pub begins_with : (xs ys : List ℕ) → pointwise eqb xs ys ≡ pairwise eqb ys xs
+unfolding pairwise
+begins_with [] [] = refl
+begins_with [] (y ∷ ys) = refl
+begins_with (x ∷ xs) [] = refl
+begins_with (x ∷ xs) (y ∷ ys) = rw (eqb-sym x y, begins_with xs ys)
 
 -- row 22: one of its tests fails, or all of them pass
 pub form_fails : (n : ℕ) (bs : List Bool) (rs : List Row) → get_or bs n true ≡ false → 22 ≡ stopped (row 22 (not (all bs)) ∷ rs)

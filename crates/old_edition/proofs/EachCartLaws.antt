@@ -37,6 +37,28 @@ take_put out at n ys h e =
     let l : length (take at out ++ ys) ≡ at + n = rw (length-append, length-take-le at out h, e) in
     rw (← append_assoc (take at out) ys (drop n (drop at out))) (take_at (take at out ++ ys) (drop n (drop at out)) (at + n) l)
 
+-- a chunk that an iterator over s gives after i others: it is the part at its place, what is left begins after it, and s has that much
+pub record NextChunk (size i : ℕ) (s x later : List ℕ) : Type 0 where
+  pub here : x ≡ take size (drop (size * i) s)
+  pub left : later ≡ drop (size * (i + 1)) s
+  pub room : size * i + size ≤ length s
+
+pub next_chunk : (size i : ℕ) (s x later : List ℕ) {rest : List ℕ} → 0 < size → rest ≡ drop (size * i) s → rest ≡ x ++ later → length x ≡ size → NextChunk size i s x later
+next_chunk size i s x later h place given l =
+    let e : drop (size * i) s ≡ x ++ later = sym place ∙ given in
+    let n : length s - size * i ≡ length x + length later = sym (length-drop (size * i) s) ∙ ap length e ∙ length-append x later in
+    record {
+      here = sym (ap (take size) e ∙ take_at x later size l);
+      left = sym (sym (drop_next size i s) ∙ ap (drop size) e ∙ drop_at x later size l);
+      room = omega arith;
+    }
+
+-- and where too little is left for one
+pub chunks_end : (size i : ℕ) (s : List ℕ) {rest : List ℕ} → rest ≡ drop (size * i) s → length rest < size → length s < size * i + size
+chunks_end size i s place h =
+    let e : length s - size * i < size = rw (place, length-drop) at h in
+    omega arith
+
 -- a turn of a loop that converts carts, and its end: i of n carts of `size` bytes are converted to `place` bytes each
 module _ (f : List ℕ → List ℕ) (size place n i : ℕ) (s out : List ℕ) where
   each_cart_next : i < n → each_cart f size (n - i) (drop (size * i) s) ≡ f (take size (drop (size * i) s)) ++ each_cart f size (n - (i + 1)) (drop (size * (i + 1)) s)
