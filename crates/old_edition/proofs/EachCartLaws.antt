@@ -6,7 +6,7 @@ use mathlib.Core.List.{List, [], ◌∷◌, ◌++◌, append_assoc, append-nil}
 use native.Mathlib.Omega.{arith}
 use native.Mathlib.Nat.{mul-suc, mul-zero}
 use native.Mathlib.Numerals.{add-one}
-use lib.ListN.{length, take, drop, get_or, length-append, length-drop, take-append-drop}
+use lib.ListN.{length, take, drop, get_or, length-append, length-drop, take-append-drop, drop_of_length-le}
 use lib.Seq.{take_all, take_at, drop_at, length-take-le}
 use Rattle.carts.specs.Bytes.{part, over, any}
 use Rattle.carts.proofs.TestLaws.{any_at}
@@ -58,6 +58,12 @@ pub chunks_end : (size i : ℕ) (s : List ℕ) {rest : List ℕ} → rest ≡ dr
 chunks_end size i s place h =
     let e : length s - size * i < size = rw (place, length-drop) at h in
     omega arith
+
+-- a list, and others put in the place of what stands after it
+pub put_ends : (ys r zs : List ℕ) (k : ℕ) → length ys ≡ k → over (ys ++ r) k (length (ys ++ r) - k) zs ≡ ys ++ zs
+put_ends ys r zs k e =
+    let n : length r ≤ length (ys ++ r) - k = rw length-append (omega arith) in
+    rw (take_at ys r k e, drop_at ys r k e, drop_of_length-le r n, append-nil zs)
 
 -- a turn of a loop that converts carts, and its end: i of n carts of `size` bytes are converted to `place` bytes each
 module _ (f : List ℕ → List ℕ) (size place n i : ℕ) (s out : List ℕ) where

@@ -46,7 +46,7 @@ pub fn from_old(file: &[u8], copy: &mut [u8]) -> Result<u32, Refusal>
     ensures { after (convert_answer result) copy.new ≡ from_old file.now copy.old }
 {
     decide_from_old(file, copy.len())?;
-    file::put_copy(copy, &file[file::CARTS_AT..file::SIZE]);
+    file::put_copy(copy, &file[file::CARTS_AT..]);
     Ok(Cart::COPY_SIZE as u32)
 }
 

@@ -7,7 +7,6 @@ ghost use Rattle.old_edition.specs.Convert.{widened, narrowed, each_cart, file_o
 
 use crate::old_cart;
 use carts::cart::Cart;
-use carts::bytes;
 
 pub const SIZE: usize = 6150;
 
@@ -43,7 +42,7 @@ pub fn is_file(file: &[u8]) -> bool
     if file.len() != SIZE {
         return false;
     }
-    has_mark(file) & are_old_carts(&file[CARTS_AT..SIZE])
+    has_mark(file) & are_old_carts(&file[CARTS_AT..])
 }
 
 // Some cart of a copy has a title that an old cart has no room for.
@@ -53,7 +52,7 @@ pub fn has_long_title(copy: &[u8]) -> bool
 {
     let mut found = false;
     for cart in copy.chunks_exact(Cart::SIZE) {
-        found |= old_cart::TITLE_LONGEST < cart[1];
+        found |= old_cart::is_long_title(cart);
     }
     found
 }
@@ -85,6 +84,6 @@ pub fn put_file(file: &mut [u8], copy: &[u8])
     requires { (length file.old ≡ file_size) × (length copy.now ≡ copy_size) }
     ensures { file.new ≡ file_of copy.now }
 {
-    bytes::copy_all(&mut file[0..CARTS_AT], &MARK);
-    put_carts(&mut file[CARTS_AT..SIZE], copy);
+    file[..CARTS_AT].copy_from_slice(&MARK);
+    put_carts(&mut file[CARTS_AT..], copy);
 }

@@ -1,4 +1,4 @@
-use Rattle.std.proofs.Common.{◌≡◌, ◌&&◌, ◌+◌, length, arith, ap, ◌∙◌}
+use Rattle.std.proofs.Common.{◌&&◌, ◌+◌, arith, ap, ◌∙◌}
 use Rattle.std.specs.Iterator.Adapters.{enumerate_count}
 use Rattle.carts.proofs.RecordLaws.{each_more, each_done}
 use Rattle.old_edition.specs.OldFile.{old_cart_form}
@@ -15,8 +15,11 @@ loop-i-preserved c =
     let step = c.in-Some.ensures.steps in
     let chunk = next_chunk 48 k carts cart _ (omega arith) known.1 step.0.1.0 (step.0.1.1 ∙ known.0) in
     let form = c.is_old_cart-ok.ensures ∙ ap (λ i. old_cart_form (i + 1) cart) step.1 ∙ ap (old_cart_form (k + 1)) chunk.here in
-    rw step.2 (step.0.0 ∙ known.0, chunk.left,
-    each_more old_cart_form 48 128 k (k + 1) carts ok (omega arith) known.2 (ap (λ b. ok && b) form))
+    rw step.2 (
+      step.0.0 ∙ known.0,
+      chunk.left,
+      each_more old_cart_form 48 128 k (k + 1) carts ok (omega arith) known.2 (ap (λ b. ok && b) form),
+    )
 
 pub returns : goal.returns
 returns c =

@@ -1,4 +1,4 @@
-use Rattle.std.proofs.Common.{◌≡◌, ◌∙◌}
+use Rattle.std.proofs.Common.{◌∙◌}
 use Rattle.old_edition.proofs.ConvertLaws.{begins_with}
 use Rattle.old_edition.specs.OldFile.{mark}
 use Rattle.old_edition.proofs.file.has_mark.Goals as goal

@@ -1,4 +1,4 @@
-use Rattle.std.proofs.Common.{◌≡◌, ◌+◌, length, arith, ap, ◌∙◌}
+use Rattle.std.proofs.Common.{◌≡◌, length, arith, ap, ◌∙◌}
 use native.Mathlib.Nat.{add-sub_cancel_left}
 use Rattle.std.specs.Iterator.Adapters.{enumerate_count}
 use Rattle.old_edition.specs.Convert.{narrowed}
@@ -18,8 +18,11 @@ loop-i-preserved c =
     let chunk = next_chunk 80 k copy cart _ (omega arith) known.1 step.0.1.0 size in
     let place = c.put_narrow.new.place in
     let whole : length place ≡ 48 = ap length c.put_narrow.ensures ∙ length_narrowed cart size in
-    rw (step.2, step.1, add-sub_cancel_left) (step.0.0 ∙ known.0, chunk.left,
-    put_more narrowed 80 48 128 k copy carts place (omega arith) (omega arith) whole (c.put_narrow.ensures ∙ ap narrowed chunk.here) known.2)
+    rw (step.2, step.1, add-sub_cancel_left) (
+      step.0.0 ∙ known.0,
+      chunk.left,
+      put_more narrowed 80 48 128 k copy carts place (omega arith) (omega arith) whole (c.put_narrow.ensures ∙ ap narrowed chunk.here) known.2,
+    )
 
 pub returns : goal.returns
 returns c =

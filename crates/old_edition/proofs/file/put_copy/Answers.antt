@@ -1,4 +1,4 @@
-use Rattle.std.proofs.Common.{◌≡◌, ◌+◌, length, arith, ap, ◌∙◌}
+use Rattle.std.proofs.Common.{◌≡◌, length, arith, ap, ◌∙◌}
 use native.Mathlib.Nat.{add-sub_cancel_left}
 use Rattle.std.specs.Iterator.Adapters.{enumerate_count}
 use Rattle.old_edition.specs.Convert.{widened}
@@ -18,8 +18,11 @@ loop-i-preserved c =
     let chunk = next_chunk 48 k carts cart _ (omega arith) known.1 step.0.1.0 size in
     let place = c.put_wide.new.place in
     let whole : length place ≡ 80 = ap length c.put_wide.ensures ∙ length_widened cart size in
-    rw (step.2, step.1, add-sub_cancel_left) (step.0.0 ∙ known.0, chunk.left,
-    put_more widened 48 80 128 k carts copy place (omega arith) (omega arith) whole (c.put_wide.ensures ∙ ap widened chunk.here) known.2)
+    rw (step.2, step.1, add-sub_cancel_left) (
+      step.0.0 ∙ known.0,
+      chunk.left,
+      put_more widened 48 80 128 k carts copy place (omega arith) (omega arith) whole (c.put_wide.ensures ∙ ap widened chunk.here) known.2,
+    )
 
 pub returns : goal.returns
 returns c =
