@@ -1,13 +1,13 @@
 -- The words that stand for an answer, and what a call leaves through them.
-use mathlib.Core.Path.{◌≡◌, refl, sym, ap, ◌∙◌}
+use mathlib.Core.Path.{◌≡◌, refl, ap, ◌∙◌}
 use mathlib.Core.List.{List}
 use Prim.Native.Nat.{ℕ}
-use borrow.Author.Tests.{eq-eqb, ne_eqb}
+use borrow.Author.Tests.{ne_eqb}
 use Rattle.std.specs.Prelude.{Result, Ok, Err}
 use Rattle.carts.specs.Refusal.{refusal_number, stop_number}
 use Rattle.carts.specs.declared.refusal.Refusal.{Refusal}
 use Rattle.carts.proofs.RefusalLaws.{refuses}
-use Rattle.replication.specs.Answer.{Answer, refused, done, waits, answered, count_answer, setup_answer, read_answer}
+use Rattle.replication.specs.Answer.{Answer, refused, done, waits, answered, setup_answer}
 use Rattle.replication.specs.Memory.{Memory}
 use Rattle.replication.specs.Calls.{After, after}
 use Rattle.replication.specs.Rows.{stopped, memory_rows}
@@ -15,7 +15,7 @@ use Rattle.replication.specs.declared.control.Control.{Control}
 use Rattle.van.specs.Answer as Van
 use Rattle.van.specs.Answer.{receive_answer}
 use Rattle.van.specs.Receive as Received
-use Rattle.sulyobak.specs.Words.{words, words_of, answer_by, left, left_by, layout_words}
+use Rattle.sulyobak.specs.Words.{words_of, answer_by, left, left_by, layout_words}
 use Rattle.old_edition.specs.Convert as Old
 use Rattle.old_edition.specs.Convert.{convert_answer}
 use Rattle.sulyobak.specs.VanWords.{van_words_of, van_answer_by, van_left, van_left_by}
@@ -57,4 +57,3 @@ old_words_tell (Old.written n) = refl
 
 pub old_crosses : (w : Words) (a : Old.Answer) (out : List ℕ) (x : Old.After) → Old.after a out ≡ x → w ≡ old_words_of a → old_left w out ≡ old_left_by x
 old_crosses w a out x e f = ap (λ (v : Words). old_left v out) f ∙ ap old_left_by e
-

@@ -1,6 +1,6 @@
 // The engine for C and Rust: include/sulyobak.h says the same to C. Each function passes its arguments on and hands the answer back as
 // words; no test is left to the caller.
-#![tactic(auto)]
+#![tactic(auto, using(crate::proofs::WordLaws::crosses, crate::proofs::WordLaws::old_crosses, crate::proofs::WordLaws::van_crosses, crate::proofs::WordLaws::layout_words_law))]
 
 ghost use Rattle.std.specs.Prelude.{◌≡◌, []};
 ghost use Rattle.replication.specs.Memory.{memory};

@@ -99,10 +99,10 @@ impl From<Result<u32, Refusal>> for Words {
     ghost from_gives = { λ answer given. given ≡ old_words_of (convert_answer answer) };
 
     fn from(answer: Result<u32, Refusal>) -> Words {
-        let control = Control::new(0, [0; 16], 0, 0);
+        let nothing = Control::new(0, [0; 16], 0, 0);
         match answer {
-            Ok(n) => Words::new(Words::DONE, n, control),
-            Err(refusal) => Words::refused(refusal, control),
+            Ok(n) => Words::new(Words::DONE, n, nothing),
+            Err(refusal) => Words::refused(refusal, nothing),
         }
     }
 }
