@@ -1,6 +1,5 @@
 // An answer as it passes to C: three words, and control. specs/Words.antt gives the words of each answer.
 ghost use Rattle.std.specs.Prelude.{◌≡◌};
-ghost use Rattle.carts.specs.Refusal.{refusal_number};
 ghost use Rattle.replication.specs.Answer.{setup_answer, count_answer, read_answer};
 ghost use Rattle.old_edition.specs.Convert.{convert_answer};
 ghost use Rattle.sulyobak.specs.OldWords.{old_words_of};
@@ -42,13 +41,6 @@ impl Words {
             control,
         }
     }
-
-    // A refused call.
-    fn refused(refusal: Refusal, control: Control) -> Words
-        ensures { result ≡ words 0 (refusal_number refusal) 0 control }
-    {
-        Words::new(Words::REFUSED, refusal.number(), control)
-    }
 }
 
 // Setup's answer, and the layout test's.
@@ -58,7 +50,7 @@ impl From<SetupResult> for Words {
     fn from(reply: SetupResult) -> Words {
         match reply.answer {
             Ok(()) => Words::new(Words::DONE, 0, reply.control),
-            Err(refusal) => Words::refused(refusal, reply.control),
+            Err(refusal) => Words::new(Words::REFUSED, refusal.number(), reply.control),
         }
     }
 }
@@ -70,7 +62,7 @@ impl From<CountResult> for Words {
     fn from(reply: CountResult) -> Words {
         match reply.answer {
             Ok(n) => Words::new(Words::DONE, n, reply.control),
-            Err(refusal) => Words::refused(refusal, reply.control),
+            Err(refusal) => Words::new(Words::REFUSED, refusal.number(), reply.control),
         }
     }
 }
@@ -89,7 +81,7 @@ impl From<ReadResult> for Words {
                 control,
             },
             Ok(Reading::Waits(n)) => Words::new(Words::WAITS, n, control),
-            Err(refusal) => Words::refused(refusal, control),
+            Err(refusal) => Words::new(Words::REFUSED, refusal.number(), control),
         }
     }
 }
@@ -102,7 +94,7 @@ impl From<Result<u32, Refusal>> for Words {
         let nothing = Control::new(0, [0; 16], 0, 0);
         match answer {
             Ok(n) => Words::new(Words::DONE, n, nothing),
-            Err(refusal) => Words::refused(refusal, nothing),
+            Err(refusal) => Words::new(Words::REFUSED, refusal.number(), nothing),
         }
     }
 }

@@ -9,4 +9,4 @@ returns-in-Ok c = rw c.in-Ok.is (c.new.ensures ∙ ap (words 1 _ 0) c.new-nothin
 
 pub returns-in-Err : goal.returns-in-Err
 unfolding zeros
-returns-in-Err c = rw c.in-Err.is (c.refused.ensures ∙ ap (words 0 _ 0) c.new-nothing.ensures)
+returns-in-Err c = rw (c.in-Err.is, ← c.number.ensures.0) (c.new-in-Err.ensures ∙ ap (words 0 _ 0) c.new-nothing.ensures)
