@@ -5,4 +5,5 @@ pub mod bytes;
 pub mod cart;
 pub mod kind;
 pub mod operation;
+pub mod refusal;
 pub mod titles;

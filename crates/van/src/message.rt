@@ -43,7 +43,7 @@ pub fn is_message(message: &[u8]) -> bool
     if !is_head(message) {
         return false;
     }
-    operation::all_operations(&message[HEAD_SIZE..message.len()])
+    operation::all_operations(&message[HEAD_SIZE..])
 }
 
 // The first four bytes of the message of transaction n, of so many operations.

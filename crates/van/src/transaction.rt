@@ -17,16 +17,13 @@ pub fn count_operations(log: &[u8], first: u32) -> u32
     ensures { result ≡ length (records_of log.now first) }
 {
     let mut r = first;
-    let mut n: u32 = 0;
-    while n < Record::TOO_MANY {
+    for n in 0..Record::TOO_MANY {
         if r == 0 {
             return n;
         }
-        let links = Record::at(log, r);
-        r = links.next_operation;
-        n += 1;
+        r = Record::at(log, r).next_operation;
     }
-    n
+    Record::TOO_MANY
 }
 
 // A record's operation as it was handed in: its links are zero again.
@@ -40,19 +37,15 @@ fn put_operation(place: &mut [u8], stored: &[u8])
 
 // The operations of the transaction whose first record is `first`, one after the other: `places` has room for them and no more.
 pub fn put_operations(places: &mut [u8], log: &[u8], first: u32)
-    requires log_len { (length log.now ≡ log_size) × (every (usable log.now) (records_of log.now first) ≡ true) }
-    requires places_len { length places.old ≡ cart_size * length (records_of log.now first) }
+    requires chain { (length log.now ≡ log_size) × (every (usable log.now) (records_of log.now first) ≡ true) }
+    requires room { length places.old ≡ cart_size * length (records_of log.now first) }
     ensures { places.new ≡ joined (map handed_in (transaction_at log.now first)) }
 {
-    let count = places.len() / Cart::SIZE;
     let mut r = first;
-    let mut i = 0;
-    while i < count {
+    for i in 0..places.len() / Cart::SIZE {
         let start = Cart::SIZE * i;
         let end = start + Cart::SIZE;
         put_operation(&mut places[start..end], record::record_at(log, r));
-        let links = Record::at(log, r);
-        r = links.next_operation;
-        i += 1;
+        r = Record::at(log, r).next_operation;
     }
 }

@@ -1,6 +1,8 @@
 // The writer at the head end: the message of a committed transaction.
 ghost use Rattle.std.specs.Prelude.{◌≡◌, not, [], ◌∷◌, ◌++◌};
 ghost use Rattle.carts.specs.Bytes.{within};
+ghost use Rattle.carts.specs.Refusal.{stop_number};
+ghost use Rattle.replication.specs.System.{memory_of};
 ghost use Rattle.replication.specs.Answer.{count_answer};
 ghost use Rattle.replication.specs.Memory.{memory};
 ghost use Rattle.replication.specs.Rows.{row, stopped, memory_rows};
@@ -9,32 +11,25 @@ ghost use Rattle.replication.specs.Calls.{after, write};
 use crate::{message, transaction};
 use carts::bytes;
 use carts::cart::Cart;
-use replication::answer::{CountAnswer, CountResult};
+use carts::refusal::Refusal;
+use replication::answer::{CountResult, Reply};
 use replication::control::Control;
+use replication::system::System;
 use replication::{rows, walk};
 
-// Rows 1, 2 and 21, and of row 17 what it says of the number: the number of the row that stops the writer, or 0.
-fn stopped_by_number(
-    control: Control,
-    library: &[u8],
-    log: &[u8],
-    sessions: &[u8],
-    number: u32,
-) -> u32
-    ensures { result ≡ stopped (memory_rows control (memory library.now log.now sessions.now)
-        ++ (row 21 (within 1 control.retired number) ∷ row 17 (not (within 1 control.commits number)) ∷ [])) }
+// Rows 1, 2 and 21, and of row 17 what it says of the number: the row that stops the writer, if any.
+fn stopped_by_number(system: System, number: u32) -> Result<(), Refusal>
+    ensures { stop_number result ≡ stopped (memory_rows system.entry.control (memory_of system.entry)
+        ++ (row 21 (within 1 system.entry.control.retired number) ∷ row 17 (not (within 1 system.entry.control.commits number)) ∷ [])) }
 {
-    let by_memory = rows::stopped_by_memory(control, library, log, sessions);
-    if by_memory != 0 {
-        return by_memory;
+    rows::stopped_by_memory(system)?;
+    if bytes::is_within(1, system.control.retired, number) {
+        return Err(Refusal::RetiredEdit);
     }
-    if bytes::is_within(1, control.retired, number) {
-        return 21;
+    if !bytes::is_within(1, system.control.commits, number) {
+        return Err(Refusal::NoMessage);
     }
-    if !bytes::is_within(1, control.commits, number) {
-        return 17;
-    }
-    0
+    Ok(())
 }
 
 // Document 02's writer (S-6, with row 21 of S-9): the message of transaction `number` at output's start. Memory is only read.
@@ -49,10 +44,15 @@ pub fn write(
     ensures { after (count_answer result.answer) result.control (memory library.now log.now sessions.now) output.new
         ≡ write control (memory library.now log.now sessions.now) number output.old }
 {
-    let stopped = stopped_by_number(control, library, log, sessions, number);
-    if stopped != 0 {
-        return CountResult {
-            answer: CountAnswer::Refused(stopped),
+    let system = System {
+        control,
+        library,
+        log,
+        sessions,
+    };
+    if let Err(refusal) = stopped_by_number(system, number) {
+        return Reply {
+            answer: Err(refusal),
             control,
         };
     }
@@ -60,15 +60,15 @@ pub fn write(
     let count = transaction::count_operations(log, first);
     let size = message::HEAD_SIZE + Cart::SIZE * (count as usize);
     if output.len() < size {
-        return CountResult {
-            answer: CountAnswer::Refused(17),
+        return Reply {
+            answer: Err(Refusal::NoMessage),
             control,
         };
     }
     message::put_head(output, number, count);
     transaction::put_operations(&mut output[message::HEAD_SIZE..size], log, first);
-    CountResult {
-        answer: CountAnswer::Number(size as u32),
+    Reply {
+        answer: Ok(size as u32),
         control,
     }
 }
