@@ -58,6 +58,7 @@ pub fn has_long_title(copy: &[u8]) -> bool
 }
 
 // The copy becomes that of the carts of a file.
+// Tried: zip with chunks_exact_mut, after which a proof knows the copy's length and no byte of it.
 pub fn put_copy(copy: &mut [u8], carts: &[u8])
     requires { (length copy.old ≡ copy_size) × (length carts.now ≡ old_cart_size * cart_count) }
     ensures { copy.new ≡ each_cart widened old_cart_size cart_count carts.now }
@@ -68,7 +69,7 @@ pub fn put_copy(copy: &mut [u8], carts: &[u8])
     }
 }
 
-// The carts of a file become those of a copy.
+// The carts of a file become those of a copy, by index as in put_copy.
 fn put_carts(carts: &mut [u8], copy: &[u8])
     requires { (length carts.old ≡ old_cart_size * cart_count) × (length copy.now ≡ copy_size) }
     ensures { carts.new ≡ each_cart narrowed cart_size cart_count copy.now }

@@ -31,7 +31,6 @@ pub fn is_old_cart(old: &[u8], c: u32) -> bool
 }
 
 // A place of ours becomes an old cart's: the same bytes, then zeros.
-#[tactic(auto, unfolding(crate::specs::Convert::widened, carts::specs::Bytes::zeros))]
 pub fn put_wide(place: &mut [u8], old: &[u8])
     requires { (length place.old ≡ cart_size) × (length old.now ≡ old_cart_size) }
     ensures { place.new ≡ widened old.now }
