@@ -1,19 +1,17 @@
--- Laws of the texts on a page: numbers in base ten, counts and titles.
+-- Laws of the texts on a page: a line as it is shown, and numbers in base ten.
 use Prim.Native.Nat.{ℕ, zero, suc, ◌+◌, ◌-◌, ◌*◌, ◌/◌, ◌%◌, ◌^◌, ◌<◌, ◌≤◌}
-use mathlib.Core.Path.{◌≡◌, refl, ap, ◌∙◌}
+use mathlib.Core.Path.{◌≡◌, refl}
 use mathlib.Core.Bool.{Bool, true, false, cond}
-use mathlib.Core.List.{List, [], ◌∷◌, ◌++◌, append-nil}
+use mathlib.Core.List.{List, [], ◌∷◌, ◌++◌}
 use native.Mathlib.Omega.{arith}
-use lib.ListN.{length, take, drop, length-append, length-take, length-drop}
+use lib.ListN.{length, length-append}
 use native.Mathlib.Numerals.{add-one}
-use lib.Dec.{ltb, leb}
-use borrow.Author.Tests.{lt-ltb, le-ltb, ltb-false, eq-eqb, ne_eqb}
+use lib.Dec.{ltb}
+use borrow.Author.Tests.{lt-ltb, le-ltb, ltb-false}
 use Rattle.io.specs.Digits.{last_digits, IsDigitCount}
 use Rattle.std.proofs.Math.Nat.{pow-succ'}
-use Rattle.words.specs.Page.{digits_of, decimal, count_of, one_of, shown_byte, shown_to}
+use Rattle.words.specs.Page.{digits_of, decimal, shown_byte, shown_to}
 use Rattle.carts.specs.Bytes.{byte}
-use Rattle.lines.specs.Words.{bytes_of}
-use Rattle.lines.specs.Text.{part_in}
 
 -- one byte more of a line as it is shown
 pub shown_more : (s : List ℕ) (i : ℕ) → shown_to s (i + 1) ≡ shown_to s i ++ shown_byte (byte s i)
@@ -76,29 +74,3 @@ decimal_few n h = digits_few 20 9 n (omega arith)
 pub decimal_long : (n : ℕ) → n < 100000000000000000000 → length (decimal n) ≤ 20
 unfolding decimal
 decimal_long n h = digits_few 20 19 n (omega arith)
-
--- a count of one thing, and of none or more
-pub count_one : (n : ℕ) (thing : List ℕ) → n ≡ 1 → count_of n thing ≡ decimal n ++ bytes_of " " ++ thing
-unfolding count_of
-count_one n thing e = rw (eq-eqb n 1 e) (append-nil (decimal n ++ bytes_of " " ++ thing))
-
-pub count_more : (n : ℕ) (thing : List ℕ) → (n ≡ 1 → ⊥) → count_of n thing ≡ decimal n ++ bytes_of " " ++ thing ++ bytes_of "s"
-unfolding count_of
-count_more n thing e = rw (ne_eqb n 1 e)
-
--- a part is not longer than the whole
-pub part_fits : (s : List ℕ) (at n : ℕ) → length (part_in s at n) ≤ length s
-part_fits s at n = fits (leb (at + n) (length s))
-  where
-    fits : (b : Bool) → length (cond b (take n (drop at s)) []) ≤ length s
-    fits true = simp (length-take, length-drop) (omega arith)
-    fits false = omega arith
-
--- row m + k of a table, by the four rows from m on
-pub of_four : (f : ℕ → List ℕ) (m n k : ℕ) → n ≡ m + k → k < 4 → f n ≡ one_of k (f m) (f (m + 1)) (f (m + 2)) (f (m + 3))
-unfolding one_of
-of_four f m n zero e h = ap f (e ∙ omega arith)
-of_four f m n (suc zero) e h = ap f e
-of_four f m n (suc (suc zero)) e h = ap f e
-of_four f m n (suc (suc (suc zero))) e h = ap f e
-of_four f m n (suc (suc (suc (suc k)))) e h = absurd (omega arith)

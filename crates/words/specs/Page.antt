@@ -30,10 +30,6 @@ count_of n thing = decimal n ++ bytes_of " " ++ thing ++ cond (eqb n 1) [] (byte
 unfoldable pub quoted : List ℕ → List ℕ
 quoted letters = bytes_of "\"" ++ letters ++ bytes_of "\""
 
--- text k of four, counted from 0; the last where k is more than 2
-unfoldable pub one_of : ℕ → List ℕ → List ℕ → List ℕ → List ℕ → List ℕ
-one_of k a b c d = cond (eqb k 0) a (cond (eqb k 1) b (cond (eqb k 2) c d))
-
 -- a byte as it is shown: a printable one and a tab as they are, any other by its number in base 16
 unfoldable pub hex_digit : ℕ → ℕ
 hex_digit n = cond (ltb n 10) (48 + n) (55 + n)

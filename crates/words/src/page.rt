@@ -1,8 +1,8 @@
 // A page: text, with words and numbers put at its end.
-ghost use Rattle.std.specs.Prelude.{◌≡◌, List, [], ◌∷◌, ◌++◌, ℕ, ◌+◌, ◌≤◌, ◌<◌, length, take};
+ghost use Rattle.std.specs.Prelude.{◌≡◌, List, [], ◌++◌, ℕ, ◌+◌, ◌≤◌, ◌<◌, length, take};
 ghost use Rattle.carts.specs.Cart.{cart_size, title_at};
 ghost use Rattle.lines.specs.Text.{part_in};
-ghost use Rattle.words.specs.Page.{page_size, decimal, count_of, quoted, one_of};
+ghost use Rattle.words.specs.Page.{page_size, decimal, count_of, quoted};
 
 use carts::cart::Cart;
 use lines::text;
@@ -140,21 +140,6 @@ impl Page {
     {
         self.put(words);
         self.put_count(n, thing);
-    }
-
-    // Text k of four, counted from 0; the last where k is more than 2.
-    #[tactic(auto, unfolding(crate::specs::Page::one_of))]
-    pub fn put_one_of(&mut self, k: u32, a: &[u8], b: &[u8], c: &[u8], d: &[u8])
-        requires { (length self.old + 128 ≤ page_size) × (length a.now ≤ 128) × (length b.now ≤ 128) × (length c.now ≤ 128) × (length d.now ≤ 128) }
-        ensures text { self.new ≡ self.old ++ one_of k a.now b.now c.now d.now }
-        ensures fits { length self.new ≤ length self.old + 128 }
-    {
-        match k {
-            0 => self.put(a),
-            1 => self.put(b),
-            2 => self.put(c),
-            _ => self.put(d),
-        }
     }
 
     // A title's letters between quotes.
