@@ -8,11 +8,12 @@ use Rattle.lines.specs.declared.cursor.Cursor.{Cursor}
 use Rattle.lines.specs.declared.cursor.Mistake.{Mistake}
 use Rattle.lines.specs.declared.cursor.Quoted.{Quoted}
 use Rattle.lines.specs.declared.text.Class.TheVariants.{Digit}
-use Rattle.lines.specs.declared.text.Number.{Number}
+use Rattle.lines.specs.declared.text.NumberError.{NumberError}
+use Rattle.std.specs.Prelude.{Result}
 use Rattle.lines.specs.Text.{run_end, part_in, number_of}
 use Rattle.lines.specs.Cursor.{next_place, taken, number_at, no_title, Titled}
 
-pub number_by_parts : (s : List ℕ) (c : Cursor) (most start end : ℕ) (p : List ℕ) (n : Number) → start ≡ next_place s c → end ≡ run_end s start Digit → p ≡ part_in s start (end - start) → n ≡ number_of most p → taken c end n ≡ number_at s c most
+pub number_by_parts : (s : List ℕ) (c : Cursor) (most start end : ℕ) (p : List ℕ) (n : Result ℕ NumberError) → start ≡ next_place s c → end ≡ run_end s start Digit → p ≡ part_in s start (end - start) → n ≡ number_of most p → taken c end n ≡ number_at s c most
 unfolding number_at
 number_by_parts s c most start end p n e₁ e₂ e₃ e₄ = rw (e₄, e₃, e₂, e₁)
 

@@ -1,10 +1,10 @@
 -- Cursors over a line, and titles in it.
-use Rattle.std.specs.Prelude.{◌≡◌, Bool, true, false, cond, not, ◌&&◌, ◌||◌, List, ℕ, ◌+◌, ◌-◌, ◌<◌, ◌≤◌, length, eqb, leb, ltb}
+use Rattle.std.specs.Prelude.{◌≡◌, Bool, true, false, cond, not, ◌&&◌, ◌||◌, List, ℕ, ◌+◌, ◌-◌, ◌<◌, ◌≤◌, length, eqb, leb, ltb, Result, Ok, Err}
 use Rattle.carts.specs.Bytes.{byte, part, pairwise, every}
 use Rattle.carts.specs.Cart.{printable}
 use Rattle.lines.specs.declared.text.Class.TheVariants.{Space, Word, Digit, Other}
-use Rattle.lines.specs.declared.text.Number.{Number}
-use Rattle.lines.specs.declared.text.Number.TheVariants.{Value, Missing, TooLarge}
+use Rattle.lines.specs.declared.text.NumberError.{NumberError}
+use Rattle.lines.specs.declared.text.NumberError.TheVariants.{Missing, TooLarge}
 use Rattle.lines.specs.declared.cursor.Mistake.TheVariants.{None, NumberMissing, NumberTooLarge, TitleMissing, TitleOpen, TitleEmpty, TitleTooLong, TitleUnprintable, TooMuch}
 use Rattle.lines.specs.declared.cursor.Taken.{Taken}
 use Rattle.lines.specs.declared.cursor.Quoted.{Quoted}
@@ -49,10 +49,10 @@ past_mark s c expected m =
 abbrev pub digits_end : List ℕ → Cursor → ℕ
 digits_end s c = run_end s (next_place s c) Digit
 
-abbrev pub taken : Cursor → ℕ → Number → Taken
-taken c end (Value v) = record { value = v; cursor = moved_to c end }
-taken c end Missing = record { value = 0; cursor = stopped_by c NumberMissing }
-taken c end TooLarge = record { value = 0; cursor = stopped_by c NumberTooLarge }
+abbrev pub taken : Cursor → ℕ → Result ℕ NumberError → Taken
+taken c end (Ok v) = record { value = v; cursor = moved_to c end }
+taken c end (Err Missing) = record { value = 0; cursor = stopped_by c NumberMissing }
+taken c end (Err TooLarge) = record { value = 0; cursor = stopped_by c NumberTooLarge }
 
 unfoldable pub number_at : List ℕ → Cursor → ℕ → Taken
 number_at s c most = taken c (digits_end s c) (number_of most (part_in s (next_place s c) (digits_end s c - next_place s c)))

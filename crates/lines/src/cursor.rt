@@ -3,7 +3,7 @@ ghost use Rattle.std.specs.Prelude.{◌≡◌, ◌+◌, ◌-◌, ◌<◌, ◌≤
 ghost use Rattle.lines.specs.Cursor.{new_at, moved_to, stopped_by, next_byte, next_word, word_end, past_word, past_mark, number_at, no_title, title_at, is_over, ended_at, Titled};
 
 use crate::text;
-use crate::text::{Class, Number};
+use crate::text::{Class, NumberError};
 use carts::bytes;
 
 // What can be wrong with a line.
@@ -153,15 +153,15 @@ pub fn number(s: &[u8], c: Cursor, most: u32) -> Taken
     let start = text::run_end(s, c.at, Class::Space);
     let end = text::run_end(s, start, Class::Digit);
     match text::number_of(text::part_of(s, start, end - start), most) {
-        Number::Value(value) => Taken {
+        Ok(value) => Taken {
             value,
             cursor: c.moved(end),
         },
-        Number::Missing => Taken {
+        Err(NumberError::Missing) => Taken {
             value: 0,
             cursor: c.stopped(Mistake::NumberMissing),
         },
-        Number::TooLarge => Taken {
+        Err(NumberError::TooLarge) => Taken {
             value: 0,
             cursor: c.stopped(Mistake::NumberTooLarge),
         },
