@@ -31,9 +31,7 @@ pub enum Call {
     Unreadable { mistake: Mistake, at: usize },
 }
 
-// The largest u32, and the largest number that two bytes hold.
-const ANY: u32 = 4294967295;
-
+// The largest number that two bytes hold.
 const TWO_BYTES: u32 = 65535;
 
 // The studios of a setup's sessions, and the numbers of a read, at most.
@@ -200,7 +198,7 @@ fn number_if(c: &mut Cursor, word: &[u8], mistake: Mistake, asked: bool) -> u32
         return 0;
     }
     c.word(word, mistake);
-    c.number(ANY)
+    c.number(u32::MAX)
 }
 
 // The fields of an operation: its cart, a title and a recording where its kind has them.
@@ -269,12 +267,11 @@ fn numbers(c: &mut Cursor, most: u32, out: &mut [u32]) -> usize
 }
 
 // Setup: the number of studios, then each session's studio.
-#[tactic(auto, using(crate::proofs::ParseLaws::setup_by_parts))]
 fn setup(c: &mut Cursor, payload: &mut [u8]) -> Call
     requires { length payload.old ≡ payload_size }
     ensures { Means (setup_at c.old) payload.old payload.new result }
 {
-    let studios = c.number(ANY);
+    let studios = c.number(u32::MAX);
     c.mark(b':', Mistake::ColonMissing);
     let mut places = [0u32; STUDIOS];
     let n = numbers(c, 255, &mut places);
@@ -289,24 +286,24 @@ fn edit_call(session: u32, operations: u32, previews: bool) -> Call
     ensures { (result ≡ edit_call session operations previews) × call_fits result }
 {
     if previews {
-        return Call::Preview {
+        Call::Preview {
             session,
             operations,
-        };
-    }
-    Call::Commit {
-        session,
-        operations,
+        }
+    } else {
+        Call::Commit {
+            session,
+            operations,
+        }
     }
 }
 
 // Commit and preview: the session, then the operations.
-#[tactic(auto, using(crate::proofs::ParseLaws::edit_by_parts))]
 fn edit(c: &mut Cursor, payload: &mut [u8], previews: bool) -> Call
     requires { length payload.old ≡ payload_size }
     ensures { Means (edit_at c.old previews) payload.old payload.new result }
 {
-    let session = c.number(ANY);
+    let session = c.number(u32::MAX);
     c.mark(b':', Mistake::ColonMissing);
     let n = operations(c, payload);
     let call = edit_call(session, n as u32, previews);
@@ -324,7 +321,6 @@ fn title_request(c: &mut Cursor, request: &mut [u8])
 }
 
 // A request by numbers.
-#[tactic(auto, using(crate::proofs::ParseLaws::numbers_request))]
 fn numbers_request(c: &mut Cursor, request: &mut [u8])
     requires { length request.old ≡ cart_size }
     ensures { gathered request.new c.new ≡ numbers_request_at c.old }
@@ -349,12 +345,11 @@ fn request(c: &mut Cursor, request: &mut [u8])
 }
 
 // Read and forward: the session, then cart numbers or a title.
-#[tactic(auto, using(crate::proofs::ParseLaws::read_by_parts))]
 fn read(c: &mut Cursor, payload: &mut [u8], forwards: bool) -> Call
     requires { length payload.old ≡ payload_size }
     ensures { Means (read_at c.old forwards) payload.old payload.new result }
 {
-    let session = c.number(ANY);
+    let session = c.number(u32::MAX);
     let call = Call::Read { session, forwards };
     c.mark(b':', Mistake::ColonMissing);
     request(c, &mut payload[0..Cart::SIZE]);
@@ -366,9 +361,9 @@ fn read(c: &mut Cursor, payload: &mut [u8], forwards: bool) -> Call
 fn move_session(c: &mut Cursor) -> Call
     ensures { (result ≡ move_at c.old) × call_fits result }
 {
-    let session = c.number(ANY);
+    let session = c.number(u32::MAX);
     c.word(b"to", Mistake::ToMissing);
-    let studio = c.number(ANY);
+    let studio = c.number(u32::MAX);
     whole(c, Call::Move { session, studio })
 }
 
@@ -389,19 +384,19 @@ fn call_by(c: &mut Cursor, command: Command, payload: &mut [u8]) -> Call
         Command::Load => whole(c, Call::Load),
         Command::Retire => whole(c, Call::Retire),
         Command::Send => {
-            let studio = c.number(ANY);
+            let studio = c.number(u32::MAX);
             whole(c, Call::Send(studio))
         }
         Command::Refresh => {
-            let studio = c.number(ANY);
+            let studio = c.number(u32::MAX);
             whole(c, Call::Refresh(studio))
         }
         Command::Collect => {
-            let session = c.number(ANY);
+            let session = c.number(u32::MAX);
             whole(c, Call::Collect(session))
         }
         Command::Van => {
-            let edit = c.number(ANY);
+            let edit = c.number(u32::MAX);
             whole(c, Call::Van(edit))
         }
     }

@@ -55,9 +55,9 @@ pub fn is_in(class: Class, b: u8) -> bool
     ensures { result ≡ in_class class b }
 {
     match class {
-        Class::Space => (b == 32) | (b == 9) | (b == 13),
-        Class::Word => ((97 <= b) & (b <= 122)) | (b == 45),
-        Class::Digit => (48 <= b) & (b <= 57),
+        Class::Space => matches!(b, b' ' | b'\t' | b'\r'),
+        Class::Word => matches!(b, b'a'..=b'z' | b'-'),
+        Class::Digit => b.is_ascii_digit(),
         Class::Other(x) => b != x,
     }
 }
