@@ -2,5 +2,6 @@
 pub mod BuildLaws
 pub mod CursorLaws
 pub mod Examples
+pub mod InputLaws
 pub mod ParseLaws
 pub mod TextLaws

@@ -3,14 +3,11 @@ ghost use Rattle.std.specs.Prelude.{◌≡◌, length};
 ghost use Rattle.lines.specs.Text.{part_in};
 ghost use Rattle.lines.specs.Input.{mark_length, is_text, line_length};
 
-use crate::text;
-use crate::text::Class;
-
 // How many bytes the byte-order mark of UTF-8 takes at the start: 3, or 0 where there is none.
 pub fn mark_length(s: &[u8]) -> usize
     ensures { result ≡ mark_length s.now }
 {
-    if (text::letter(s, 0) == 239) & (text::letter(s, 1) == 187) & (text::letter(s, 2) == 191) {
+    if s.starts_with(b"\xef\xbb\xbf") {
         return 3;
     }
     0
@@ -20,31 +17,15 @@ pub fn mark_length(s: &[u8]) -> usize
 pub fn is_text(s: &[u8]) -> bool
     ensures { result ≡ is_text s.now }
 {
-    let a = text::letter(s, 0);
-    let b = text::letter(s, 1);
-    if ((a == 255) & (b == 254)) | ((a == 254) & (b == 255)) {
+    if s.starts_with(b"\xff\xfe") || s.starts_with(b"\xfe\xff") {
         return false;
     }
-    text::run_end(s, 0, Class::Other(0)) == s.len()
-}
-
-// How many bytes a line has without the return at its end.
-fn line_length(s: &[u8]) -> usize
-    ensures { result ≡ line_length s.now }
-{
-    let n = s.len();
-    if n == 0 {
-        return 0;
-    }
-    if s[n - 1] == 13 {
-        return n - 1;
-    }
-    n
+    !s.contains(&0)
 }
 
 // A line without the return at its end.
 pub fn without_return(s: &[u8]) -> &[u8]
     ensures { result.now ≡ part_in s.now 0 (line_length s.now) }
 {
-    text::part_of(s, 0, line_length(s))
+    s.strip_suffix(b"\r").unwrap_or(s)
 }
