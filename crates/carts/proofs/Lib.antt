@@ -9,6 +9,7 @@ pub mod LetterLaws
 pub mod OperationLaws
 pub mod PartLaws
 pub mod RecordLaws
+pub mod RefusalLaws
 pub mod RowLaws
 pub mod Samples
 pub mod ScanLaws

@@ -5,3 +5,4 @@ pub mod Operation
 pub mod Transaction
 pub mod Title
 pub mod Rows
+pub mod Refusal

@@ -4,4 +4,5 @@
 pub mod bytes;
 pub mod cart;
 pub mod operation;
+pub mod refusal;
 pub mod titles;

@@ -1,16 +1,16 @@
 -- Laws of send: rows 9 and 10, and an accepted send.
 use Prim.Native.Nat.{ℕ, ◌+◌, ◌-◌, ◌≤◌}
-use mathlib.Core.Path.{◌≡◌, sym, ◌∙◌}
-use mathlib.Core.List.{[]}
+use mathlib.Core.Path.{◌≡◌, refl, sym, ◌∙◌}
+use mathlib.Core.List.{[], ◌∷◌, ◌++◌}
 use native.Mathlib.Omega.{arith}
 use borrow.Author.Tests.{eq-eqb, ne_eqb}
 use Rattle.replication.specs.Answer.{refused, done}
 use Rattle.replication.specs.Memory.{Memory, nth}
-use Rattle.replication.specs.Rows.{stopped, window_rows, send_stop}
+use Rattle.replication.specs.Rows.{stopped, memory_rows, studio_row, window_rows, send_stop}
 use Rattle.replication.specs.Calls.{after, send, with_sent}
 use Rattle.replication.specs.declared.control.Control.{Control}
 use Rattle.replication.proofs.RowLaws.{unless_stopped, unless_accepted}
-use Rattle.replication.proofs.DecideLaws.{KnownStudio, accepted}
+use Rattle.replication.proofs.DecideLaws.{KnownStudio, accepted, first_formed, first_who, known_studio}
 use Rattle.replication.proofs.Accepted.{send_passed}
 use Rattle.replication.proofs.Formed.{Formed, Counts, counts_of, few}
 
@@ -34,6 +34,10 @@ studio_counts c m i f r =
     let l : c.studios ≤ 4 = few c m f in
     let high : i ≤ 4 = omega (arith, r.high) in
     ((r.low, high), counts_of c i r.high (f.counts i r.low high))
+
+-- the same, where the code has found that rows 1 to 3 do not stop the call
+pub studio_known : (c : Control) (m : Memory) (i : ℕ) → 0 ≡ stopped (memory_rows c m ++ (studio_row c.studios i ∷ [])) → ((1 ≤ i) × (i ≤ 4)) × Counts c i
+studio_known c m i e = studio_counts c m i (first_formed c m _ 0 e refl) (known_studio c.studios i (first_who c m _ 0 e refl))
 
 -- the whole call
 module _ (c : Control) (m : Memory) (i v : ℕ) (e : v ≡ send_stop c m i) where

@@ -1,44 +1,32 @@
 // What the calls answer. specs/Answer.antt gives the number and values of documents 01 and 02 for each case.
 use crate::control::Control;
+use carts::refusal::Refusal;
 
-// Setup: accepted, or refused with the row's number.
+// A read, collect or forward that is not refused: state and found; or it waits, with the session's number (never from forward).
 #[derive(Clone, Copy)]
-pub enum SetupAnswer {
-    Ready,
-    Refused(u32),
-}
-
-// Commit, preview, send, refresh and the van's writer: the commit's number (of a preview the one that it would have), sent, applied, or
-// the message's length; or refused.
-#[derive(Clone, Copy)]
-pub enum CountAnswer {
-    Number(u32),
-    Refused(u32),
-}
-
-// Read, collect and forward: state and found; waits, with the session's number (never from forward); or refused.
-#[derive(Clone, Copy)]
-pub enum ReadAnswer {
+pub enum Reading {
     Answered { state: u32, found: u32 },
     Waits(u32),
-    Refused(u32),
 }
+
+// Setup: accepted.
+pub type SetupAnswer = Result<(), Refusal>;
+
+// Commit, preview, send, refresh and the van's writer: the commit's number (of a preview the one that it would have), sent, applied, or
+// the message's length.
+pub type CountAnswer = Result<u32, Refusal>;
+
+pub type ReadAnswer = Result<Reading, Refusal>;
 
 // An answer, with control as it is handed back.
 #[derive(Clone, Copy)]
-pub struct SetupResult {
-    pub answer: SetupAnswer,
+pub struct Reply<T> {
+    pub answer: Result<T, Refusal>,
     pub control: Control,
 }
 
-#[derive(Clone, Copy)]
-pub struct CountResult {
-    pub answer: CountAnswer,
-    pub control: Control,
-}
+pub type SetupResult = Reply<()>;
 
-#[derive(Clone, Copy)]
-pub struct ReadResult {
-    pub answer: ReadAnswer,
-    pub control: Control,
-}
+pub type CountResult = Reply<u32>;
+
+pub type ReadResult = Reply<Reading>;

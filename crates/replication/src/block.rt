@@ -7,7 +7,7 @@ ghost use Rattle.replication.specs.Request.{request_of, request_fields, needed};
 ghost use Rattle.replication.specs.Calls.{after, number_after, block};
 ghost use Rattle.replication.specs.Values.{due_of, studio_source};
 
-use crate::answer::ReadAnswer;
+use crate::answer::Reading;
 use crate::control::Control;
 use crate::session::Session;
 use crate::source::Source;
@@ -71,19 +71,19 @@ pub fn block(
     asked: &[u8],
     left: &[u8],
     output: &mut [u8],
-) -> ReadAnswer
+) -> Reading
     requires library_len { (length library.now ≡ library_size) × ((length sessions.old ≡ sessions_size) × ((1 ≤ session) × (session ≤ session_count))) }
     requires bound { ((1 ≤ studio_of control session) × (studio_of control session ≤ studio_count)) × (nth control.applied (studio_of control session) < 65536) }
     requires asked_len { (length asked.now ≡ session_size) × ((request_fields asked.now ≡ true) × (needed (request_of asked.now) ≤ length output.old)) }
     requires left_len { length left.now ≡ session_size }
-    ensures by_index { (log : List ℕ) → after (read_answer result) control (memory library.now log sessions.new) output.new
+    ensures by_index { (log : List ℕ) → after (read_answer (Ok result)) control (memory library.now log sessions.new) output.new
         ≡ block control (memory library.now log sessions.old) session (request_of asked.now) left.now
         (after (waits (sequence_of (session_at sessions.old session))) control (memory library.now log sessions.old) output.old) output.old }
-    ensures by_index_2 { (n : ℕ) → read_answer result ≡ waits n → n < 65536 }
+    ensures by_index_2 { (n : ℕ) → read_answer (Ok result) ≡ waits n → n < 65536 }
 {
     let due = Due::at(control, sessions, session);
     if due.state < due.number {
-        return ReadAnswer::Waits(due.number);
+        return Reading::Waits(due.number);
     }
     let source = due.source();
     source::answer_from(source, library, sessions, session, asked, left, output)

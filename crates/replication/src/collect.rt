@@ -1,39 +1,33 @@
 // Collect: the stored read, answered where the studio's copy has reached the session's number.
 ghost use Rattle.std.specs.Prelude.{◌≡◌};
+ghost use Rattle.carts.specs.Refusal.{stop_number};
 ghost use Rattle.replication.specs.Answer.{read_answer};
 ghost use Rattle.replication.specs.Memory.{memory};
+ghost use Rattle.replication.specs.System.{memory_of};
 ghost use Rattle.replication.specs.Rows.{collect_stop};
 ghost use Rattle.replication.specs.Calls.{after, collect};
 
-use crate::answer::{ReadAnswer, ReadResult};
+use crate::answer::{ReadResult, Reply};
 use crate::control::Control;
 use crate::session::Session;
+use crate::system::System;
 use crate::{block, rows, session};
 use carts::bytes;
+use carts::refusal::Refusal;
 
-// The number of the row that stops a collect, or 0.
-pub fn decide_collect(
-    control: Control,
-    library: &[u8],
-    log: &[u8],
-    sessions: &[u8],
-    session: u32,
-    room: usize,
-) -> u32
-    ensures { result ≡ collect_stop control (memory library.now log.now sessions.now) session room }
+// The row that stops a collect, if any.
+pub fn decide_collect(system: System, session: u32, room: usize) -> Result<(), Refusal>
+    ensures { stop_number result ≡ collect_stop system.entry.control (memory_of system.entry) session room }
 {
-    let stopped = rows::stopped_by_session(control, library, log, sessions, session);
-    if stopped != 0 {
-        return stopped;
-    }
-    let own = Session::from_bytes(session::session_at(sessions, session));
+    rows::stopped_by_session(system, session)?;
+    let own = Session::from_bytes(session::session_at(system.sessions, session));
     if !own.is_waiting() {
-        return 14;
+        return Err(Refusal::NothingWaits);
     }
     if room < own.needed() {
-        return 13;
+        return Err(Refusal::ShortOutput);
     }
-    0
+    Ok(())
 }
 
 // Document 01's collect.
@@ -49,18 +43,26 @@ pub fn collect(
         ≡ collect control (memory library.now log.now sessions.old) session output.old }
 {
     let room = output.len();
-    let stopped = decide_collect(control, library, log, sessions, session, room);
-    if stopped != 0 {
-        return ReadResult {
-            answer: ReadAnswer::Refused(stopped),
+    let system = System {
+        control,
+        library,
+        log,
+        sessions,
+    };
+    if let Err(refusal) = decide_collect(system, session, room) {
+        return Reply {
+            answer: Err(refusal),
             control,
         };
     }
     let mut asked = [0u8; Session::SIZE];
     bytes::copy_all(&mut asked, session::session_at(sessions, session));
     let nothing = [0u8; Session::SIZE];
-    let answer = block::block(
+    let reading = block::block(
         control, library, sessions, session, &asked, &nothing, output,
     );
-    ReadResult { answer, control }
+    Reply {
+        answer: Ok(reading),
+        control,
+    }
 }

@@ -204,10 +204,8 @@ fn are_at_most(numbers: &[u32], most: u32) -> bool
     ensures { result ≡ every (λ i. leb i most) numbers.now }
 {
     let mut ok = true;
-    let mut j = 0;
-    while j < numbers.len() {
-        ok &= numbers[j] <= most;
-        j += 1;
+    for n in numbers {
+        ok &= *n <= most;
     }
     ok
 }

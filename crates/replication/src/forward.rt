@@ -5,11 +5,12 @@ ghost use Rattle.replication.specs.Memory.{memory, studio_count};
 ghost use Rattle.replication.specs.Calls.{after, forward};
 ghost use Rattle.replication.specs.Values.{forward_source};
 
-use crate::answer::{ReadAnswer, ReadResult};
+use crate::answer::{ReadResult, Reply};
 use crate::block::Due;
 use crate::control::Control;
 use crate::session::Session;
 use crate::source::Source;
+use crate::system::System;
 use crate::{read, session, source};
 use carts::bytes;
 
@@ -44,10 +45,15 @@ pub fn forward(
         ≡ forward control (memory library.now log.now sessions.old) session request.now output.old }
 {
     let room = output.len();
-    let stopped = read::decide_read(control, library, log, sessions, session, request, room);
-    if stopped != 0 {
-        return ReadResult {
-            answer: ReadAnswer::Refused(stopped),
+    let system = System {
+        control,
+        library,
+        log,
+        sessions,
+    };
+    if let Err(refusal) = read::decide_read(system, session, request, room) {
+        return Reply {
+            answer: Err(refusal),
             control,
         };
     }
@@ -55,6 +61,9 @@ pub fn forward(
     bytes::copy_all(&mut own, session::session_at(sessions, session));
     let due = Due::at(control, sessions, session);
     let source = source_of(control, due);
-    let answer = source::answer_from(source, library, sessions, session, request, &own, output);
-    ReadResult { answer, control }
+    let reading = source::answer_from(source, library, sessions, session, request, &own, output);
+    Reply {
+        answer: Ok(reading),
+        control,
+    }
 }

@@ -1,13 +1,15 @@
 // The test of control and the three memories: one pass over all their bytes.
 ghost use Rattle.std.specs.Prelude.{◌≡◌, length, [], ◌∷◌};
 ghost use Rattle.carts.specs.Bytes.{every, each_part};
-ghost use Rattle.replication.specs.Memory.{memory, library_size, copy_count, session_size, sessions_size, session_count};
+ghost use Rattle.replication.specs.System.{memory_of};
+ghost use Rattle.replication.specs.Memory.{library_size, copy_count, session_size, sessions_size, session_count};
 ghost use Rattle.edit_log.specs.Log.{log_size};
 ghost use Rattle.carts.specs.Cart.{copy_size};
 ghost use Rattle.replication.specs.Layout.{replica_form, sixth_form, session_form, counts_form, of_layout};
 
 use crate::control::Control;
 use crate::session::Session;
+use crate::system::System;
 use crate::{copies, session};
 use carts::{bytes, cart};
 use edit_log::chain;
@@ -40,10 +42,8 @@ fn are_replicas(library: &[u8], studios: u32) -> bool
     ensures { result ≡ each_part (replica_form studios) copy_size copy_count 0 library.now }
 {
     let mut ok = true;
-    let mut i: u32 = 0;
-    while i < Control::COPIES {
+    for i in 0..Control::COPIES {
         ok &= is_replica(copies::copy_at(library, i), i, studios);
-        i += 1;
     }
     ok
 }
@@ -54,13 +54,9 @@ fn are_sessions(control: Control, sessions: &[u8]) -> bool
     ensures { result ≡ each_part (session_form control) session_size session_count 1 sessions.now }
 {
     let mut ok = true;
-    let mut s: u32 = 0;
-    while s < Session::COUNT {
-        let start = Session::SIZE * (s as usize);
-        let end = start + Session::SIZE;
-        s += 1;
-        let studio = control.studio_of(s);
-        ok &= session::is_session(&sessions[start..end], studio, control.commits);
+    for s in 1..=Session::COUNT {
+        let own = session::session_at(sessions, s);
+        ok &= session::is_session(own, control.studio_of(s), control.commits);
     }
     ok
 }
@@ -73,10 +69,11 @@ fn are_counts(control: Control) -> bool
 }
 
 // Control and memory are of this layout.
-pub fn is_layout(control: Control, library: &[u8], log: &[u8], sessions: &[u8]) -> bool
-    requires { (length library.now ≡ library_size) × ((length log.now ≡ log_size) × (length sessions.now ≡ sessions_size)) }
-    ensures { result ≡ of_layout control (memory library.now log.now sessions.now) }
+pub fn is_layout(system: System) -> bool
+    requires { (length system.library.now ≡ library_size) × ((length system.log.now ≡ log_size) × (length system.sessions.now ≡ sessions_size)) }
+    ensures { result ≡ of_layout system.entry.control (memory_of system.entry) }
 {
+    let control = system.control;
     if !bytes::is_within(1, Control::STUDIOS, control.studios) {
         return false;
     }
@@ -89,14 +86,17 @@ pub fn is_layout(control: Control, library: &[u8], log: &[u8], sessions: &[u8]) 
     if !are_counts(control) {
         return false;
     }
-    if !are_replicas(library, control.studios) {
+    if !are_replicas(system.library, control.studios) {
         return false;
     }
-    if !is_sixth(copies::copy_at(library, Control::SIXTH), control.retired) {
+    if !is_sixth(
+        copies::copy_at(system.library, Control::SIXTH),
+        control.retired,
+    ) {
         return false;
     }
     if !chain::are_chains(
-        log,
+        system.log,
         control.log_count(),
         control.used,
         control.oldest,
@@ -105,5 +105,5 @@ pub fn is_layout(control: Control, library: &[u8], log: &[u8], sessions: &[u8]) 
     ) {
         return false;
     }
-    are_sessions(control, sessions)
+    are_sessions(control, system.sessions)
 }

@@ -21,4 +21,5 @@ pub mod send;
 pub mod session;
 pub mod setup;
 pub mod source;
+pub mod system;
 pub mod walk;

@@ -35,15 +35,12 @@ fn show_numbers(copy: &[u8], request: &[u8], count: u32, output: &mut [u8]) -> u
     ensures { (result ≡ found_by_numbers copy.now (numbers_in request.now))
         × (output.new ≡ over output.old 0 (cart_size * byte request.now 1) (shown_by_numbers copy.now (numbers_in request.now))) }
 {
-    let n = count as usize;
     let mut found: u32 = 0;
-    let mut i = 0;
-    while i < n {
+    for i in 0..count as usize {
         let c = bytes::u16_at(request, Session::PAYLOAD_AT + 2 * i);
         let start = Cart::SIZE * i;
         let end = start + Cart::SIZE;
         found += show_cart(copy, c, &mut output[start..end]);
-        i += 1;
     }
     found
 }
@@ -54,8 +51,7 @@ fn show_title(copy: &[u8], title: &[u8], output: &mut [u8]) -> u32
     ensures { (result ≡ length (titled_in title.now copy.now))
         × (output.new ≡ over output.old 0 cart_size (the_one copy.now (titled_in title.now copy.now))) }
 {
-    let searched = titles::search(copy, title);
-    let found = searched.found;
+    let found = titles::search(copy, title).found;
     let Found::One(c) = found else {
         bytes::clear(&mut output[0..Cart::SIZE]);
         return titles::found_count(found);
@@ -89,7 +85,6 @@ pub fn answer(library: &[u8], copy: u32, request: &[u8], output: &mut [u8]) -> u
     ensures { (result ≡ found_in (copy_at library.now copy) (request_of request.now))
         × (output.new ≡ over output.old 0 (needed (request_of request.now)) (shown_from (copy_at library.now copy) (request_of request.now))) }
 {
-    let read = Session::from_bytes(request);
-    let waiting = read.waiting;
+    let waiting = Session::from_bytes(request).waiting;
     show(copies::copy_at(library, copy), request, waiting, output)
 }

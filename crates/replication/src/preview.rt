@@ -4,9 +4,10 @@ ghost use Rattle.replication.specs.Answer.{count_answer};
 ghost use Rattle.replication.specs.Memory.{memory};
 ghost use Rattle.replication.specs.Calls.{after, preview};
 
-use crate::answer::{CountAnswer, CountResult};
+use crate::answer::{CountResult, Reply};
 use crate::commit;
 use crate::control::Control;
+use crate::system::System;
 
 // Document 02's preview of commit (S-1): commit's rows decide. Memory is only read.
 pub fn preview(
@@ -20,16 +21,21 @@ pub fn preview(
     ensures { after (count_answer result.answer) result.control (memory library.now log.now sessions.now) []
         ≡ preview control (memory library.now log.now sessions.now) session operations.now }
 {
-    let stopped = commit::decide_commit(control, library, log, sessions, session, operations);
-    if stopped != 0 {
-        return CountResult {
-            answer: CountAnswer::Refused(stopped),
+    let system = System {
+        control,
+        library,
+        log,
+        sessions,
+    };
+    if let Err(refusal) = commit::decide_commit(system, session, operations) {
+        return Reply {
+            answer: Err(refusal),
             control,
         };
     }
     let n = control.commits + 1;
-    CountResult {
-        answer: CountAnswer::Number(n),
+    Reply {
+        answer: Ok(n),
         control,
     }
 }

@@ -1,44 +1,37 @@
 // Read: answered from the studio's copy where it has reached the session's number, else stored.
 ghost use Rattle.std.specs.Prelude.{◌≡◌};
+ghost use Rattle.carts.specs.Refusal.{stop_number};
 ghost use Rattle.replication.specs.Answer.{read_answer};
 ghost use Rattle.replication.specs.Memory.{memory};
+ghost use Rattle.replication.specs.System.{memory_of};
 ghost use Rattle.replication.specs.Rows.{read_stop};
 ghost use Rattle.replication.specs.Calls.{after, read};
 
-use crate::answer::{ReadAnswer, ReadResult};
+use crate::answer::{ReadResult, Reading, Reply};
 use crate::control::Control;
 use crate::session::Session;
+use crate::system::System;
 use crate::{block, rows, session};
 use carts::bytes;
+use carts::refusal::Refusal;
 
-// The number of the row that stops a read, or 0.
-pub fn decide_read(
-    control: Control,
-    library: &[u8],
-    log: &[u8],
-    sessions: &[u8],
-    session: u32,
-    request: &[u8],
-    room: usize,
-) -> u32
-    ensures { result ≡ read_stop control (memory library.now log.now sessions.now) session request.now room }
+// The row that stops a read, if any.
+pub fn decide_read(system: System, session: u32, request: &[u8], room: usize) -> Result<(), Refusal>
+    ensures { stop_number result ≡ read_stop system.entry.control (memory_of system.entry) session request.now room }
 {
-    let stopped = rows::stopped_by_session(control, library, log, sessions, session);
-    if stopped != 0 {
-        return stopped;
-    }
-    let own = Session::from_bytes(session::session_at(sessions, session));
+    rows::stopped_by_session(system, session)?;
+    let own = Session::from_bytes(session::session_at(system.sessions, session));
     if own.is_waiting() {
-        return 4;
+        return Err(Refusal::ReadWaits);
     }
     if !session::is_request(request) {
-        return 12;
+        return Err(Refusal::RequestForm);
     }
     let asked = Session::from_bytes(request);
     if room < asked.needed() {
-        return 13;
+        return Err(Refusal::ShortOutput);
     }
-    0
+    Ok(())
 }
 
 // Document 01's read.
@@ -55,19 +48,26 @@ pub fn read(
         ≡ read control (memory library.now log.now sessions.old) session request.now output.old }
 {
     let room = output.len();
-    let stopped = decide_read(control, library, log, sessions, session, request, room);
-    if stopped != 0 {
-        return ReadResult {
-            answer: ReadAnswer::Refused(stopped),
+    let system = System {
+        control,
+        library,
+        log,
+        sessions,
+    };
+    if let Err(refusal) = decide_read(system, session, request, room) {
+        return Reply {
+            answer: Err(refusal),
             control,
         };
     }
     let mut own = [0u8; Session::SIZE];
     bytes::copy_all(&mut own, session::session_at(sessions, session));
-    let answer = block::block(control, library, sessions, session, request, &own, output);
-    let ReadAnswer::Waits(number) = answer else {
-        return ReadResult { answer, control };
-    };
-    session::store(sessions, session, request, number);
-    ReadResult { answer, control }
+    let reading = block::block(control, library, sessions, session, request, &own, output);
+    if let Reading::Waits(number) = reading {
+        session::store(sessions, session, request, number);
+    }
+    Reply {
+        answer: Ok(reading),
+        control,
+    }
 }

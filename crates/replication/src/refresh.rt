@@ -1,34 +1,29 @@
 // Refresh: a studio's copy takes the next transaction.
 ghost use Rattle.std.specs.Prelude.{◌≡◌, []};
+ghost use Rattle.carts.specs.Refusal.{stop_number};
 ghost use Rattle.replication.specs.Answer.{count_answer};
 ghost use Rattle.replication.specs.Memory.{memory};
+ghost use Rattle.replication.specs.System.{memory_of};
 ghost use Rattle.replication.specs.Rows.{refresh_stop};
 ghost use Rattle.replication.specs.Calls.{after, refresh};
 
-use crate::answer::{CountAnswer, CountResult};
+use crate::answer::{CountResult, Reply};
 use crate::control::Control;
+use crate::system::System;
 use crate::{rows, walk};
 use carts::cart::Cart;
+use carts::refusal::Refusal;
 use edit_log::transaction;
 
-// The number of the row that stops a refresh, or 0.
-pub fn decide_refresh(
-    control: Control,
-    library: &[u8],
-    log: &[u8],
-    sessions: &[u8],
-    studio: u32,
-) -> u32
-    ensures { result ≡ refresh_stop control (memory library.now log.now sessions.now) studio }
+// The row that stops a refresh, if any.
+pub fn decide_refresh(system: System, studio: u32) -> Result<(), Refusal>
+    ensures { stop_number result ≡ refresh_stop system.entry.control (memory_of system.entry) studio }
 {
-    let stopped = rows::stopped_by_studio(control, library, log, sessions, studio);
-    if stopped != 0 {
-        return stopped;
+    rows::stopped_by_studio(system, studio)?;
+    if system.control.sent_to(studio) == system.control.applied_by(studio) {
+        return Err(Refusal::AllApplied);
     }
-    if control.sent_to(studio) == control.applied_by(studio) {
-        return 11;
-    }
-    0
+    Ok(())
 }
 
 // Document 01's refresh: the studio's copy is lent on as a part of library memory, to be changed.
@@ -42,10 +37,15 @@ pub fn refresh(
     ensures { after (count_answer result.answer) result.control (memory library.new log.now sessions.now) []
         ≡ refresh control (memory library.old log.now sessions.now) studio }
 {
-    let stopped = decide_refresh(control, library, log, sessions, studio);
-    if stopped != 0 {
-        return CountResult {
-            answer: CountAnswer::Refused(stopped),
+    let system = System {
+        control,
+        library,
+        log,
+        sessions,
+    };
+    if let Err(refusal) = decide_refresh(system, studio) {
+        return Reply {
+            answer: Err(refusal),
             control,
         };
     }
@@ -55,8 +55,8 @@ pub fn refresh(
     let end = start + Cart::COPY_SIZE;
     transaction::apply_transaction(&mut library[start..end], log, first);
     let n = applied + 1;
-    CountResult {
-        answer: CountAnswer::Number(n),
+    Reply {
+        answer: Ok(n),
         control: control.with_applied(studio, n),
     }
 }

@@ -4,14 +4,18 @@ ghost use Rattle.carts.specs.Bytes.{every};
 ghost use Rattle.carts.specs.Operation.{act_all};
 ghost use Rattle.edit_log.specs.Log.{log_size, records_of, transaction_at, up_from};
 ghost use Rattle.edit_log.specs.Values.{usable};
+ghost use Rattle.carts.specs.Refusal.{stop_number};
 ghost use Rattle.replication.specs.Answer.{count_answer};
 ghost use Rattle.replication.specs.Memory.{memory, library_size, sixth, studio_count, copy_at, with_copy, nth};
+ghost use Rattle.replication.specs.System.{memory_of};
 ghost use Rattle.replication.specs.Rows.{retire_stop};
 ghost use Rattle.replication.specs.Calls.{after, retire};
 
-use crate::answer::{CountAnswer, CountResult};
+use crate::answer::{CountResult, Reply};
 use crate::control::Control;
 use crate::rows;
+use crate::system::System;
+use carts::refusal::Refusal;
 use edit_log::record::Record;
 use edit_log::{free, transaction};
 
@@ -20,32 +24,25 @@ fn have_applied(control: Control) -> bool
     requires { control.studios ≤ studio_count }
     ensures { result ≡ every (λ i. ltb control.retired (nth control.applied i)) (up_from 1 control.studios) }
 {
-    let studios = control.studios;
-    let retired = control.retired;
     let mut ok = true;
-    let mut i: u32 = 0;
-    while i < studios {
-        ok &= retired < control.applied[i as usize];
-        i += 1;
+    for i in 1..=control.studios {
+        ok &= control.retired < control.applied_by(i);
     }
     ok
 }
 
-// The number of the row that stops a retire, or 0.
-pub fn decide_retire(control: Control, library: &[u8], log: &[u8], sessions: &[u8]) -> u32
-    ensures { result ≡ retire_stop control (memory library.now log.now sessions.now) }
+// The row that stops a retire, if any.
+pub fn decide_retire(system: System) -> Result<(), Refusal>
+    ensures { stop_number result ≡ retire_stop system.entry.control (memory_of system.entry) }
 {
-    let stopped = rows::stopped_by_memory(control, library, log, sessions);
-    if stopped != 0 {
-        return stopped;
+    rows::stopped_by_memory(system)?;
+    if system.control.retired == system.control.commits {
+        return Err(Refusal::NotRetirable);
     }
-    if control.retired == control.commits {
-        return 20;
+    if !have_applied(system.control) {
+        return Err(Refusal::NotRetirable);
     }
-    if !have_applied(control) {
-        return 20;
-    }
-    0
+    Ok(())
 }
 
 // The transaction at record oldest acts on the sixth copy, which is lent on as a part of library memory, to be changed.
@@ -65,10 +62,15 @@ pub fn retire(control: Control, library: &mut [u8], log: &mut [u8], sessions: &[
     ensures { after (count_answer result.answer) result.control (memory library.new log.new sessions.now) []
         ≡ retire control (memory library.old log.old sessions.now) }
 {
-    let stopped = decide_retire(control, library, log, sessions);
-    if stopped != 0 {
-        return CountResult {
-            answer: CountAnswer::Refused(stopped),
+    let system = System {
+        control,
+        library,
+        log,
+        sessions,
+    };
+    if let Err(refusal) = decide_retire(system) {
+        return Reply {
+            answer: Err(refusal),
             control,
         };
     }
@@ -77,8 +79,8 @@ pub fn retire(control: Control, library: &mut [u8], log: &mut [u8], sessions: &[
     apply_to_sixth(library, log, oldest);
     let freed = free::retire_transaction(log, oldest, control.free_last);
     let left = control.after_retire(links.next_transaction, freed);
-    CountResult {
-        answer: CountAnswer::Number(left.retired),
+    Reply {
+        answer: Ok(left.retired),
         control: left,
     }
 }

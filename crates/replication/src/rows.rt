@@ -1,11 +1,16 @@
 // Where a call is stopped: the rows on memory, which all calls but setup begin with, and the rows on who calls.
 ghost use Rattle.std.specs.Prelude.{◌≡◌, [], ◌∷◌, ◌++◌};
+ghost use Rattle.carts.specs.Refusal.{stop_number};
 ghost use Rattle.replication.specs.Memory.{memory, lengths_form, studio_of};
+ghost use Rattle.replication.specs.System.{memory_of};
 ghost use Rattle.replication.specs.Rows.{stopped, memory_rows, session_row, studio_row};
 
 use crate::control::Control;
 use crate::layout;
 use crate::session::Session;
+use crate::system::System;
+use carts::bytes;
+use carts::refusal::Refusal;
 use edit_log::record::Record;
 
 // The three memories have their lengths.
@@ -17,80 +22,59 @@ pub fn are_lengths(library: &[u8], log: &[u8], sessions: &[u8]) -> bool
         & (sessions.len() == Session::MEMORY_SIZE)
 }
 
-// Rows 1 and 2: the number of the row that stops a call, or 0.
-pub fn stopped_by_memory(control: Control, library: &[u8], log: &[u8], sessions: &[u8]) -> u32
-    ensures { result ≡ stopped (memory_rows control (memory library.now log.now sessions.now)) }
+// Rows 1 and 2.
+pub fn stopped_by_memory(system: System) -> Result<(), Refusal>
+    ensures { stop_number result ≡ stopped (memory_rows system.entry.control (memory_of system.entry)) }
 {
-    if !are_lengths(library, log, sessions) {
-        return 1;
+    if !are_lengths(system.library, system.log, system.sessions) {
+        return Err(Refusal::Length);
     }
-    if !layout::is_layout(control, library, log, sessions) {
-        return 2;
+    if !layout::is_layout(system) {
+        return Err(Refusal::Layout);
     }
-    0
+    Ok(())
 }
 
 // Row 3 of a call that names a session.
-fn session_row(control: Control, session: u32) -> u32
-    ensures { result ≡ stopped (session_row session (studio_of control session) ∷ []) }
+fn session_row(control: Control, session: u32) -> Result<(), Refusal>
+    ensures { stop_number result ≡ stopped (session_row session (studio_of control session) ∷ []) }
 {
     if session < 1 {
-        return 3;
+        return Err(Refusal::NoSuchPlace);
     }
     if Control::SESSIONS < session {
-        return 3;
+        return Err(Refusal::NoSuchPlace);
     }
     if control.studio_of(session) == 0 {
-        return 3;
+        return Err(Refusal::NoSuchPlace);
     }
-    0
+    Ok(())
 }
 
 // Row 3 of a call that names a studio.
-pub fn studio_row(studios: u32, studio: u32) -> u32
-    ensures { result ≡ stopped (studio_row studios studio ∷ []) }
+pub fn studio_row(studios: u32, studio: u32) -> Result<(), Refusal>
+    ensures { stop_number result ≡ stopped (studio_row studios studio ∷ []) }
 {
-    if studio < 1 {
-        return 3;
+    if !bytes::is_within(1, studios, studio) {
+        return Err(Refusal::NoSuchPlace);
     }
-    if studios < studio {
-        return 3;
-    }
-    0
+    Ok(())
 }
 
 // Rows 1 to 3 of a call that names a session.
-pub fn stopped_by_session(
-    control: Control,
-    library: &[u8],
-    log: &[u8],
-    sessions: &[u8],
-    session: u32,
-) -> u32
-    ensures { result ≡ stopped (memory_rows control (memory library.now log.now sessions.now)
-        ++ (session_row session (studio_of control session) ∷ [])) }
+pub fn stopped_by_session(system: System, session: u32) -> Result<(), Refusal>
+    ensures { stop_number result ≡ stopped (memory_rows system.entry.control (memory_of system.entry)
+        ++ (session_row session (studio_of system.entry.control session) ∷ [])) }
 {
-    let by_memory = stopped_by_memory(control, library, log, sessions);
-    if by_memory != 0 {
-        return by_memory;
-    }
-    session_row(control, session)
+    stopped_by_memory(system)?;
+    session_row(system.control, session)
 }
 
 // Rows 1 to 3 of a call that names a studio.
-pub fn stopped_by_studio(
-    control: Control,
-    library: &[u8],
-    log: &[u8],
-    sessions: &[u8],
-    studio: u32,
-) -> u32
-    ensures { result ≡ stopped (memory_rows control (memory library.now log.now sessions.now)
-        ++ (studio_row control.studios studio ∷ [])) }
+pub fn stopped_by_studio(system: System, studio: u32) -> Result<(), Refusal>
+    ensures { stop_number result ≡ stopped (memory_rows system.entry.control (memory_of system.entry)
+        ++ (studio_row system.entry.control.studios studio ∷ [])) }
 {
-    let by_memory = stopped_by_memory(control, library, log, sessions);
-    if by_memory != 0 {
-        return by_memory;
-    }
-    studio_row(control.studios, studio)
+    stopped_by_memory(system)?;
+    studio_row(system.control.studios, studio)
 }

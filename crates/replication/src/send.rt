@@ -1,37 +1,32 @@
 // Send: one transaction more is sent to a studio.
 ghost use Rattle.std.specs.Prelude.{◌≡◌, []};
+ghost use Rattle.carts.specs.Refusal.{stop_number};
 ghost use Rattle.replication.specs.Answer.{count_answer};
 ghost use Rattle.replication.specs.Memory.{memory};
+ghost use Rattle.replication.specs.System.{memory_of};
 ghost use Rattle.replication.specs.Rows.{send_stop};
 ghost use Rattle.replication.specs.Calls.{after, send};
 
-use crate::answer::{CountAnswer, CountResult};
+use crate::answer::{CountResult, Reply};
 use crate::control::Control;
 use crate::rows;
+use crate::system::System;
+use carts::refusal::Refusal;
 
-// The number of the row that stops a send, or 0.
-pub fn decide_send(
-    control: Control,
-    library: &[u8],
-    log: &[u8],
-    sessions: &[u8],
-    studio: u32,
-) -> u32
-    ensures { result ≡ send_stop control (memory library.now log.now sessions.now) studio }
+// The row that stops a send, if any.
+pub fn decide_send(system: System, studio: u32) -> Result<(), Refusal>
+    ensures { stop_number result ≡ send_stop system.entry.control (memory_of system.entry) studio }
 {
-    let stopped = rows::stopped_by_studio(control, library, log, sessions, studio);
-    if stopped != 0 {
-        return stopped;
-    }
-    let sent = control.sent_to(studio);
-    let applied = control.applied_by(studio);
-    if sent == control.commits {
-        return 9;
+    rows::stopped_by_studio(system, studio)?;
+    let sent = system.control.sent_to(studio);
+    let applied = system.control.applied_by(studio);
+    if sent == system.control.commits {
+        return Err(Refusal::AllSent);
     }
     if sent - applied == Control::WINDOW {
-        return 10;
+        return Err(Refusal::WindowFull);
     }
-    0
+    Ok(())
 }
 
 // Document 01's send. Memory is only read.
@@ -45,16 +40,21 @@ pub fn send(
     ensures { after (count_answer result.answer) result.control (memory library.now log.now sessions.now) []
         ≡ send control (memory library.now log.now sessions.now) studio }
 {
-    let stopped = decide_send(control, library, log, sessions, studio);
-    if stopped != 0 {
-        return CountResult {
-            answer: CountAnswer::Refused(stopped),
+    let system = System {
+        control,
+        library,
+        log,
+        sessions,
+    };
+    if let Err(refusal) = decide_send(system, studio) {
+        return Reply {
+            answer: Err(refusal),
             control,
         };
     }
     let n = control.sent_to(studio) + 1;
-    CountResult {
-        answer: CountAnswer::Number(n),
+    Reply {
+        answer: Ok(n),
         control: control.with_sent(studio, n),
     }
 }

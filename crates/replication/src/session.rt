@@ -104,14 +104,9 @@ fn is_numbers(x: &[u8]) -> bool
         return false;
     }
     let mut ok = true;
-    let mut i = 0;
-    while i < n {
-        ok &= bytes::is_within(
-            1,
-            Cart::COUNT,
-            bytes::u16_at(x, Session::PAYLOAD_AT + 2 * i),
-        );
-        i += 1;
+    for i in 0..n {
+        let c = bytes::u16_at(x, Session::PAYLOAD_AT + 2 * i);
+        ok &= bytes::is_within(1, Cart::COUNT, c);
     }
     let end = Session::PAYLOAD_AT + 2 * n;
     ok & bytes::all_zero(&x[end..Session::SIZE])

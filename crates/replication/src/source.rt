@@ -7,7 +7,7 @@ ghost use Rattle.replication.specs.Calls.{after};
 ghost use Rattle.replication.specs.Values.{answer_by};
 ghost use Rattle.replication.specs.declared.control.Control.{Control};
 
-use crate::answer::ReadAnswer;
+use crate::answer::Reading;
 use crate::{output, session};
 
 // A copy (0 is the head end's), the state that is told with its carts, and the number that the session is left with.
@@ -27,17 +27,17 @@ pub fn answer_from(
     asked: &[u8],
     left: &[u8],
     output: &mut [u8],
-) -> ReadAnswer
+) -> Reading
     requires library_len { (length library.now ≡ library_size) × ((length sessions.old ≡ sessions_size) × ((1 ≤ session) × (session ≤ session_count))) }
     requires copy_le_studio_count { (source.copy ≤ studio_count) × (source.next < 65536) }
     requires asked_len { (length asked.now ≡ session_size) × ((request_fields asked.now ≡ true) × (needed (request_of asked.now) ≤ length output.old)) }
     requires left_len { length left.now ≡ session_size }
-    ensures { (c : Control) (log : List ℕ) → after (read_answer result) c (memory library.now log sessions.new) output.new
+    ensures { (c : Control) (log : List ℕ) → after (read_answer (Ok result)) c (memory library.now log sessions.new) output.new
         ≡ answer_by source (request_of asked.now) c (memory library.now log sessions.old) session left.now output.old }
 {
     let found = output::answer(library, source.copy, asked, output);
     session::store(sessions, session, left, source.next);
-    ReadAnswer::Answered {
+    Reading::Answered {
         state: source.state,
         found,
     }
