@@ -1,29 +1,29 @@
 -- Laws of the bytes that builders write.
-use Prim.Native.Nat.{ℕ, zero, suc, ◌+◌, ◌*◌, ◌-◌, ◌%◌, ◌<◌, ◌≤◌}
+use Prim.Native.Nat.{ℕ, zero, suc, ◌+◌, ◌*◌, ◌-◌, ◌/◌, ◌%◌, ◌<◌}
 use mathlib.Core.Path.{◌≡◌, refl, sym, ap, ◌∙◌}
 use mathlib.Core.List.{List, [], ◌∷◌, ◌++◌, append-nil, append_assoc}
+use Rattle.std.proofs.Common.{min, inl, inr}
+use Rattle.std.proofs.lemmas.Bool.Decides.{leb_tells}
+use Rattle.std.specs.Int.{w32, to_le_bytes}
 use native.Mathlib.Numerals.{add-one}
 use native.Mathlib.Omega.{arith}
-use lib.ListN.{length, get_or, take, drop, set, replicate}
+use lib.ListN.{length, get_or, take, drop, set, replicate, drop_of_length-le}
 use lib.Seq.{take-suc, take_all, set_at, take_at, drop_at, drop-drop, length-take-le}
 use Rattle.carts.specs.Bytes.{over, part, zeros, u16_bytes}
 use Rattle.lines.specs.Build.{u32_bytes, title_field, operation_bytes, u16_list, numbers_bytes, low_bytes, studio_bytes}
 
--- four stores side by side
-stores : (s : List ℕ) (at a b d e : ℕ) → at + 4 ≤ length s → set (set (set (set s at a) (suc at) b) (suc (suc at)) d) (suc (suc (suc at))) e ≡ over s at 4 (a ∷ b ∷ d ∷ e ∷ [])
-stores [] at a b d e h = absurd (omega arith)
-stores (x ∷ []) zero a b d e h = absurd (omega arith)
-stores (x ∷ y ∷ []) zero a b d e h = absurd (omega arith)
-stores (x ∷ y ∷ z ∷ []) zero a b d e h = absurd (omega arith)
-stores (x ∷ y ∷ z ∷ w ∷ s) zero a b d e h = refl
-stores (x ∷ s) (suc at) a b d e h = ap (λ l. x ∷ l) (stores s at a b d e (omega arith))
+-- the bytes of a u32 as the library writes them
+pub u32_written : (n : ℕ) → n < 4294967296 → to_le_bytes w32 n ≡ u32_bytes n
+unfolding u32_bytes
+u32_written n h = let e : n / 16777216 % 256 ≡ n / 16777216 = omega arith in rw e
 
-pub over_four : (s : List ℕ) (at a b d e : ℕ) → at + 4 ≤ length s → set (set (set (set s at a) (at + 1) b) (at + 2) d) (at + 3) e ≡ over s at 4 (a ∷ b ∷ d ∷ e ∷ [])
-over_four s at a b d e h =
-    let e₁ : at + 1 ≡ suc at = omega arith in
-    let e₂ : at + 2 ≡ suc (suc at) = omega arith in
-    let e₃ : at + 3 ≡ suc (suc (suc at)) = omega arith in
-    rw (e₁, e₂, e₃) (stores s at a b d e h)
+-- a title in its field: all of it, or as much as there is room for
+pub title_kept : (title field : List ℕ) (n : ℕ) → n ≡ min (length title) 64 → length field ≡ 64 → take n title ++ drop n field ≡ take 64 title ++ drop (length title) field
+title_kept title field n e l =
+    elim (leb_tells (length title) 64) [
+      | inl h ↦ let m : n ≡ length title = omega arith in rw (m, take_all (length title) title (omega arith), take_all 64 title h.1)
+      | inr h ↦ let m : n ≡ 64 = omega arith in rw (m, drop_of_length-le field {i = 64} (omega arith), drop_of_length-le field {i = length title} (omega arith))
+    ]
 
 -- fewer zeros
 pub drop_zeros : (m n : ℕ) → drop {A = ℕ} n (replicate m 0) ≡ replicate (m - n) 0

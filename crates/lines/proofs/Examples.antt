@@ -10,7 +10,7 @@ use Rattle.lines.specs.Text.{run_length, numeral, number_of}
 use Rattle.lines.specs.Cursor.{past_word, past_mark, number_at, title_from, title_at, is_over, ended_at}
 use Rattle.lines.specs.Words.{bytes_of}
 use Rattle.lines.specs.Build.{u32_bytes, title_field, operation_bytes, u16_list, numbers_bytes, low_bytes, studio_bytes}
-use Rattle.lines.specs.Parse.{title_if, number_if, fields_at, operation_at, more_operations, operations_at, numbers_at, title_request_at, numbers_request_at, request_at, whole_call, line, setup_at, edit_call, edit_at, read_at, move_at, number_call_at, line_of, call_of}
+use Rattle.lines.specs.Parse.{title_if, number_if, fields_at, operation_at, more_operations, operations_at, numbers_at, title_request_at, numbers_request_at, request_at, whole_call, line, setup_at, edit_call, edit_at, read_at, move_at, number_call_at, line_at, line_of, call_of}
 
 pub record Calls : Type 0 where
   comment : line_of (bytes_of "# words") ≡ line Nothing []
@@ -32,7 +32,7 @@ pub record Calls : Type 0 where
   preview : line_of (bytes_of "preview 17: retitle 7 \"B\"; withdraw 7 # nothing is made") ≡ line (Preview 17 2) (operation_bytes 2 7 0 0 (bytes_of "B") ++ operation_bytes 4 7 0 0 [])
 
 pub calls : Calls
-unfolding zeros u16_bytes pairwise every within printable run_length numeral number_of past_word past_mark number_at title_from title_at is_over ended_at u32_bytes title_field operation_bytes u16_list numbers_bytes low_bytes studio_bytes title_if number_if fields_at operation_at more_operations operations_at numbers_at title_request_at numbers_request_at request_at whole_call setup_at edit_call edit_at read_at move_at number_call_at line_of
+unfolding zeros u16_bytes pairwise every within printable run_length numeral number_of past_word past_mark number_at title_from title_at is_over ended_at u32_bytes title_field operation_bytes u16_list numbers_bytes low_bytes studio_bytes title_if number_if fields_at operation_at more_operations operations_at numbers_at title_request_at numbers_request_at request_at whole_call setup_at edit_call edit_at read_at move_at number_call_at line_at
 calls = record {
   comment = refl;
   show = refl;
@@ -78,7 +78,7 @@ pub record Mistakes : Type 0 where
   too_much : call_of (bytes_of "send 1 2") ≡ Unreadable TooMuch 7
 
 pub mistakes : Mistakes
-unfolding zeros u16_bytes pairwise every within printable run_length numeral number_of past_word past_mark number_at title_from title_at is_over ended_at u32_bytes title_field operation_bytes u16_list numbers_bytes low_bytes studio_bytes title_if number_if fields_at operation_at more_operations operations_at numbers_at title_request_at numbers_request_at request_at whole_call setup_at edit_call edit_at read_at move_at number_call_at line_of
+unfolding zeros u16_bytes pairwise every within printable run_length numeral number_of past_word past_mark number_at title_from title_at is_over ended_at u32_bytes title_field operation_bytes u16_list numbers_bytes low_bytes studio_bytes title_if number_if fields_at operation_at more_operations operations_at numbers_at title_request_at numbers_request_at request_at whole_call setup_at edit_call edit_at read_at move_at number_call_at line_at
 mistakes = record {
   unknown_word = refl;
   unknown_operation = refl;

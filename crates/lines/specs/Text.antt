@@ -1,10 +1,10 @@
 -- Text: classes of bytes, runs, and numbers in base ten.
-use Rattle.std.specs.Prelude.{Bool, cond, not, ◌&&◌, ◌||◌, List, [], ◌∷◌, ℕ, suc, ◌+◌, ◌*◌, ◌-◌, length, drop, leb, eqb}
+use Rattle.std.specs.Prelude.{Bool, cond, not, ◌&&◌, ◌||◌, List, [], ◌∷◌, ℕ, suc, ◌+◌, ◌*◌, ◌-◌, length, drop, leb, eqb, Result, Ok, Err}
 use Rattle.carts.specs.Bytes.{part}
 use Rattle.lines.specs.declared.text.Class.{Class}
 use Rattle.lines.specs.declared.text.Class.TheVariants.{Space, Word, Digit, Other}
-use Rattle.lines.specs.declared.text.Number.{Number}
-use Rattle.lines.specs.declared.text.Number.TheVariants.{Value, Missing, TooLarge}
+use Rattle.lines.specs.declared.text.NumberError.{NumberError}
+use Rattle.lines.specs.declared.text.NumberError.TheVariants.{Missing, TooLarge}
 
 -- space, tab and return; a to z and the hyphen; 0 to 9; every byte but one
 abbrev pub in_class : Class → ℕ → Bool
@@ -31,6 +31,6 @@ unfoldable pub numeral : ℕ → List ℕ → ℕ
 numeral v [] = v
 numeral v (d ∷ ds) = numeral (10 * v + (d - 48)) ds
 
-unfoldable pub number_of : ℕ → List ℕ → Number
-number_of most [] = Missing
-number_of most (d ∷ ds) = let n = numeral 0 (d ∷ ds) in cond (leb n most) (Value n) TooLarge
+unfoldable pub number_of : ℕ → List ℕ → Result ℕ NumberError
+number_of most [] = Err Missing
+number_of most (d ∷ ds) = let n = numeral 0 (d ∷ ds) in cond (leb n most) (Ok n) (Err TooLarge)

@@ -13,10 +13,7 @@ pub fn put_u32(s: &mut [u8], at: usize, v: u32)
     requires { at + 4 ≤ length s.old }
     ensures { s.new ≡ over s.old at 4 (u32_bytes v) }
 {
-    s[at] = (v % 256) as u8;
-    s[at + 1] = (v / 256 % 256) as u8;
-    s[at + 2] = (v / 65536 % 256) as u8;
-    s[at + 3] = (v / 16777216) as u8;
+    s[at..at + 4].copy_from_slice(&v.to_le_bytes());
 }
 
 // The title's letters, as many as the field has room for, stand at the field's start.
@@ -24,12 +21,8 @@ fn put_title(field: &mut [u8], title: &[u8])
     requires { length field.old ≡ title_size }
     ensures { field.new ≡ take title_size title.now ++ drop (length title.now) field.old }
 {
-    let n = title.len();
-    if n <= Cart::TITLE_SIZE {
-        bytes::copy_all(&mut field[..n], title);
-        return;
-    }
-    bytes::copy_all(field, &title[..Cart::TITLE_SIZE]);
+    let n = title.len().min(Cart::TITLE_SIZE);
+    field[..n].copy_from_slice(&title[..n]);
 }
 
 // An operation of a kind, or a request by title (kind 2, the numbers zero). What its kind leaves out is zero or empty.
@@ -62,10 +55,8 @@ fn put_u16s(field: &mut [u8], numbers: &[u32])
     requires { (length field.old ≡ title_size) × (length numbers.now ≤ most_numbers) }
     ensures { field.new ≡ u16_list numbers.now ++ drop (2 * length numbers.now) field.old }
 {
-    let mut i = 0;
-    while i < numbers.len() {
-        bytes::put_u16(field, 2 * i, numbers[i] % 65536);
-        i += 1;
+    for (i, number) in numbers.iter().enumerate() {
+        bytes::put_u16(field, 2 * i, number % 65536);
     }
 }
 
@@ -74,7 +65,7 @@ pub fn asked(request: &[u8], i: u32) -> u32
     ensures { result ≡ asked_at request.now i }
 {
     let at = Cart::TITLE_AT + 2 * (i as usize);
-    text::wide(text::letter(request, at)) + 256 * text::wide(text::letter(request, at + 1))
+    u32::from(text::letter(request, at)) + 256 * u32::from(text::letter(request, at + 1))
 }
 
 // The studios of at most 16 sessions; the sessions left over are unused.
@@ -83,9 +74,7 @@ pub fn put_studios(places: &mut [u8], studios: &[u32])
     ensures { places.new ≡ studio_bytes studios.now }
 {
     bytes::clear(places);
-    let mut i = 0;
-    while i < studios.len() {
-        places[i] = (studios[i] % 256) as u8;
-        i += 1;
+    for (i, studio) in studios.iter().enumerate() {
+        places[i] = (studio % 256) as u8;
     }
 }

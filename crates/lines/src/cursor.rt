@@ -1,15 +1,15 @@
 // A cursor over a line: what is read there, and the first mistake, which it keeps.
 ghost use Rattle.std.specs.Prelude.{◌≡◌, ◌+◌, ◌-◌, ◌<◌, ◌≤◌, length};
-ghost use Rattle.lines.specs.Cursor.{new_at, moved_to, stopped_by, next_byte, next_word, word_end, past_word, past_mark, number_at, no_title, title_at, is_over, ended_at, Titled};
+ghost use Rattle.lines.specs.Cursor.{Reading, reading, new_at, moved_to, stopped_by, next_place, next_byte, next_word, word_end, past_word, past_mark, number_at, number_mistake, no_title, title_at, letters_of, is_over, ended_at, Titled};
 
 use crate::text;
-use crate::text::{Class, Number};
+use crate::text::{Class, NumberError};
 use carts::bytes;
+use std::marker::Model;
 
 // What can be wrong with a line.
 #[derive(Clone, Copy)]
 pub enum Mistake {
-    None,
     UnknownWord,
     UnknownOperation,
     NumberMissing,
@@ -28,208 +28,196 @@ pub enum Mistake {
     TooMuch,
 }
 
-// The place of the next byte, and the first mistake, where something was wrong.
-#[derive(Clone, Copy)]
-pub struct Cursor {
-    pub at: usize,
-    pub good: bool,
-    pub mistake: Mistake,
+impl From<NumberError> for Mistake {
+    ghost from_gives = { λ error mistake. mistake ≡ number_mistake error };
+
+    fn from(error: NumberError) -> Mistake {
+        match error {
+            NumberError::Missing => Mistake::NumberMissing,
+            NumberError::TooLarge => Mistake::NumberTooLarge,
+        }
+    }
 }
 
-// A number that was read; 0 where it could not be.
-#[derive(Clone, Copy)]
-pub struct Taken {
-    pub value: u32,
-    pub cursor: Cursor,
+// A line, the place of its next byte, and the first mistake, where something was wrong.
+#[derive(Drop)]
+pub struct Cursor<'a> {
+    line: &'a [u8],
+    at: usize,
+    mistake: Option<Mistake>,
 }
 
-// A title that was read, by its place in the line; its length is 0 where it could not be.
-#[derive(Clone, Copy)]
-pub struct Quoted {
-    pub start: usize,
-    pub length: usize,
-    pub cursor: Cursor,
+impl<'a> Model for Cursor<'a> {
+    ghost Value = { Reading };
+
+    ghost view = { λ c. reading c.line.now c.at c.mistake };
 }
 
-impl Cursor {
-    // A cursor with no mistake.
-    pub fn new(at: usize) -> Cursor
-        ensures { result ≡ new_at at }
+impl<'a> Cursor<'a> {
+    // At the start of a line, with no mistake.
+    pub fn new(line: &'a [u8]) -> Cursor<'a>
+        ensures { result ≡ new_at line.now 0 }
     {
         Cursor {
-            at,
-            good: true,
-            mistake: Mistake::None,
+            line,
+            at: 0,
+            mistake: None,
         }
     }
 
-    // The cursor at another place; after a mistake it stays where that was.
-    pub fn moved(self, at: usize) -> Cursor
-        ensures { result ≡ moved_to self at }
+    // The first mistake, where there is one.
+    pub fn mistake(&self) -> Option<Mistake>
+        ensures { result ≡ self.now.mistake }
     {
-        if self.good {
-            let mistake = self.mistake;
-            return Cursor {
-                at,
-                good: true,
-                mistake,
-            };
-        }
-        self
+        self.mistake
     }
 
-    // The cursor with a mistake; the first is kept.
-    pub fn stopped(self, mistake: Mistake) -> Cursor
-        ensures { result ≡ stopped_by self mistake }
+    // To another place; after a mistake it stays where that was.
+    fn move_to(&mut self, at: usize)
+        ensures { self.new ≡ moved_to self.old at }
     {
-        if self.good {
-            return Cursor {
-                at: self.at,
-                good: false,
-                mistake,
-            };
-        }
-        let first = self.mistake;
-        Cursor {
-            at: self.at,
-            good: false,
-            mistake: first,
+        if self.mistake.is_none() {
+            self.at = at;
         }
     }
-}
 
-// The next byte that is no space; 0 at the line's end.
-pub fn peek(s: &[u8], c: Cursor) -> u8
-    ensures { result ≡ next_byte s.now c }
-{
-    text::letter(s, text::run_end(s, c.at, Class::Space))
-}
+    // A mistake; the first is kept.
+    pub fn stop(&mut self, mistake: Mistake)
+        ensures { self.new ≡ stopped_by self.old mistake }
+    {
+        if self.mistake.is_none() {
+            self.mistake = Some(mistake);
+        }
+    }
 
-// The word at the next byte that is no space.
-pub fn peek_word(s: &[u8], c: Cursor) -> &[u8]
-    ensures { result.now ≡ next_word s.now c }
-{
-    let start = text::run_end(s, c.at, Class::Space);
-    let end = text::run_end(s, start, Class::Word);
-    text::part_of(s, start, end - start)
-}
+    // The place of the next byte that is no space.
+    pub fn next_place(&self) -> usize
+        ensures { result ≡ next_place self.now }
+    {
+        text::run_end(self.line, self.at, Class::Space)
+    }
 
-// Past the word at the next byte that is no space.
-pub fn past_word(s: &[u8], c: Cursor) -> Cursor
-    ensures { result ≡ moved_to c (word_end s.now c) }
-{
-    let start = text::run_end(s, c.at, Class::Space);
-    c.moved(text::run_end(s, start, Class::Word))
-}
+    // The next byte that is no space; 0 at the line's end.
+    pub fn peek(&self) -> u8
+        ensures { result ≡ next_byte self.now }
+    {
+        text::letter(self.line, self.next_place())
+    }
 
-// Past a word that has to stand here, or the mistake.
-pub fn word(s: &[u8], c: Cursor, expected: &[u8], mistake: Mistake) -> Cursor
-    ensures { result ≡ past_word s.now c expected.now mistake }
-{
-    if text::same(peek_word(s, c), expected) {
-        return past_word(s, c);
+    // The word at the next byte that is no space.
+    pub fn peek_word(&self) -> &'a [u8]
+        ensures { result.now ≡ next_word self.now }
+    {
+        let start = self.next_place();
+        let end = text::run_end(self.line, start, Class::Word);
+        text::part_of(self.line, start, end - start)
     }
-    c.stopped(mistake)
-}
 
-// Past a byte that has to stand here, or the mistake.
-pub fn mark(s: &[u8], c: Cursor, expected: u8, mistake: Mistake) -> Cursor
-    ensures { result ≡ past_mark s.now c expected mistake }
-{
-    let at = text::run_end(s, c.at, Class::Space);
-    if s.len() <= at {
-        return c.stopped(mistake);
+    // Past the word at the next byte that is no space.
+    pub fn skip_word(&mut self)
+        ensures { self.new ≡ moved_to self.old (word_end self.old) }
+    {
+        let end = text::run_end(self.line, self.next_place(), Class::Word);
+        self.move_to(end);
     }
-    if s[at] == expected {
-        return c.moved(at + 1);
-    }
-    c.stopped(mistake)
-}
 
-// A number of at most a bound.
-pub fn number(s: &[u8], c: Cursor, most: u32) -> Taken
-    ensures { (result ≡ number_at s.now c most) × (result.value ≤ most) }
-{
-    let start = text::run_end(s, c.at, Class::Space);
-    let end = text::run_end(s, start, Class::Digit);
-    match text::number_of(text::part_of(s, start, end - start), most) {
-        Number::Value(value) => Taken {
-            value,
-            cursor: c.moved(end),
-        },
-        Number::Missing => Taken {
-            value: 0,
-            cursor: c.stopped(Mistake::NumberMissing),
-        },
-        Number::TooLarge => Taken {
-            value: 0,
-            cursor: c.stopped(Mistake::NumberTooLarge),
-        },
+    // Past a word that has to stand here, or the mistake.
+    pub fn word(&mut self, expected: &[u8], mistake: Mistake)
+        ensures { self.new ≡ past_word self.old expected.now mistake }
+    {
+        if text::same(self.peek_word(), expected) {
+            self.skip_word();
+        } else {
+            self.stop(mistake);
+        }
     }
-}
 
-// No title, for a reason.
-fn no_title(c: Cursor, mistake: Mistake) -> Quoted
-    ensures { result ≡ no_title c mistake }
-{
-    Quoted {
-        start: 0,
-        length: 0,
-        cursor: c.stopped(mistake),
+    // Past a byte that has to stand here, or the mistake.
+    pub fn mark(&mut self, expected: u8, mistake: Mistake)
+        ensures { self.new ≡ past_mark self.old expected mistake }
+    {
+        let at = self.next_place();
+        if at < self.line.len() && self.line[at] == expected {
+            self.move_to(at + 1);
+        } else {
+            self.stop(mistake);
+        }
     }
-}
 
-// A title between two marks of one kind, " or '. Its letters stand in the line, and their number fits a byte.
-pub fn title(s: &[u8], c: Cursor) -> Quoted
-    ensures { (result ≡ title_at s.now c) × Titled s.now result.start result.length }
-{
-    let at = text::run_end(s, c.at, Class::Space);
-    let open = text::letter(s, at);
-    if (open != 34) & (open != 39) {
-        return no_title(c, Mistake::TitleMissing);
+    // A number of at most a bound; 0 where it could not be read.
+    pub fn number(&mut self, most: u32) -> u32
+        ensures value { result ≡ (number_at self.old most).value }
+        ensures cursor { self.new ≡ (number_at self.old most).cursor }
+        ensures bound { result ≤ most }
+    {
+        let start = self.next_place();
+        let end = text::run_end(self.line, start, Class::Digit);
+        match text::number_of(text::part_of(self.line, start, end - start), most) {
+            Ok(value) => {
+                self.move_to(end);
+                value
+            }
+            Err(error) => {
+                self.stop(Mistake::from(error));
+                0
+            }
+        }
     }
-    if s.len() <= at {
-        return no_title(c, Mistake::TitleMissing);
-    }
-    let start = at + 1;
-    let end = text::run_end(s, start, Class::Other(open));
-    if s.len() <= end {
-        return no_title(c, Mistake::TitleOpen);
-    }
-    let length = end - start;
-    if length == 0 {
-        return no_title(c, Mistake::TitleEmpty);
-    }
-    if 255 < length {
-        return no_title(c, Mistake::TitleTooLong);
-    }
-    if !bytes::all_printable(&s[start..end]) {
-        return no_title(c, Mistake::TitleUnprintable);
-    }
-    Quoted {
-        start,
-        length,
-        cursor: c.moved(end + 1),
-    }
-}
 
-// Nothing more on the line but a comment.
-pub fn is_over(s: &[u8], c: Cursor) -> bool
-    ensures { result ≡ is_over s.now c }
-{
-    let at = text::run_end(s, c.at, Class::Space);
-    if s.len() <= at {
-        return true;
+    // No title, for a reason.
+    fn no_title(&mut self, mistake: Mistake) -> &'a [u8]
+        ensures { (result.now ≡ letters_of self.old (no_title self.old mistake)) × (self.new ≡ (no_title self.old mistake).cursor) }
+    {
+        self.stop(mistake);
+        &[]
     }
-    s[at] == 35
-}
 
-// The cursor, where nothing more is on the line; else the mistake.
-pub fn ended(s: &[u8], c: Cursor) -> Cursor
-    ensures { result ≡ ended_at s.now c }
-{
-    if is_over(s, c) {
-        return c;
+    // A title between two marks of one kind, " or '; empty where it could not be read. Its letters stand in the line, and their number fits a byte.
+    #[tactic(auto, using(crate::proofs::CursorLaws::no_letters), unfolding(crate::specs::Cursor::title_at, crate::specs::Cursor::title_from))]
+    pub fn title(&mut self) -> &'a [u8]
+        ensures letters { result.now ≡ letters_of self.old (title_at self.old) }
+        ensures cursor { self.new ≡ (title_at self.old).cursor }
+        ensures stands { Titled self.old.line (title_at self.old).start (title_at self.old).length }
+        ensures few { length result.now < 256 }
+    {
+        let at = self.next_place();
+        let open = text::letter(self.line, at);
+        if open != b'"' && open != b'\'' {
+            return self.no_title(Mistake::TitleMissing);
+        }
+        let start = at + 1;
+        let end = text::run_end(self.line, start, Class::Other(open));
+        if self.line.len() <= end {
+            return self.no_title(Mistake::TitleOpen);
+        }
+        let letters = &self.line[start..end];
+        if letters.is_empty() {
+            return self.no_title(Mistake::TitleEmpty);
+        }
+        if 255 < letters.len() {
+            return self.no_title(Mistake::TitleTooLong);
+        }
+        if !bytes::all_printable(letters) {
+            return self.no_title(Mistake::TitleUnprintable);
+        }
+        self.move_to(end + 1);
+        letters
     }
-    c.stopped(Mistake::TooMuch)
+
+    // Nothing more on the line but a comment.
+    pub fn is_over(&self) -> bool
+        ensures { result ≡ is_over self.now }
+    {
+        let at = self.next_place();
+        self.line.len() <= at || self.line[at] == b'#'
+    }
+
+    // A mistake, where something more is on the line.
+    pub fn end(&mut self)
+        ensures { self.new ≡ ended_at self.old }
+    {
+        if !self.is_over() {
+            self.stop(Mistake::TooMuch);
+        }
+    }
 }

@@ -2,12 +2,12 @@
 ghost use Rattle.std.specs.Prelude.{◌≡◌, ◌+◌, ◌*◌, ◌-◌, ◌<◌, ◌≤◌, length};
 ghost use Rattle.lines.specs.Build.{payload_size};
 ghost use Rattle.carts.specs.Cart.{cart_size};
-ghost use Rattle.lines.specs.Cursor.{Titled};
-ghost use Rattle.lines.specs.Parse.{gathered, title_if, number_if, fields_at, operation_at, operations_at, numbers_at, title_request_at, numbers_request_at, whole_call, setup_at, edit_call, edit_at, read_at, move_at, number_call_at, call_of, payload_of, call_fits, Means, Stored};
+ghost use Rattle.lines.specs.Cursor.{letters_of};
+ghost use Rattle.lines.specs.Parse.{gathered, title_if, number_if, kind_of, kind_byte, has_title, has_recording, fields_at, operation_at, operations_at, numbers_at, title_request_at, numbers_request_at, request_at, whole_call, setup_at, edit_call, edit_at, read_at, move_at, line_by, call_of, payload_of, call_fits, Means, Stored, command_of, number_command_of};
 
-use crate::cursor::{Cursor, Mistake, Quoted, Taken};
+use crate::cursor::{Cursor, Mistake};
 use crate::text::Class;
-use crate::{build, cursor, text};
+use crate::{build, text};
 use carts::bytes;
 use carts::cart::Cart;
 
@@ -41,173 +41,249 @@ const STUDIOS: usize = 16;
 
 const NUMBERS: usize = 32;
 
-// How many numbers were read.
+// The kind of an operation, by its byte.
 #[derive(Clone, Copy)]
-pub struct Counted {
-    pub count: usize,
-    pub cursor: Cursor,
+enum Kind {
+    New = 1,
+    Retitle = 2,
+    Recut = 3,
+    Withdraw = 4,
+}
+
+impl Kind {
+    // By its word. A match over byte strings was tried: it has a goal for each byte at which two words part, and many stay open.
+    #[tactic(auto, unfolding(crate::specs::Parse::kind_of))]
+    fn of(word: &[u8]) -> Option<Kind>
+        ensures { result ≡ kind_of word.now }
+    {
+        if text::same(word, b"new") {
+            return Some(Kind::New);
+        }
+        if text::same(word, b"retitle") {
+            return Some(Kind::Retitle);
+        }
+        if text::same(word, b"re-cut") {
+            return Some(Kind::Recut);
+        }
+        if text::same(word, b"withdraw") {
+            return Some(Kind::Withdraw);
+        }
+        None
+    }
+
+    fn byte(self) -> u8
+        ensures { result ≡ kind_byte self }
+    {
+        self as u8
+    }
+
+    fn has_title(self) -> bool
+        ensures { result ≡ has_title self }
+    {
+        matches!(self, Kind::New | Kind::Retitle)
+    }
+
+    fn has_recording(self) -> bool
+        ensures { result ≡ has_recording self }
+    {
+        matches!(self, Kind::New | Kind::Recut)
+    }
+}
+
+// The first word of a line that has a call.
+#[derive(Clone, Copy)]
+enum Command {
+    Show,
+    Setup,
+    Commit,
+    Preview,
+    Read,
+    Forward,
+    Move,
+    Load,
+    Retire,
+    Send,
+    Refresh,
+    Collect,
+    Van,
+}
+
+impl Command {
+    // By its word; a match over byte strings was tried, as at Kind::of.
+    #[tactic(auto, unfolding(crate::specs::Parse::command_of))]
+    fn of(word: &[u8]) -> Option<Command>
+        ensures { result ≡ command_of word.now }
+    {
+        if text::same(word, b"show") {
+            return Some(Command::Show);
+        }
+        if text::same(word, b"setup") {
+            return Some(Command::Setup);
+        }
+        if text::same(word, b"commit") {
+            return Some(Command::Commit);
+        }
+        if text::same(word, b"preview") {
+            return Some(Command::Preview);
+        }
+        if text::same(word, b"read") {
+            return Some(Command::Read);
+        }
+        if text::same(word, b"forward") {
+            return Some(Command::Forward);
+        }
+        if text::same(word, b"move") {
+            return Some(Command::Move);
+        }
+        if text::same(word, b"load") {
+            return Some(Command::Load);
+        }
+        if text::same(word, b"retire") {
+            return Some(Command::Retire);
+        }
+        Command::with_number(word)
+    }
+
+    // The commands whose call has a number alone.
+    #[tactic(auto, unfolding(crate::specs::Parse::number_command_of))]
+    fn with_number(word: &[u8]) -> Option<Command>
+        ensures { result ≡ number_command_of word.now }
+    {
+        if text::same(word, b"send") {
+            return Some(Command::Send);
+        }
+        if text::same(word, b"refresh") {
+            return Some(Command::Refresh);
+        }
+        if text::same(word, b"collect") {
+            return Some(Command::Collect);
+        }
+        if text::same(word, b"van") {
+            return Some(Command::Van);
+        }
+        None
+    }
 }
 
 // The call, where the whole line was read; else what is wrong with it.
-fn whole(s: &[u8], c: Cursor, call: Call) -> Call
+fn whole(c: &mut Cursor, call: Call) -> Call
     requires { call_fits call }
-    ensures { (result ≡ whole_call s.now c call) × call_fits result }
+    ensures { (result ≡ whole_call c.old call) × call_fits result }
 {
-    let end = cursor::ended(s, c);
-    if end.good {
-        return call;
-    }
-    let mistake = end.mistake;
-    Call::Unreadable {
-        mistake,
-        at: text::run_end(s, end.at, Class::Space),
+    c.end();
+    match c.mistake() {
+        None => call,
+        Some(mistake) => Call::Unreadable {
+            mistake,
+            at: c.next_place(),
+        },
     }
 }
 
 // A title, where one is asked for.
-fn title_if(s: &[u8], c: Cursor, asked: bool) -> Quoted
-    ensures { (result ≡ title_if s.now c asked) × Titled s.now result.start result.length }
+#[tactic(auto, unfolding(crate::specs::Parse::title_if))]
+fn title_if<'a>(c: &mut Cursor<'a>, asked: bool) -> &'a [u8]
+    ensures letters { result.now ≡ letters_of c.old (title_if c.old asked) }
+    ensures cursor { c.new ≡ (title_if c.old asked).cursor }
+    ensures few { length result.now < 256 }
 {
-    if asked {
-        return cursor::title(s, c);
-    }
-    Quoted {
-        start: 0,
-        length: 0,
-        cursor: c,
-    }
+    if asked { c.title() } else { &[] }
 }
 
 // A word and the number after it, where they are asked for.
-fn number_if(s: &[u8], c: Cursor, word: &[u8], mistake: Mistake, asked: bool) -> Taken
-    ensures { result ≡ number_if s.now c word.now mistake asked }
+#[tactic(auto, unfolding(crate::specs::Parse::number_if))]
+fn number_if(c: &mut Cursor, word: &[u8], mistake: Mistake, asked: bool) -> u32
+    ensures value { result ≡ (number_if c.old word.now mistake asked).value }
+    ensures cursor { c.new ≡ (number_if c.old word.now mistake asked).cursor }
 {
-    if asked {
-        return cursor::number(s, cursor::word(s, c, word, mistake), ANY);
+    if !asked {
+        return 0;
     }
-    Taken {
-        value: 0,
-        cursor: c,
-    }
+    c.word(word, mistake);
+    c.number(ANY)
 }
 
-// The fields of an operation of a kind: its cart, a title and a recording where the kind has them.
-fn fields(s: &[u8], c: Cursor, op: &mut [u8], kind: u8, titled: bool, recorded: bool) -> Cursor
+// The fields of an operation: its cart, a title and a recording where its kind has them.
+#[tactic(auto, unfolding(crate::specs::Parse::fields_at))]
+fn fields(c: &mut Cursor, op: &mut [u8], kind: Kind)
     requires { length op.old ≡ cart_size }
-    ensures { gathered op.new result ≡ fields_at s.now c kind titled recorded }
+    ensures { gathered op.new c.new ≡ fields_at c.old (kind_byte kind) (has_title kind) (has_recording kind) }
 {
-    let cart = cursor::number(s, c, TWO_BYTES);
-    let title = title_if(s, cart.cursor, titled);
-    let audio = number_if(s, title.cursor, b"audio", Mistake::AudioMissing, recorded);
-    let milliseconds = number_if(s, audio.cursor, b"length", Mistake::LengthMissing, recorded);
-    let start = title.start;
-    let end = start + title.length;
-    let letters = &s[start..end];
-    build::put_operation(
-        op,
-        kind,
-        cart.value,
-        audio.value,
-        milliseconds.value,
-        letters,
-    );
-    milliseconds.cursor
+    let recorded = kind.has_recording();
+    let cart = c.number(TWO_BYTES);
+    let title = title_if(c, kind.has_title());
+    let audio = number_if(c, b"audio", Mistake::AudioMissing, recorded);
+    let milliseconds = number_if(c, b"length", Mistake::LengthMissing, recorded);
+    build::put_operation(op, kind.byte(), cart, audio, milliseconds, title);
 }
 
 // One operation, by its word.
-fn operation(s: &[u8], c: Cursor, op: &mut [u8]) -> Cursor
+fn operation(c: &mut Cursor, op: &mut [u8])
     requires { length op.old ≡ cart_size }
-    ensures { gathered op.new result ≡ operation_at s.now c }
+    ensures { gathered op.new c.new ≡ operation_at c.old }
 {
-    let word = cursor::peek_word(s, c);
-    let next = cursor::past_word(s, c);
-    if text::same(word, b"new") {
-        return fields(s, next, op, 1, true, true);
+    match Kind::of(c.peek_word()) {
+        Some(kind) => {
+            c.skip_word();
+            fields(c, op, kind);
+        }
+        None => {
+            bytes::clear(op);
+            c.stop(Mistake::UnknownOperation);
+        }
     }
-    if text::same(word, b"retitle") {
-        return fields(s, next, op, 2, true, false);
-    }
-    if text::same(word, b"re-cut") {
-        return fields(s, next, op, 3, false, true);
-    }
-    if text::same(word, b"withdraw") {
-        return fields(s, next, op, 4, false, false);
-    }
-    bytes::clear(op);
-    c.stopped(Mistake::UnknownOperation)
 }
 
-// One to eight operations, with a semicolon between two.
-fn operations(s: &[u8], c: Cursor, payload: &mut [u8]) -> Counted
+// One to eight operations, with a semicolon between two; their number.
+fn operations(c: &mut Cursor, payload: &mut [u8]) -> usize
     requires { length payload.old ≡ payload_size }
-    ensures { Stored cart_size (operations_at s.now c) payload.old payload.new result × (1 ≤ result.count) × (result.count ≤ 8) }
+    ensures { Stored cart_size (operations_at c.old) payload.old payload.new result c.new × (1 ≤ result) × (result ≤ 8) }
 {
-    let mut next = operation(s, c, &mut payload[0..Cart::SIZE]);
-    let mut n: usize = 1;
-    while n < 8 {
-        if cursor::peek(s, next) != 59 {
-            return Counted {
-                count: n,
-                cursor: next,
-            };
+    operation(c, &mut payload[0..Cart::SIZE]);
+    for n in 1..8 {
+        if c.peek() != b';' {
+            return n;
         }
+        c.mark(b';', Mistake::TooMuch);
         let start = Cart::SIZE * n;
-        let end = start + Cart::SIZE;
-        next = operation(
-            s,
-            cursor::mark(s, next, 59, Mistake::TooMuch),
-            &mut payload[start..end],
-        );
-        n += 1;
+        operation(c, &mut payload[start..start + Cart::SIZE]);
     }
-    if cursor::peek(s, next) == 59 {
-        next = next.stopped(Mistake::TooManyOperations);
+    if c.peek() == b';' {
+        c.stop(Mistake::TooManyOperations);
     }
-    Counted {
-        count: n,
-        cursor: next,
-    }
+    8
 }
 
-// One number or more, each at most a bound, as many as there is room for.
-fn numbers(s: &[u8], c: Cursor, most: u32, out: &mut [u32]) -> Counted
-    ensures { Stored 1 (numbers_at (length out.old) s.now c most) out.old out.new result × (result.count ≤ length out.old) }
+// One number or more, each at most a bound, as many as there is room for; how many were read.
+fn numbers(c: &mut Cursor, most: u32, out: &mut [u32]) -> usize
+    ensures { Stored 1 (numbers_at (length out.old) c.old most) out.old out.new result c.new × (result ≤ length out.old) }
 {
-    let mut next = c;
-    let mut n: usize = 0;
-    while n < out.len() {
-        let taken = cursor::number(s, next, most);
-        out[n] = taken.value;
-        next = taken.cursor;
-        n += 1;
-        if !text::is_in(Class::Digit, cursor::peek(s, next)) {
-            return Counted {
-                count: n,
-                cursor: next,
-            };
+    for (n, number) in out.iter_mut().enumerate() {
+        *number = c.number(most);
+        if !text::is_in(Class::Digit, c.peek()) {
+            return n + 1;
         }
     }
-    Counted {
-        count: n,
-        cursor: next.stopped(Mistake::TooManyNumbers),
-    }
+    c.stop(Mistake::TooManyNumbers);
+    out.len()
 }
 
 // Setup: the number of studios, then each session's studio.
-fn setup(s: &[u8], c: Cursor, payload: &mut [u8]) -> Call
+#[tactic(auto, using(crate::proofs::ParseLaws::setup_by_parts))]
+fn setup(c: &mut Cursor, payload: &mut [u8]) -> Call
     requires { length payload.old ≡ payload_size }
-    ensures { Means (setup_at s.now c) payload.old payload.new result }
+    ensures { Means (setup_at c.old) payload.old payload.new result }
 {
-    let studios = cursor::number(s, c, ANY);
+    let studios = c.number(ANY);
+    c.mark(b':', Mistake::ColonMissing);
     let mut places = [0u32; STUDIOS];
-    let colon = cursor::mark(s, studios.cursor, 58, Mistake::ColonMissing);
-    let read = numbers(s, colon, 255, &mut places);
-    let n = read.count;
+    let n = numbers(c, 255, &mut places);
     build::put_studios(&mut payload[0..STUDIOS], &places[..n]);
-    whole(s, read.cursor, Call::Setup(studios.value))
+    whole(c, Call::Setup(studios))
 }
 
 // The call of a session's operations: a preview of the commit, or the commit.
+#[tactic(auto, unfolding(crate::specs::Parse::edit_call))]
 fn edit_call(session: u32, operations: u32, previews: bool) -> Call
     requires { (1 ≤ operations) × (operations ≤ 8) }
     ensures { (result ≡ edit_call session operations previews) × call_fits result }
@@ -225,93 +301,109 @@ fn edit_call(session: u32, operations: u32, previews: bool) -> Call
 }
 
 // Commit and preview: the session, then the operations.
-fn edit(s: &[u8], c: Cursor, payload: &mut [u8], previews: bool) -> Call
+#[tactic(auto, using(crate::proofs::ParseLaws::edit_by_parts))]
+fn edit(c: &mut Cursor, payload: &mut [u8], previews: bool) -> Call
     requires { length payload.old ≡ payload_size }
-    ensures { Means (edit_at s.now c previews) payload.old payload.new result }
+    ensures { Means (edit_at c.old previews) payload.old payload.new result }
 {
-    let session = cursor::number(s, c, ANY);
-    let colon = cursor::mark(s, session.cursor, 58, Mistake::ColonMissing);
-    let read = operations(s, colon, payload);
-    let call = edit_call(session.value, read.count as u32, previews);
-    whole(s, read.cursor, call)
+    let session = c.number(ANY);
+    c.mark(b':', Mistake::ColonMissing);
+    let n = operations(c, payload);
+    let call = edit_call(session, n as u32, previews);
+    whole(c, call)
 }
 
 // A request by title.
-fn title_request(s: &[u8], c: Cursor, request: &mut [u8]) -> Cursor
+#[tactic(auto, unfolding(crate::specs::Parse::title_request_at))]
+fn title_request(c: &mut Cursor, request: &mut [u8])
     requires { length request.old ≡ cart_size }
-    ensures { gathered request.new result ≡ title_request_at s.now c }
+    ensures { gathered request.new c.new ≡ title_request_at c.old }
 {
-    let title = cursor::title(s, c);
-    let start = title.start;
-    let end = start + title.length;
-    build::put_operation(request, 2, 0, 0, 0, &s[start..end]);
-    title.cursor
+    let title = c.title();
+    build::put_operation(request, 2, 0, 0, 0, title);
 }
 
 // A request by numbers.
-fn numbers_request(s: &[u8], c: Cursor, request: &mut [u8]) -> Cursor
+#[tactic(auto, using(crate::proofs::ParseLaws::numbers_request))]
+fn numbers_request(c: &mut Cursor, request: &mut [u8])
     requires { length request.old ≡ cart_size }
-    ensures { gathered request.new result ≡ numbers_request_at s.now c }
+    ensures { gathered request.new c.new ≡ numbers_request_at c.old }
 {
     let mut carts = [0u32; NUMBERS];
-    let read = numbers(s, c, TWO_BYTES, &mut carts);
-    let n = read.count;
+    let n = numbers(c, TWO_BYTES, &mut carts);
     build::put_numbers(request, &carts[..n]);
-    read.cursor
+}
+
+// Cart numbers or a title; the mark of a title tells which.
+#[tactic(auto, unfolding(crate::specs::Parse::request_at))]
+fn request(c: &mut Cursor, request: &mut [u8])
+    requires { length request.old ≡ cart_size }
+    ensures { gathered request.new c.new ≡ request_at c.old }
+{
+    let next = c.peek();
+    if next == b'"' || next == b'\'' {
+        title_request(c, request);
+    } else {
+        numbers_request(c, request);
+    }
 }
 
 // Read and forward: the session, then cart numbers or a title.
-fn read(s: &[u8], c: Cursor, payload: &mut [u8], forwards: bool) -> Call
+#[tactic(auto, using(crate::proofs::ParseLaws::read_by_parts))]
+fn read(c: &mut Cursor, payload: &mut [u8], forwards: bool) -> Call
     requires { length payload.old ≡ payload_size }
-    ensures { Means (read_at s.now c forwards) payload.old payload.new result }
+    ensures { Means (read_at c.old forwards) payload.old payload.new result }
 {
-    let n = cursor::number(s, c, ANY);
-    let session = n.value;
+    let session = c.number(ANY);
     let call = Call::Read { session, forwards };
-    let colon = cursor::mark(s, n.cursor, 58, Mistake::ColonMissing);
-    let next = cursor::peek(s, colon);
-    if (next == 34) | (next == 39) {
-        let end = title_request(s, colon, &mut payload[0..Cart::SIZE]);
-        return whole(s, end, call);
-    }
-    let end = numbers_request(s, colon, &mut payload[0..Cart::SIZE]);
-    whole(s, end, call)
+    c.mark(b':', Mistake::ColonMissing);
+    request(c, &mut payload[0..Cart::SIZE]);
+    whole(c, call)
 }
 
 // Move: the session, the word to, the studio.
-fn move_session(s: &[u8], c: Cursor) -> Call
-    ensures { (result ≡ move_at s.now c) × call_fits result }
+#[tactic(auto, unfolding(crate::specs::Parse::move_at))]
+fn move_session(c: &mut Cursor) -> Call
+    ensures { (result ≡ move_at c.old) × call_fits result }
 {
-    let session = cursor::number(s, c, ANY);
-    let to = cursor::word(s, session.cursor, b"to", Mistake::ToMissing);
-    let studio = cursor::number(s, to, ANY);
-    let call = Call::Move {
-        session: session.value,
-        studio: studio.value,
-    };
-    whole(s, studio.cursor, call)
+    let session = c.number(ANY);
+    c.word(b"to", Mistake::ToMissing);
+    let studio = c.number(ANY);
+    whole(c, Call::Move { session, studio })
 }
 
-// A call that has one number: a studio, a session or an edit.
-fn by_number(s: &[u8], c: Cursor, word: &[u8]) -> Call
-    ensures { (result ≡ number_call_at s.now c word.now) × call_fits result }
+// The call of a line, past its first word.
+#[tactic(auto, using(crate::proofs::ParseLaws::call_alone), unfolding(crate::specs::Parse::line_by))]
+fn call_by(c: &mut Cursor, command: Command, payload: &mut [u8]) -> Call
+    requires { length payload.old ≡ payload_size }
+    ensures { Means (line_by c.old command) payload.old payload.new result }
 {
-    let n = cursor::number(s, c, ANY);
-    if text::same(word, b"send") {
-        return whole(s, n.cursor, Call::Send(n.value));
-    }
-    if text::same(word, b"refresh") {
-        return whole(s, n.cursor, Call::Refresh(n.value));
-    }
-    if text::same(word, b"collect") {
-        return whole(s, n.cursor, Call::Collect(n.value));
-    }
-    if text::same(word, b"van") {
-        return whole(s, n.cursor, Call::Van(n.value));
-    }
-    Call::Unreadable {
-        mistake: Mistake::UnknownWord,
-        at: 0,
+    match command {
+        Command::Show => whole(c, Call::Show),
+        Command::Setup => setup(c, payload),
+        Command::Commit => edit(c, payload, false),
+        Command::Preview => edit(c, payload, true),
+        Command::Read => read(c, payload, false),
+        Command::Forward => read(c, payload, true),
+        Command::Move => move_session(c),
+        Command::Load => whole(c, Call::Load),
+        Command::Retire => whole(c, Call::Retire),
+        Command::Send => {
+            let studio = c.number(ANY);
+            whole(c, Call::Send(studio))
+        }
+        Command::Refresh => {
+            let studio = c.number(ANY);
+            whole(c, Call::Refresh(studio))
+        }
+        Command::Collect => {
+            let session = c.number(ANY);
+            whole(c, Call::Collect(session))
+        }
+        Command::Van => {
+            let edit = c.number(ANY);
+            whole(c, Call::Van(edit))
+        }
     }
 }
 
@@ -320,38 +412,16 @@ pub fn parse(s: &[u8], payload: &mut [u8]) -> Call
     requires { length payload.old ≡ payload_size }
     ensures { (result ≡ call_of s.now) × (payload.new ≡ payload_of s.now payload.old) × call_fits result }
 {
-    let c = Cursor::new(0);
-    if cursor::is_over(s, c) {
+    let mut c = Cursor::new(s);
+    if c.is_over() {
         return Call::Nothing;
     }
-    let word = cursor::peek_word(s, c);
-    let next = cursor::past_word(s, c);
-    if text::same(word, b"show") {
-        return whole(s, next, Call::Show);
-    }
-    if text::same(word, b"setup") {
-        return setup(s, next, payload);
-    }
-    if text::same(word, b"commit") {
-        return edit(s, next, payload, false);
-    }
-    if text::same(word, b"preview") {
-        return edit(s, next, payload, true);
-    }
-    if text::same(word, b"read") {
-        return read(s, next, payload, false);
-    }
-    if text::same(word, b"forward") {
-        return read(s, next, payload, true);
-    }
-    if text::same(word, b"move") {
-        return move_session(s, next);
-    }
-    if text::same(word, b"load") {
-        return whole(s, next, Call::Load);
-    }
-    if text::same(word, b"retire") {
-        return whole(s, next, Call::Retire);
-    }
-    by_number(s, next, word)
+    let Some(command) = Command::of(c.peek_word()) else {
+        return Call::Unreadable {
+            mistake: Mistake::UnknownWord,
+            at: 0,
+        };
+    };
+    c.skip_word();
+    call_by(&mut c, command, payload)
 }

@@ -3,8 +3,6 @@ ghost use Rattle.std.specs.Prelude.{◌≡◌, ◌+◌, ◌*◌, ◌-◌, ◌<�
 ghost use Rattle.carts.specs.Bytes.{byte, pairwise};
 ghost use Rattle.lines.specs.Text.{in_class, run_end, part_in, number_of};
 
-use carts::bytes;
-
 // A class of bytes: spaces, letters of a word, digits, or every byte but one.
 #[derive(Clone, Copy)]
 pub enum Class {
@@ -14,10 +12,9 @@ pub enum Class {
     Other(u8),
 }
 
-// What a run of digits says.
+// Why a run of digits says no number.
 #[derive(Clone, Copy)]
-pub enum Number {
-    Value(u32),
+pub enum NumberError {
     Missing,
     TooLarge,
 }
@@ -26,28 +23,22 @@ pub enum Number {
 pub fn letter(s: &[u8], at: usize) -> u8
     ensures { result ≡ byte s.now at }
 {
-    if at < s.len() {
-        return s[at];
-    }
-    0
+    s.get(at).copied().unwrap_or(0)
 }
 
 // A byte as a number.
 pub fn wide(b: u8) -> u32
     ensures { (result ≡ b) × (result < 256) }
 {
-    b as u32
+    u32::from(b)
 }
 
 // The n bytes from a place on, or none where they are not all there.
 pub fn part_of(s: &[u8], at: usize, n: usize) -> &[u8]
     ensures { result.now ≡ part_in s.now at n }
 {
-    if s.len() < at {
-        return &s[0..0];
-    }
-    if s.len() - at < n {
-        return &s[0..0];
+    if s.len() < at || s.len() - at < n {
+        return &[];
     }
     &s[at..at + n]
 }
@@ -56,10 +47,7 @@ pub fn part_of(s: &[u8], at: usize, n: usize) -> &[u8]
 pub fn same(a: &[u8], b: &[u8]) -> bool
     ensures { result ≡ pairwise eqb a.now b.now }
 {
-    if a.len() != b.len() {
-        return false;
-    }
-    bytes::are_equal(a, b)
+    a == b
 }
 
 // The byte is of the class.
@@ -78,42 +66,27 @@ pub fn is_in(class: Class, b: u8) -> bool
 pub fn run_end(s: &[u8], at: usize, class: Class) -> usize
     ensures { (result ≡ run_end s.now at class) × (at ≤ result) × (at ≤ length s.now → result ≤ length s.now) }
 {
-    let mut i = at;
-    while i < s.len() {
+    for i in at..s.len() {
         if !is_in(class, s[i]) {
             return i;
         }
-        i += 1;
     }
-    i
-}
-
-// What a digit stands for.
-fn digit(b: u8) -> u64
-    ensures { (result ≡ b - 48) × (result < 256) }
-{
-    if b < 48 {
-        return 0;
-    }
-    (b - 48) as u64
+    at.max(s.len())
 }
 
 // The number that digits say in base ten, where it is at most a bound.
-pub fn number_of(digits: &[u8], most: u32) -> Number
+pub fn number_of(digits: &[u8], most: u32) -> Result<u32, NumberError>
     ensures { result ≡ number_of most digits.now }
 {
-    if digits.len() == 0 {
-        return Number::Missing;
+    if digits.is_empty() {
+        return Err(NumberError::Missing);
     }
-    let bound = most as u64;
     let mut value: u64 = 0;
-    let mut i = 0;
-    while i < digits.len() {
-        value = 10 * value + digit(digits[i]);
-        i += 1;
-        if bound < value {
-            return Number::TooLarge;
+    for digit in digits {
+        value = 10 * value + u64::from(digit.saturating_sub(b'0'));
+        if u64::from(most) < value {
+            return Err(NumberError::TooLarge);
         }
     }
-    Number::Value(value as u32)
+    Ok(value as u32)
 }
