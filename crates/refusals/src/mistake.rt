@@ -12,7 +12,6 @@ fn sentence(mistake: Mistake) -> &'static [u8]
     ensures fits { length result.now ≤ 128 }
 {
     match mistake {
-        Mistake::None => b"nothing is wrong",
         Mistake::UnknownWord =>
             b"the line begins with none of setup, commit, preview, send, refresh, read, collect, forward, move, load, retire, van, show",
         Mistake::UnknownOperation => b"an operation begins with new, retitle, re-cut or withdraw",
