@@ -1,3 +1,2 @@
--- Laws for the proofs of this crate, and worked examples.
+-- Worked examples.
 pub mod Examples
-pub mod RefusalLaws
