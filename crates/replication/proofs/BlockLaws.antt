@@ -3,17 +3,11 @@ use Prim.Native.Nat.{ℕ, ◌+◌, ◌<◌, ◌≤◌}
 use mathlib.Core.Path.{◌≡◌, refl, sym, ap, ◌∙◌}
 use mathlib.Core.Bool.{Bool, true, false, cond}
 use mathlib.Core.List.{List, [], ◌∷◌}
-use mathlib.Core.Logic.{⊎_elim}
 use native.Mathlib.Omega.{arith}
 use lib.Dec.{leb}
 use borrow.Author.Tests.{le-leb, lt-leb}
-use types.Run.{OneOf}
-use denote.Enum.Declared.{tag_of}
-use Rattle.replication.specs.declared.answer.ReadAnswer.{ReadAnswer}
-use Rattle.replication.specs.declared.answer.ReadAnswer.TheVariants.{Answered, Waits, Refused}
-use Rattle.replication.specs.contracts.answer.ReadAnswer.{the_type}
 use Rattle.carts.proofs.TestLaws.{cond_both}
-use Rattle.replication.specs.Answer.{Answer, read_answer, refused, done, waits, answered}
+use Rattle.replication.specs.Answer.{Answer, refused, done, waits, answered}
 use Rattle.replication.specs.Memory.{Memory, copy_at, session_at, with_session, sequence_of, with_sequence, nth, studio_of}
 use Rattle.replication.specs.Request.{Request}
 use Rattle.replication.specs.Calls.{After, after, with_sessions, number_after, answer_from, block_by, block}
@@ -56,19 +50,9 @@ wait_number (done k) = 0
 wait_number (waits k) = k + 1
 wait_number (answered k l) = 0
 
-pub wait_small : (k n : ℕ) → k < 65536 → waits k ≡ waits n → n < 65536
-unfolding wait_number
-wait_small k n h e = let z : k + 1 ≡ n + 1 = ap wait_number e in omega arith
-
 pub answered_waits : (state found n : ℕ) → answered state found ≡ waits n → ⊥
 unfolding wait_number
 answered_waits state found n e = let z : 0 ≡ n + 1 = ap wait_number e in absurd (omega arith)
-
-pub not_waits : (r : ReadAnswer) → OneOf (0 ∷ 2 ∷ []) (tag_of the_type r) → (n : ℕ) → read_answer r ≡ waits n → ⊥
-unfolding wait_number
-not_waits (Answered state found) k n e = answered_waits state found n e
-not_waits (Waits j) k n e = ⊎_elim (λ q. omega arith) (λ q. omega arith) k
-not_waits (Refused j) k n e = let z : 0 ≡ n + 1 = ap wait_number e in absurd (omega arith)
 
 -- a wait that changes nothing
 abbrev pub waits_in : Control → Memory → ℕ → List ℕ → After

@@ -29,6 +29,9 @@ module _ (library copy : List ℕ) (n applied i : ℕ) where
 abbrev pub level_at : Control → List ℕ → List ℕ → ℕ → ℕ → Bool
 level_at c library copy n i = is_level library copy n (nth c.applied i) i
 
+pub level_at_of : (c : Control) (library copy : List ℕ) (n i applied : ℕ) (level : Bool) → level ≡ is_level library copy n applied i → applied ≡ nth c.applied i → level ≡ level_at c library copy n i
+level_at_of c library copy n i applied level e a = e ∙ ap (λ (k : ℕ). is_level library copy n k i) a
+
 pub level_studios : (c : Control) (library copy : List ℕ) (n : ℕ) → are_level c library copy n ≡ every (level_at c library copy n) (up_from (0 + 1) (c.studios - 0))
 unfolding are_level
 level_studios c library copy n = let z : c.studios - 0 ≡ c.studios = omega arith in rw z

@@ -26,3 +26,4 @@ pub mod SendLaws
 pub mod SessionLaws
 pub mod SetupLaws
 pub mod ShownLaws
+pub mod StudioLaws

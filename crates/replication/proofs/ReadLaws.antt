@@ -1,8 +1,8 @@
 -- Laws of read, forward and collect: rows 4, 12, 13 and 14, what is known where no row stops the call, and the ways of an accepted one.
 use Prim.Native.Nat.{ℕ, ◌-◌, ◌*◌, ◌<◌, ◌≤◌}
-use mathlib.Core.Path.{◌≡◌, sym, ◌∙◌}
+use mathlib.Core.Path.{◌≡◌, refl, sym, ◌∙◌}
 use mathlib.Core.Bool.{true, false}
-use mathlib.Core.List.{List}
+use mathlib.Core.List.{List, [], ◌∷◌, ◌++◌}
 use native.Mathlib.Omega.{arith}
 use lib.ListN.{length}
 use borrow.Author.Tests.{lt-ltb, le-ltb}
@@ -11,14 +11,14 @@ use Rattle.carts.proofs.PartLaws.{length_part}
 use Rattle.replication.specs.Answer.{Answer, refused, waits}
 use Rattle.replication.specs.Memory.{Memory, session_at, with_session, with_sequence, sequence_of, studio_of}
 use Rattle.replication.specs.Request.{Request, request_of, request_form, is_waiting, needed}
-use Rattle.replication.specs.Rows.{stopped, request_rows, waiting_rows, read_stop, collect_stop}
+use Rattle.replication.specs.Rows.{stopped, memory_rows, session_row, request_rows, read_rows, waiting_rows, collect_rows, read_stop, collect_stop}
 use Rattle.replication.specs.Calls.{After, after, with_sessions, number_after, block, reading_by, read_by, read, collect_by, collect, forward_by, forward}
 use Rattle.replication.specs.Values.{due_of, forward_source, answer_by}
 use Rattle.replication.specs.declared.control.Control.{Control}
 use Rattle.replication.specs.declared.block.Due.{Due}
 use Rattle.replication.specs.declared.source.Source.{Source}
-use Rattle.replication.proofs.RowLaws.{unless_stopped, unless_accepted}
-use Rattle.replication.proofs.DecideLaws.{accepted}
+use Rattle.replication.proofs.RowLaws.{unless_stopped, unless_accepted, session_numbered}
+use Rattle.replication.proofs.DecideLaws.{accepted, by_rest}
 use Rattle.replication.proofs.Accepted.{read_passed, collect_passed}
 use Rattle.replication.proofs.SessionLaws.{Caller, caller, Asked, request_parts, waiting_fields, session_fields}
 use Rattle.replication.proofs.BlockLaws.{waits_in, block_forward, step_answered, step_waits}
@@ -54,6 +54,16 @@ module _ (waiting : Request) (room : ℕ) where
   pub may_collect : is_waiting waiting ≡ true → (n : ℕ) → needed waiting ≡ n → n ≤ room → 0 ≡ stopped (waiting_rows waiting room)
   unfolding stopped
   may_collect w n e h = rw (w, e, le-ltb room n h)
+
+-- a row after row 3 of a read or collect that rows 1 to 3 do not stop
+module _ (c : Control) (m : Memory) (s : ℕ) (e : 0 ≡ stopped (memory_rows c m ++ (session_row s (studio_of c s) ∷ []))) where
+  pub read_rest : (request : List ℕ) (room n : ℕ) → n ≡ stopped (request_rows (request_of (session_at m.sessions s)) request room) → n ≡ read_stop c m s request room
+  unfolding read_stop read_rows
+  read_rest request room n g = by_rest c m (session_row s (studio_of c s)) _ (session_numbered _ _) 0 e refl n g
+
+  pub collect_rest : (room n : ℕ) → n ≡ stopped (waiting_rows (request_of (session_at m.sessions s)) room) → n ≡ collect_stop c m s room
+  unfolding collect_stop collect_rows
+  collect_rest room n g = by_rest c m (session_row s (studio_of c s)) _ (session_numbered _ _) 0 e refl n g
 
 -- a whole read, or forward
 module _ (c : Control) (m : Memory) (s : ℕ) (request out : List ℕ) (v : ℕ) (e : v ≡ read_stop c m s request (length out)) where

@@ -2,7 +2,7 @@
 use Prim.Native.Nat.{ℕ, zero, suc, ◌-◌, ◌<◌, ◌≤◌}
 use mathlib.Core.Path.{◌≡◌, refl, sym, ap, ◌∙◌}
 use mathlib.Core.Bool.{Bool, true, false, false≢true}
-use mathlib.Core.List.{List, [], ◌∷◌}
+use mathlib.Core.List.{List, [], ◌∷◌, ◌++◌}
 use native.Mathlib.Omega.{arith}
 use lib.ListN.{length, get_or}
 use lib.Dec.{eqb, leb}
@@ -15,7 +15,8 @@ use Rattle.replication.specs.Layout.{waiting_form, session_form, session_form_of
 use Rattle.replication.specs.Values.{session_value, waits_by, needed_by}
 use Rattle.replication.specs.declared.control.Control.{Control}
 use Rattle.replication.specs.declared.session.Session.{Session}
-use Rattle.replication.proofs.DecideLaws.{KnownSession}
+use Rattle.replication.specs.Rows.{stopped, memory_rows, session_row}
+use Rattle.replication.proofs.DecideLaws.{KnownSession, known_session_law, first_formed, first_who}
 use Rattle.replication.proofs.Formed.{Formed, few, applied_known}
 use Rattle.replication.proofs.RequestLaws.{waiting_is, needed_is}
 use Rattle.replication.proofs.OutputLaws.{value_waiting}
@@ -28,9 +29,20 @@ module _ (x : List ℕ) (v : Session) (e : v ≡ session_value x) where
   pub needs_is : (n : ℕ) → n ≡ needed_by v.waiting → needed (request_of x) ≡ n
   needs_is n f = needed_is x ∙ ap needed_by (sym (value_waiting x v e)) ∙ sym f
 
+-- the same of a session's bytes, where they are read from session memory
+pub own_waits : (x own : List ℕ) (v : Session) → own ≡ x → v ≡ session_value own → (b : Bool) → b ≡ waits_by v.waiting → is_waiting (request_of x) ≡ b
+own_waits x own v o e b f = waits_is x v (e ∙ ap session_value o) b f
+
+pub own_needs : (x own : List ℕ) (v : Session) → own ≡ x → v ≡ session_value own → (n : ℕ) → n ≡ needed_by v.waiting → needed (request_of x) ≡ n
+own_needs x own v o e n f = needs_is x v (e ∙ ap session_value o) n f
+
 -- a session that row 3 does not stop stands in session memory
 pub session_placed : (c : Control) (m : Memory) (s studio : ℕ) → Formed c m → KnownSession s studio → (length m.sessions ≡ 1280) × ((1 ≤ s) × (s ≤ 16))
 session_placed c m s studio f w = (f.sessions.size, (w.low, w.high))
+
+pub session_found : (c : Control) (m : Memory) (s : ℕ) → 0 ≡ stopped (memory_rows c m ++ (session_row s (studio_of c s) ∷ []))
+    → (length m.sessions ≡ 1280) × ((1 ≤ s) × (s ≤ 16))
+session_found c m s e = session_placed c m s (studio_of c s) (first_formed c m _ 0 e refl) (known_session_law s (studio_of c s) (first_who c m _ 0 e refl))
 
 -- the same, and the studio that it reads from
 pub record Caller (c : Control) (m : Memory) (s : ℕ) : Type 0 where

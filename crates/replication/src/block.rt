@@ -23,8 +23,8 @@ pub struct Due {
 
 impl Due {
     pub fn at(control: Control, sessions: &[u8], session: u32) -> Due
-        requires sessions_len { (length sessions.now ≡ sessions_size) × ((1 ≤ session) × (session ≤ session_count)) }
-        requires bound { (1 ≤ studio_of control session) × (studio_of control session ≤ studio_count) }
+        requires memory { (length sessions.now ≡ sessions_size) × ((1 ≤ session) × (session ≤ session_count)) }
+        requires studio { (1 ≤ studio_of control session) × (studio_of control session ≤ studio_count) }
         ensures { (result ≡ due_of control sessions.now session) × (result.number < 65536) }
     {
         let own = Session::from_bytes(session::session_at(sessions, session));
@@ -72,14 +72,14 @@ pub fn block(
     left: &[u8],
     output: &mut [u8],
 ) -> Reading
-    requires library_len { (length library.now ≡ library_size) × ((length sessions.old ≡ sessions_size) × ((1 ≤ session) × (session ≤ session_count))) }
-    requires bound { ((1 ≤ studio_of control session) × (studio_of control session ≤ studio_count)) × (nth control.applied (studio_of control session) < 65536) }
-    requires asked_len { (length asked.now ≡ session_size) × ((request_fields asked.now ≡ true) × (needed (request_of asked.now) ≤ length output.old)) }
-    requires left_len { length left.now ≡ session_size }
-    ensures by_index { (log : List ℕ) → after (read_answer (Ok result)) control (memory library.now log sessions.new) output.new
+    requires memory { (length library.now ≡ library_size) × ((length sessions.old ≡ sessions_size) × ((1 ≤ session) × (session ≤ session_count))) }
+    requires studio { ((1 ≤ studio_of control session) × (studio_of control session ≤ studio_count)) × (nth control.applied (studio_of control session) < 65536) }
+    requires request { (length asked.now ≡ session_size) × ((request_fields asked.now ≡ true) × (needed (request_of asked.now) ≤ length output.old)) }
+    requires left_by { length left.now ≡ session_size }
+    ensures left { (log : List ℕ) → after (read_answer (Ok result)) control (memory library.now log sessions.new) output.new
         ≡ block control (memory library.now log sessions.old) session (request_of asked.now) left.now
         (after (waits (sequence_of (session_at sessions.old session))) control (memory library.now log sessions.old) output.old) output.old }
-    ensures by_index_2 { (n : ℕ) → read_answer (Ok result) ≡ waits n → n < 65536 }
+    ensures small { (n : ℕ) → read_answer (Ok result) ≡ waits n → n < 65536 }
 {
     let due = Due::at(control, sessions, session);
     if due.state < due.number {

@@ -16,8 +16,8 @@ use carts::bytes;
 
 // Which copy answers. Where it is the head end's, the session has seen all that is committed.
 fn source_of(control: Control, due: Due) -> Source
-    requires number_bound { (due.number < 65536) × ((due.state < 65536) × (control.commits < 65536)) }
-    requires studio_le_studio_count { due.studio ≤ studio_count }
+    requires numbers { (due.number < 65536) × ((due.state < 65536) × (control.commits < 65536)) }
+    requires studio { due.studio ≤ studio_count }
     ensures { (result ≡ forward_source control due) × ((result.copy ≤ studio_count) × (result.next < 65536)) }
 {
     let commits = control.commits;

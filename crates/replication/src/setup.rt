@@ -32,8 +32,8 @@ fn numbers_of(places: &[u8]) -> [u32; 16]
     ensures { result ≡ places.now }
 {
     let mut numbers = [0u32; 16];
-    for (number, b) in numbers.iter_mut().zip(places) {
-        *number = u32::from(*b);
+    for (i, b) in places.iter().enumerate() {
+        numbers[i] = u32::from(*b);
     }
     numbers
 }

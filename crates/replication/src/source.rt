@@ -28,10 +28,10 @@ pub fn answer_from(
     left: &[u8],
     output: &mut [u8],
 ) -> Reading
-    requires library_len { (length library.now ≡ library_size) × ((length sessions.old ≡ sessions_size) × ((1 ≤ session) × (session ≤ session_count))) }
-    requires copy_le_studio_count { (source.copy ≤ studio_count) × (source.next < 65536) }
-    requires asked_len { (length asked.now ≡ session_size) × ((request_fields asked.now ≡ true) × (needed (request_of asked.now) ≤ length output.old)) }
-    requires left_len { length left.now ≡ session_size }
+    requires memory { (length library.now ≡ library_size) × ((length sessions.old ≡ sessions_size) × ((1 ≤ session) × (session ≤ session_count))) }
+    requires source { (source.copy ≤ studio_count) × (source.next < 65536) }
+    requires request { (length asked.now ≡ session_size) × ((request_fields asked.now ≡ true) × (needed (request_of asked.now) ≤ length output.old)) }
+    requires left_by { length left.now ≡ session_size }
     ensures { (c : Control) (log : List ℕ) → after (read_answer (Ok result)) c (memory library.now log sessions.new) output.new
         ≡ answer_by source (request_of asked.now) c (memory library.now log sessions.old) session left.now output.old }
 {

@@ -15,7 +15,7 @@ applied_by-applied-requires c = let k = refresh_known _ _ _ _ c.in_default.ensur
 pub transaction_after-first-requires : goal.transaction_after-first-requires
 transaction_after-first-requires c =
     let k = refresh_known _ _ _ _ c.in_default.ensures refl in
-    record { log_len = (k.log, rw c.applied_by-applied.ensures k.kept); oldest_value = rw c.applied_by-applied.ensures k.walks }
+    record { kept = (k.log, rw c.applied_by-applied.ensures k.kept); reached = rw c.applied_by-applied.ensures k.walks }
 
 pub slice_bounds-apply_transaction-end : goal.slice_bounds-apply_transaction-end
 slice_bounds-apply_transaction-end c = let k = refresh_known _ _ _ _ c.in_default.ensures refl in omega (arith, k.library, k.high)
