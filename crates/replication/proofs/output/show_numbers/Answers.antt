@@ -13,18 +13,18 @@ use Rattle.replication.proofs.output.show_numbers.Goals as goal
 
 pub loop-i-init : goal.loop-i-init
 loop-i-init c = let g = c.args in
-    let e = c.requires.count_value in
+    let e = c.requires.count in
     record { few = omega arith; found = found_start g.copy.now g.request.now _ e; shown = shown_start g.copy.now g.request.now _ e g.output.now }
 
 pub u16_at-c-requires : goal.u16_at-c-requires
-u16_at-c-requires c = let k = few_numbers c.args.request.now c.requires.request_value.0 in omega (arith, c.requires.count_value)
+u16_at-c-requires c = let k = few_numbers c.args.request.now c.requires.request.0 in omega (arith, c.requires.count)
 
 pub show_cart-found-requires : goal.show_cart-found-requires
 show_cart-found-requires c =
-    let n = c.requires.count_value in
+    let n = c.requires.count in
     let e = c.u16_at-c.ensures.0 in
-    let w = number_within c.args.request.now c.requires.request_value.0 c.loop-i.i (omega arith) in
-    record { copy_len = (c.requires.copy_len.0, (omega arith, omega arith)); place_len = length_lent 80 c.loop-i.i c.loop-i.output (omega arith) }
+    let w = number_within c.args.request.now c.requires.request.0 c.loop-i.i (omega arith) in
+    record { copy = (c.requires.copy.0, (omega arith, omega arith)); place = length_lent 80 c.loop-i.i c.loop-i.output (omega arith) }
 
 pub overflow_add-found : goal.overflow_add-found
 overflow_add-found c = let m = one_at_most _ _ c.show_cart-found.ensures.0 in omega arith
@@ -46,7 +46,7 @@ loop-i-preserved c = let g = c.args in
 
 pub returns : goal.returns
 returns c = let g = c.args in
-    let e = c.requires.count_value in
+    let e = c.requires.count in
     let h = c.loop-i-test.false in (
       found_end g.copy.now g.request.now _ c.loop-i.i c.loop-i.found h c.loop-i.invariant.found,
       shown_end g.copy.now g.request.now _ c.loop-i.i c.loop-i.output h c.loop-i.invariant.shown
