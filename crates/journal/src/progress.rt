@@ -1,4 +1,6 @@
 // What a player of a transcript carries from line to line, and how each answer changes it.
+#![tactic(auto, unfolding(crate::specs::Progress::counted, crate::specs::Progress::compared, crate::specs::Progress::next_line, crate::specs::Progress::stepped, crate::specs::Progress::with_van, crate::specs::Progress::after_setup, van::specs::Receive::fresh_van, crate::specs::Progress::after_count, crate::specs::Progress::after_receive, crate::specs::Progress::places_of, crate::specs::Progress::request_in))]
+
 ghost use Rattle.std.specs.Prelude.{◌≡◌, ◌*◌, ◌<◌, ◌≤◌, length};
 ghost use Rattle.journal.specs.History.{slot_size};
 ghost use Rattle.journal.specs.declared.progress.Outcome.TheVariants.{Unreadable};
@@ -58,17 +60,27 @@ fn entry_of(kind: Kind, line: u32, session: u32, number: u32, found: u32) -> Ent
 
 impl Tally {
     // One line more of an outcome.
-    fn counted(mut self, outcome: Outcome) -> Tally
+    fn counted(self, outcome: Outcome) -> Tally
         ensures { result ≡ counted self outcome }
     {
-        let count = match outcome {
-            Outcome::Accepted => &mut self.accepted,
-            Outcome::Waited => &mut self.waited,
-            Outcome::Refused => &mut self.refused,
-            Outcome::Unreadable => &mut self.unreadable,
-        };
-        *count = count.wrapping_add(1);
-        self
+        match outcome {
+            Outcome::Accepted => Tally {
+                accepted: self.accepted.wrapping_add(1),
+                ..self
+            },
+            Outcome::Waited => Tally {
+                waited: self.waited.wrapping_add(1),
+                ..self
+            },
+            Outcome::Refused => Tally {
+                refused: self.refused.wrapping_add(1),
+                ..self
+            },
+            Outcome::Unreadable => Tally {
+                unreadable: self.unreadable.wrapping_add(1),
+                ..self
+            },
+        }
     }
 }
 
@@ -167,11 +179,10 @@ impl Progress {
     pub fn after_count(self, res: CountResult) -> Progress
         ensures { (result ≡ after_count self res.control res.answer) × (result.history.entries ≤ self.history.entries) }
     {
-        let outcome = match res.answer {
-            Ok(_) => Outcome::Accepted,
-            Err(_) => Outcome::Refused,
-        };
-        self.stepped(res.control, self.history, outcome)
+        match res.answer {
+            Ok(_) => self.stepped(res.control, self.history, Outcome::Accepted),
+            Err(_) => self.stepped(res.control, self.history, Outcome::Refused),
+        }
     }
 
     // A commit was answered: accepted, it is an entry with its number; refused with 8, with the commits handed back.
@@ -232,12 +243,11 @@ impl Progress {
     pub fn after_receive(self, control: Control, res: ReceiveResult) -> Progress
         ensures { (result ≡ after_receive self control res.applied res.answer) × (result.history.entries ≤ self.history.entries) }
     {
-        let outcome = match res.answer {
-            Ok(_) => Outcome::Accepted,
-            Err(_) => Outcome::Refused,
-        };
-        self.with_van(res.applied)
-            .stepped(control, self.history, outcome)
+        let next = self.with_van(res.applied);
+        match res.answer {
+            Ok(_) => next.stepped(control, self.history, Outcome::Accepted),
+            Err(_) => next.stepped(control, self.history, Outcome::Refused),
+        }
     }
 
     // A line that is no call.

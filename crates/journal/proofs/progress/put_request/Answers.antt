@@ -1,11 +1,6 @@
-use Rattle.journal.specs.Progress.{request_in}
-use Rattle.std.proofs.Common.{eq-eqb, ne_eqb}
+use Rattle.std.proofs.Common.{sym, ◌∙◌}
+use Rattle.std.proofs.Math.Seq.{length-take-le}
 use Rattle.journal.proofs.progress.put_request.Goals as goal
 
-pub returns-then-request-ne-SLOT : goal.returns-then-request-ne-SLOT
-unfolding request_in
-returns-then-request-ne-SLOT c = rw (ne_eqb _ _ c.if-request-ne-SLOT.true)
-
-pub returns : goal.returns
-unfolding request_in
-returns c = rw (eq-eqb _ _ c.if-request-ne-SLOT.false, c.copy_all.ensures)
+pub copy_from_slice-requires : goal.copy_from_slice-requires
+copy_from_slice-requires c = length-take-le 80 c.args.block.now c.requires ∙ sym c.if-request-eq-SLOT.true
