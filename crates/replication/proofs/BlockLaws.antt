@@ -2,7 +2,7 @@
 use Prim.Native.Nat.{ℕ, ◌+◌, ◌<◌, ◌≤◌}
 use mathlib.Core.Path.{◌≡◌, refl, sym, ap, ◌∙◌}
 use mathlib.Core.Bool.{Bool, true, false, cond}
-use mathlib.Core.List.{List, [], ◌∷◌}
+use mathlib.Core.List.{List}
 use native.Mathlib.Omega.{arith}
 use lib.Dec.{leb}
 use borrow.Author.Tests.{le-leb, lt-leb}
@@ -27,9 +27,6 @@ pub due_known : (c : Control) (sessions : List ℕ) (s : ℕ) (due : Due) → du
 due_known c sessions s due d i a = rw d (i, a)
 
 -- what answers, as the code chooses it
-pub studio_is : (d : Due) (next : ℕ) → next ≡ number_after d.number d.state → ◌≡◌ {A = Source} record { copy = d.studio; state = d.state; next = next } (studio_source d)
-studio_is d next e = rw e
-
 pub source_copy : (d : Due) (v : Source) → v ≡ studio_source d → d.studio ≤ 4 → v.copy ≤ 4
 source_copy d v e u = rw e u
 

@@ -117,6 +117,9 @@ module _ (copy title : List ℕ) (found : Found) (e : found ≡ search_answer (t
   pub title_not_one : OneOf (1 ∷ 2 ∷ []) (tag_of the_type found) → zeros 80 ≡ the_one copy (titled_in title copy)
   title_not_one k = sym (found_other title copy (not_one (search_answer (titled_in title copy)) (rw e at k)))
 
+  pub title_other : ((c : ℕ) → found ≡ One c → ⊥) → zeros 80 ≡ the_one copy (titled_in title copy)
+  title_other f = sym (found_other title copy (λ c g. f c (e ∙ g)))
+
   module _ (c : ℕ) (g : found ≡ One c) where
     pub one_found : 1 ≡ length (titled_in title copy)
     one_found = ap found_count (sym g) ∙ title_found

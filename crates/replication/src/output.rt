@@ -15,8 +15,8 @@ use carts::{bytes, cart, titles};
 
 // Cart c of a copy is written to 80 bytes of output; the answer is 1 if it is held, else 0.
 fn show_cart(copy: &[u8], c: u32, place: &mut [u8]) -> u32
-    requires copy_len { (length copy.now ≡ copy_size) × ((1 ≤ c) × (c ≤ cart_count)) }
-    requires place_len { length place.old ≡ cart_size }
+    requires copy { (length copy.now ≡ copy_size) × ((1 ≤ c) × (c ≤ cart_count)) }
+    requires place { length place.old ≡ cart_size }
     ensures { (result ≡ cond (held (cart_at copy.now c)) 1 0) × (place.new ≡ cart_at copy.now c) }
 {
     let cart = cart::cart_at(copy, c);
@@ -29,9 +29,9 @@ fn show_cart(copy: &[u8], c: u32, place: &mut [u8]) -> u32
 
 // By numbers: one cart for each number asked; found counts the places that are held.
 fn show_numbers(copy: &[u8], request: &[u8], count: u32, output: &mut [u8]) -> u32
-    requires copy_len { (length copy.now ≡ copy_size) × (length request.now ≡ session_size) }
-    requires request_value { (numbers_form request.now ≡ true) × (cart_size * byte request.now 1 ≤ length output.old) }
-    requires count_value { count ≡ byte request.now 1 }
+    requires copy { (length copy.now ≡ copy_size) × (length request.now ≡ session_size) }
+    requires request { (numbers_form request.now ≡ true) × (cart_size * byte request.now 1 ≤ length output.old) }
+    requires count { count ≡ byte request.now 1 }
     ensures { (result ≡ found_by_numbers copy.now (numbers_in request.now))
         × (output.new ≡ over output.old 0 (cart_size * byte request.now 1) (shown_by_numbers copy.now (numbers_in request.now))) }
 {
@@ -63,8 +63,8 @@ fn show_title(copy: &[u8], title: &[u8], output: &mut [u8]) -> u32
 
 // The read in the 80 bytes of a request or a session: `waiting` is its case.
 fn show(copy: &[u8], request: &[u8], waiting: Waiting, output: &mut [u8]) -> u32
-    requires copy_len { (length copy.now ≡ copy_size) × ((length request.now ≡ session_size) × (waiting ≡ waiting_value request.now)) }
-    requires request_value { (request_fields request.now ≡ true) × (needed (request_of request.now) ≤ length output.old) }
+    requires copy { (length copy.now ≡ copy_size) × ((length request.now ≡ session_size) × (waiting ≡ waiting_value request.now)) }
+    requires request { (request_fields request.now ≡ true) × (needed (request_of request.now) ≤ length output.old) }
     ensures { (result ≡ found_in copy.now (request_of request.now))
         × (output.new ≡ over output.old 0 (needed (request_of request.now)) (shown_from copy.now (request_of request.now))) }
 {
@@ -80,8 +80,8 @@ fn show(copy: &[u8], request: &[u8], waiting: Waiting, output: &mut [u8]) -> u32
 
 // A read answered from a copy: found, and what is shown.
 pub fn answer(library: &[u8], copy: u32, request: &[u8], output: &mut [u8]) -> u32
-    requires library_len { (length library.now ≡ library_size) × ((copy ≤ studio_count) × (length request.now ≡ session_size)) }
-    requires request_value { (request_fields request.now ≡ true) × (needed (request_of request.now) ≤ length output.old) }
+    requires library { (length library.now ≡ library_size) × ((copy ≤ studio_count) × (length request.now ≡ session_size)) }
+    requires request { (request_fields request.now ≡ true) × (needed (request_of request.now) ≤ length output.old) }
     ensures { (result ≡ found_in (copy_at library.now copy) (request_of request.now))
         × (output.new ≡ over output.old 0 (needed (request_of request.now)) (shown_from (copy_at library.now copy) (request_of request.now))) }
 {

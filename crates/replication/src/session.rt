@@ -172,8 +172,8 @@ pub fn session_at(sessions: &[u8], session: u32) -> &[u8]
 
 // The bytes of a session become x, with a number.
 pub fn store(sessions: &mut [u8], session: u32, x: &[u8], number: u32)
-    requires sessions_len { (length sessions.old ≡ sessions_size) × ((1 ≤ session) × (session ≤ session_count)) }
-    requires x_len { (length x.now ≡ session_size) × (number < 65536) }
+    requires memory { (length sessions.old ≡ sessions_size) × ((1 ≤ session) × (session ≤ session_count)) }
+    requires bytes { (length x.now ≡ session_size) × (number < 65536) }
     ensures { sessions.new ≡ with_session sessions.old session (with_sequence number x.now) }
 {
     cell::fill(sessions, session, x, Session::NUMBER_AT, number);
@@ -181,8 +181,8 @@ pub fn store(sessions: &mut [u8], session: u32, x: &[u8], number: u32)
 
 // A session has another number.
 pub fn put_number(sessions: &mut [u8], session: u32, number: u32)
-    requires sessions_len { (length sessions.old ≡ sessions_size) × ((1 ≤ session) × (session ≤ session_count)) }
-    requires number_bound { number < 65536 }
+    requires memory { (length sessions.old ≡ sessions_size) × ((1 ≤ session) × (session ≤ session_count)) }
+    requires number { number < 65536 }
     ensures { sessions.new ≡ with_number sessions.old session number }
 {
     cell::put(sessions, session, Session::NUMBER_AT, number);

@@ -43,7 +43,7 @@ pub put_number-requires : goal.put_number-requires
 put_number-requires c =
     let k = commit_known _ _ _ _ _ c.in_default.ensures refl in
     let small = next_small _ _ _ _ c.committed-left.ensures k.few in
-    record { sessions_len = (k.formed.sessions.size, k.session); number_bound = small }
+    record { memory = (k.formed.sessions.size, k.session); number = small }
 
 pub returns : goal.returns
 returns c =

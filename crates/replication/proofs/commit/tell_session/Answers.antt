@@ -3,7 +3,7 @@ use Rattle.replication.specs.Calls.{told_sessions}
 use Rattle.replication.proofs.commit.tell_session.Goals as goal
 
 pub put_number-requires : goal.put_number-requires
-put_number-requires c = let k = c.requires c.in-WrongState.is in record { sessions_len = k.0; number_bound = k.1 }
+put_number-requires c = let k = c.requires c.in-WrongState.is in record { memory = k.0; number = k.1 }
 
 pub returns-in-WrongState : goal.returns-in-WrongState
 unfolding told_sessions

@@ -30,8 +30,8 @@ store-requires c =
     let g = c.args in
     let k = read_known g.control (memory g.library.now g.log.now g.sessions.now) g.session _ g.output.now _ c.in_default.ensures refl in
     record {
-      sessions_len = (c.block-reading.auto.sessions ∙ k.0.place.0, k.0.place.1);
-      x_len = (k.1.size, c.in-Waits.ensures.small _ refl);
+      memory = (c.block-reading.auto.sessions ∙ k.0.place.0, k.0.place.1);
+      bytes = (k.1.size, c.in-Waits.ensures.small _ refl);
     }
 
 pub returns-in-Waits : goal.returns-in-Waits
