@@ -50,5 +50,5 @@ pub extern "C" fn carts_search(copy: &[u8], title: &[u8]) -> Words
     if !fits {
         return Words::new(Words::WRONG_LENGTH, 0, 0);
     }
-    Words::of_search(titles::search(copy, title))
+    Words::from(titles::search(copy, title))
 }

@@ -30,14 +30,15 @@ impl Words {
             letters,
         }
     }
+}
 
-    // The answer of a search.
-    pub fn of_search(searched: Searched) -> Words
-        ensures { result ≡ found_words searched.found searched.letters }
-    {
-        let found = searched.found;
+// The answer of a search.
+impl From<Searched> for Words {
+    ghost from_gives = { λ searched given. given ≡ found_words searched.found searched.letters };
+
+    fn from(searched: Searched) -> Words {
         let letters = searched.letters;
-        match found {
+        match searched.found {
             Found::None => Words::new(Words::NONE, 0, letters),
             Found::One(c) => Words::new(Words::ONE, c, letters),
             Found::Several(n) => Words::new(Words::SEVERAL, n, letters),

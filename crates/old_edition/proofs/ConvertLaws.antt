@@ -1,20 +1,33 @@
 -- Laws of the two conversions: what stops them, and what they leave.
-use Prim.Native.Nat.{ℕ, ◌≤◌}
-use mathlib.Core.Path.{◌≡◌, sym, ap, ◌∙◌}
+use Prim.Native.Nat.{ℕ, zero, suc}
+use mathlib.Core.Path.{◌≡◌, refl, sym, ap, ◌∙◌}
 use mathlib.Core.Bool.{Bool, true, false, not, ◌&&◌, and-true}
-use mathlib.Core.List.{List, [], ◌∷◌, ◌++◌, append-nil}
-use native.Mathlib.Omega.{arith}
-use lib.Dec.{eqb}
-use lib.ListN.{length, take, drop, get_or, length-drop, drop_of_length-le}
-use lib.Seq.{take_all}
+use mathlib.Core.List.{List, [], ◌∷◌}
+use lib.Dec.{eqb, eqb-zero-suc, eqb-suc-zero, eqb-suc-suc}
+use lib.Pointwise.{pointwise}
+use lib.ListN.{length, take, drop, get_or}
 use borrow.Author.Tests.{eq-eqb, ne_eqb, eqb-true, not-false}
-use Rattle.carts.specs.Bytes.{over, all, any, pairwise, each_part, parts}
+use Rattle.carts.specs.Bytes.{all, any, pairwise, each_part, parts}
 use Rattle.carts.specs.Cart.{copy_form}
 use Rattle.carts.specs.Rows.{Row, row, stopped, unless}
 use Rattle.carts.proofs.TestLaws.{all_at, all_fails, all_nil, all_cons}
 use Rattle.carts.proofs.RowLaws.{row_stops, row_passes, passed, unless_stopped, unless_accepted}
 use Rattle.old_edition.specs.OldFile.{mark, old_cart_form, file_form}
-use Rattle.old_edition.specs.Convert.{After, after, refused, refusal, each_cart, widened, copy_of, long_title, from_old_rows, to_old_rows}
+use Rattle.old_edition.specs.Convert.{After, after, refused, refusal, long_title, from_old_rows, to_old_rows}
+
+-- the library's comparison takes the two lists the other way round
+eqb-sym : (a b : ℕ) → eqb a b ≡ eqb b a
+eqb-sym zero zero = refl
+eqb-sym zero (suc b) = eqb-zero-suc b ∙ sym (eqb-suc-zero b)
+eqb-sym (suc a) zero = eqb-suc-zero a ∙ sym (eqb-zero-suc a)
+eqb-sym (suc a) (suc b) = eqb-suc-suc a b ∙ eqb-sym a b ∙ sym (eqb-suc-suc b a)
+
+pub begins_with : (xs ys : List ℕ) → pointwise eqb xs ys ≡ pairwise eqb ys xs
+unfolding pairwise
+begins_with [] [] = refl
+begins_with [] (y ∷ ys) = refl
+begins_with (x ∷ xs) [] = refl
+begins_with (x ∷ xs) (y ∷ ys) = rw (eqb-sym x y, begins_with xs ys)
 
 -- row 22: one of its tests fails, or all of them pass
 pub form_fails : (n : ℕ) (bs : List Bool) (rs : List Row) → get_or bs n true ≡ false → 22 ≡ stopped (row 22 (not (all bs)) ∷ rs)
@@ -55,12 +68,9 @@ pub file_short : (file : List ℕ) → (length file ≡ 6150 → ⊥) → false 
 unfolding file_form file_tests
 file_short file h = sym (all_fails 0 (file_tests file) (ne_eqb _ _ h))
 
-pub file_whole : (file : List ℕ) (a b : Bool) → length file ≡ 6150 → a ≡ pairwise eqb (take 6 file) mark → b ≡ each_part old_cart_form 48 128 1 (take 6144 (drop 6 file)) → (a && b) ≡ file_form file
+pub file_whole : (file : List ℕ) (a b : Bool) → length file ≡ 6150 → a ≡ pairwise eqb (take 6 file) mark → b ≡ each_part old_cart_form 48 128 1 (drop 6 file) → (a && b) ≡ file_form file
 unfolding file_form all
-file_whole file a b l e f =
-    let w : length (drop 6 file) ≤ 6144 = rw length-drop (omega arith) in
-    let g : b ≡ each_part old_cart_form 48 128 1 (drop 6 file) = f ∙ ap (each_part old_cart_form 48 128 1) (take_all 6144 (drop 6 file) w) in
-    rw (eq-eqb _ _ l, e, g, and-true)
+file_whole file a b l e f = rw (eq-eqb _ _ l, e, f, and-true)
 
 -- from old to ours: what is known where nothing stops it
 pub record FromOld (file out : List ℕ) : Type 0 where
@@ -76,13 +86,6 @@ from_passed file out e =
 pub passes_from : (file : List ℕ) (room : ℕ) → file_form file ≡ true → room ≡ 10240 → 0 ≡ stopped (from_old_rows file room)
 unfolding from_old_rows stopped all
 passes_from file room e h = rw (e, eq-eqb room 10240 h)
-
-pub from_carts : (file new : List ℕ) → file_form file ≡ true → new ≡ each_cart widened 48 128 (take 6144 (drop 6 file)) → new ≡ copy_of file
-unfolding copy_of
-from_carts file new e f =
-    let l : length file ≡ 6150 = file_length file e in
-    let w : length (drop 6 file) ≤ 6144 = rw length-drop (omega arith) in
-    f ∙ ap (each_cart widened 48 128) (take_all 6144 (drop 6 file) w)
 
 -- from ours to old
 pub record ToOld (copy out : List ℕ) : Type 0 where
@@ -109,9 +112,3 @@ unfolding to_old_rows
 title_row copy room l e h =
     form_passes (eqb (length copy) 10240 ∷ copy_form copy ∷ eqb room 6150 ∷ []) (row 23 (any long_title (parts 80 128 copy)) ∷ [])
     (all_cons _ _ (eq-eqb _ _ l) (all_cons _ _ e (all_cons _ _ (eq-eqb _ _ h) all_nil)))
-
--- the mark put in, and then the carts
-pub put_file : (file first ys : List ℕ) → length file ≡ 6150 → first ≡ mark → over (over file 0 6 first) 6 6144 ys ≡ mark ++ ys
-put_file file first ys l e =
-    let w : length (drop 6 file) ≤ 6144 = rw length-drop (omega arith) in
-    rw e (ap (λ r. mark ++ (ys ++ r)) (drop_of_length-le (drop 6 file) w) ∙ ap (λ r. mark ++ r) (append-nil ys))

@@ -6,7 +6,7 @@ use mathlib.Core.List.{List, [], ◌∷◌, ◌++◌, append_assoc, append-nil}
 use native.Mathlib.Omega.{arith}
 use native.Mathlib.Nat.{mul-suc, mul-zero}
 use native.Mathlib.Numerals.{add-one}
-use lib.ListN.{length, take, drop, get_or, length-append, length-drop, take-append-drop}
+use lib.ListN.{length, take, drop, get_or, length-append, length-drop, take-append-drop, drop_of_length-le}
 use lib.Seq.{take_all, take_at, drop_at, length-take-le}
 use Rattle.carts.specs.Bytes.{part, over, any}
 use Rattle.carts.proofs.TestLaws.{any_at}
@@ -36,6 +36,34 @@ take_put : (out : List ℕ) (at n : ℕ) (ys : List ℕ) → at ≤ length out �
 take_put out at n ys h e =
     let l : length (take at out ++ ys) ≡ at + n = rw (length-append, length-take-le at out h, e) in
     rw (← append_assoc (take at out) ys (drop n (drop at out))) (take_at (take at out ++ ys) (drop n (drop at out)) (at + n) l)
+
+-- a chunk that an iterator over s gives after i others: it is the part at its place, what is left begins after it, and s has that much
+pub record NextChunk (size i : ℕ) (s x later : List ℕ) : Type 0 where
+  pub here : x ≡ take size (drop (size * i) s)
+  pub left : later ≡ drop (size * (i + 1)) s
+  pub room : size * i + size ≤ length s
+
+pub next_chunk : (size i : ℕ) (s x later : List ℕ) {rest : List ℕ} → 0 < size → rest ≡ drop (size * i) s → rest ≡ x ++ later → length x ≡ size → NextChunk size i s x later
+next_chunk size i s x later h place given l =
+    let e : drop (size * i) s ≡ x ++ later = sym place ∙ given in
+    let n : length s - size * i ≡ length x + length later = sym (length-drop (size * i) s) ∙ ap length e ∙ length-append x later in
+    record {
+      here = sym (ap (take size) e ∙ take_at x later size l);
+      left = sym (sym (drop_next size i s) ∙ ap (drop size) e ∙ drop_at x later size l);
+      room = omega arith;
+    }
+
+-- and where too little is left for one
+pub chunks_end : (size i : ℕ) (s : List ℕ) {rest : List ℕ} → rest ≡ drop (size * i) s → length rest < size → length s < size * i + size
+chunks_end size i s place h =
+    let e : length s - size * i < size = rw (place, length-drop) at h in
+    omega arith
+
+-- a list, and others put in the place of what stands after it
+pub put_ends : (ys r zs : List ℕ) (k : ℕ) → length ys ≡ k → over (ys ++ r) k (length (ys ++ r) - k) zs ≡ ys ++ zs
+put_ends ys r zs k e =
+    let n : length r ≤ length (ys ++ r) - k = rw length-append (omega arith) in
+    rw (take_at ys r k e, drop_at ys r k e, drop_of_length-le r n, append-nil zs)
 
 -- a turn of a loop that converts carts, and its end: i of n carts of `size` bytes are converted to `place` bytes each
 module _ (f : List ℕ → List ℕ) (size place n i : ℕ) (s out : List ℕ) where

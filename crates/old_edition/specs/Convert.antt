@@ -1,11 +1,11 @@
 -- Document 02, S-10: "a converter from an old file to one copy of ours and back, which returns the bytes written", for any bytes.
-use Rattle.std.specs.Prelude.{Bool, not, List, [], ◌∷◌, ◌++◌, ℕ, zero, suc, ◌-◌, length, take, drop, ltb, eqb}
+use Rattle.std.specs.Prelude.{Bool, not, List, [], ◌∷◌, ◌++◌, ℕ, zero, suc, ◌-◌, Result, Ok, Err, length, take, drop, ltb, eqb}
 use Rattle.carts.specs.Bytes.{zeros, byte, all, any, parts}
 use Rattle.carts.specs.Cart.{cart_size, cart_count, copy_size, copy_form}
 use Rattle.carts.specs.Rows.{Row, row, stopped, unless}
+use Rattle.carts.specs.Refusal.{refusal_number}
+use Rattle.carts.specs.declared.refusal.Refusal.{Refusal}
 use Rattle.old_edition.specs.OldFile.{mark, old_cart_size, old_title_size, file_size, old_carts, file_form}
-use Rattle.old_edition.specs.declared.answer.ConvertAnswer.{ConvertAnswer}
-use Rattle.old_edition.specs.declared.answer.ConvertAnswer.TheVariants.{Written, Refused}
 
 -- a refusal's number; "returns the bytes written"
 pub data Answer : Type 0 where
@@ -13,9 +13,9 @@ pub data Answer : Type 0 where
   written : ℕ → Answer
 
 -- the code's cases
-abbrev pub convert_answer : ConvertAnswer → Answer
-convert_answer (Written n) = written n
-convert_answer (Refused n) = refused n
+abbrev pub convert_answer : Result ℕ Refusal → Answer
+convert_answer (Ok n) = written n
+convert_answer (Err r) = refused (refusal_number r)
 
 -- "Each cart keeps its place, audio, length and title": an old cart's bytes stand in ours where they stood, then zeros
 unfoldable pub widened : List ℕ → List ℕ

@@ -7,7 +7,6 @@ ghost use Rattle.old_edition.specs.Convert.{widened, narrowed, each_cart, file_o
 
 use crate::old_cart;
 use carts::cart::Cart;
-use carts::{bytes, cart};
 
 pub const SIZE: usize = 6150;
 
@@ -21,7 +20,7 @@ pub fn has_mark(file: &[u8]) -> bool
     requires { mark_size ≤ length file.now }
     ensures { result ≡ pairwise eqb (take mark_size file.now) mark }
 {
-    bytes::are_equal(&file[0..CARTS_AT], &MARK)
+    file.starts_with(&MARK)
 }
 
 // Each of a file's carts is of its form.
@@ -30,11 +29,8 @@ fn are_old_carts(carts: &[u8]) -> bool
     ensures { result ≡ each_part old_cart_form old_cart_size cart_count 1 carts.now }
 {
     let mut ok = true;
-    let mut c: u32 = 0;
-    while c < Cart::COUNT {
-        let start = old_cart::SIZE * (c as usize);
-        c += 1;
-        ok &= old_cart::is_old_cart(&carts[start..start + old_cart::SIZE], c);
+    for (i, cart) in carts.chunks_exact(old_cart::SIZE).enumerate() {
+        ok &= old_cart::is_old_cart(cart, i as u32 + 1);
     }
     ok
 }
@@ -46,7 +42,7 @@ pub fn is_file(file: &[u8]) -> bool
     if file.len() != SIZE {
         return false;
     }
-    has_mark(file) & are_old_carts(&file[CARTS_AT..SIZE])
+    has_mark(file) & are_old_carts(&file[CARTS_AT..])
 }
 
 // Some cart of a copy has a title that an old cart has no room for.
@@ -55,11 +51,8 @@ pub fn has_long_title(copy: &[u8]) -> bool
     ensures { result ≡ any long_title (parts cart_size cart_count copy.now) }
 {
     let mut found = false;
-    let mut c: u32 = 0;
-    while c < Cart::COUNT {
-        c += 1;
-        let cart = cart::cart_at(copy, c);
-        found |= old_cart::TITLE_LONGEST < cart[1];
+    for cart in copy.chunks_exact(Cart::SIZE) {
+        found |= old_cart::is_long_title(cart);
     }
     found
 }
@@ -69,15 +62,9 @@ pub fn put_copy(copy: &mut [u8], carts: &[u8])
     requires { (length copy.old ≡ copy_size) × (length carts.now ≡ old_cart_size * cart_count) }
     ensures { copy.new ≡ each_cart widened old_cart_size cart_count carts.now }
 {
-    let mut c: u32 = 0;
-    while c < Cart::COUNT {
-        let from = old_cart::SIZE * (c as usize);
-        let at = Cart::SIZE * (c as usize);
-        c += 1;
-        old_cart::put_wide(
-            &mut copy[at..at + Cart::SIZE],
-            &carts[from..from + old_cart::SIZE],
-        );
+    for (i, cart) in carts.chunks_exact(old_cart::SIZE).enumerate() {
+        let at = Cart::SIZE * i;
+        old_cart::put_wide(&mut copy[at..at + Cart::SIZE], cart);
     }
 }
 
@@ -86,11 +73,9 @@ fn put_carts(carts: &mut [u8], copy: &[u8])
     requires { (length carts.old ≡ old_cart_size * cart_count) × (length copy.now ≡ copy_size) }
     ensures { carts.new ≡ each_cart narrowed cart_size cart_count copy.now }
 {
-    let mut c: u32 = 0;
-    while c < Cart::COUNT {
-        let at = old_cart::SIZE * (c as usize);
-        c += 1;
-        old_cart::put_narrow(&mut carts[at..at + old_cart::SIZE], cart::cart_at(copy, c));
+    for (i, cart) in copy.chunks_exact(Cart::SIZE).enumerate() {
+        let at = old_cart::SIZE * i;
+        old_cart::put_narrow(&mut carts[at..at + old_cart::SIZE], cart);
     }
 }
 
@@ -99,6 +84,6 @@ pub fn put_file(file: &mut [u8], copy: &[u8])
     requires { (length file.old ≡ file_size) × (length copy.now ≡ copy_size) }
     ensures { file.new ≡ file_of copy.now }
 {
-    bytes::copy_all(&mut file[0..CARTS_AT], &MARK);
-    put_carts(&mut file[CARTS_AT..SIZE], copy);
+    file[..CARTS_AT].copy_from_slice(&MARK);
+    put_carts(&mut file[CARTS_AT..], copy);
 }

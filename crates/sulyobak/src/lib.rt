@@ -14,7 +14,9 @@ ghost use Rattle.sulyobak.specs.OldWords.{old_left, old_left_by};
 use crate::van_words::VanWords;
 use crate::words::Words;
 use old_edition::convert;
+use replication::answer::Reply;
 use replication::control::Control;
+use replication::system::System;
 use replication::{
     collect, commit, forward, load, move_session, preview, read, refresh, retire, rows, send, setup,
 };
@@ -43,7 +45,7 @@ pub extern "C" fn sulyobak_setup(
     ensures { left result (memory library.new log.new sessions.new) []
         ≡ left_by (setup (memory library.old log.old sessions.old) studios places.now) }
 {
-    Words::of_setup(setup::setup(library, log, sessions, studios, places))
+    Words::from(setup::setup(library, log, sessions, studios, places))
 }
 
 // Commit of one to eight operations of 80 bytes.
@@ -59,7 +61,7 @@ pub extern "C" fn sulyobak_commit(
     ensures { left result (memory library.new log.new sessions.new) []
         ≡ left_by (commit control (memory library.old log.old sessions.old) session operations.now) }
 {
-    Words::of_count(commit::commit(control, library, log, sessions, session, operations))
+    Words::from(commit::commit(control, library, log, sessions, session, operations))
 }
 
 // Preview of a commit of one to eight operations. Memory is only read.
@@ -75,7 +77,7 @@ pub extern "C" fn sulyobak_preview(
     ensures { left result (memory library.now log.now sessions.now) []
         ≡ left_by (preview control (memory library.now log.now sessions.now) session operations.now) }
 {
-    Words::of_count(preview::preview(control, library, log, sessions, session, operations))
+    Words::from(preview::preview(control, library, log, sessions, session, operations))
 }
 
 // Send. Memory is only read.
@@ -90,7 +92,7 @@ pub extern "C" fn sulyobak_send(
     ensures { left result (memory library.now log.now sessions.now) []
         ≡ left_by (send control (memory library.now log.now sessions.now) studio) }
 {
-    Words::of_count(send::send(control, library, log, sessions, studio))
+    Words::from(send::send(control, library, log, sessions, studio))
 }
 
 // Refresh. Library memory changes; log and sessions are only read.
@@ -105,7 +107,7 @@ pub extern "C" fn sulyobak_refresh(
     ensures { left result (memory library.new log.now sessions.now) []
         ≡ left_by (refresh control (memory library.old log.now sessions.now) studio) }
 {
-    Words::of_count(refresh::refresh(control, library, log, sessions, studio))
+    Words::from(refresh::refresh(control, library, log, sessions, studio))
 }
 
 // Read: answered from the studio's copy into output, or kept in the session. Library and log are only read.
@@ -122,7 +124,7 @@ pub extern "C" fn sulyobak_read(
     ensures { left result (memory library.now log.now sessions.new) output.new
         ≡ left_by (read control (memory library.now log.now sessions.old) session request.now output.old) }
 {
-    Words::of_read(read::read(control, library, log, sessions, session, request, output))
+    Words::from(read::read(control, library, log, sessions, session, request, output))
 }
 
 // Collect: the session's waiting read, answered or still waiting. Library and log are only read.
@@ -138,7 +140,7 @@ pub extern "C" fn sulyobak_collect(
     ensures { left result (memory library.now log.now sessions.new) output.new
         ≡ left_by (collect control (memory library.now log.now sessions.old) session output.old) }
 {
-    Words::of_read(collect::collect(control, library, log, sessions, session, output))
+    Words::from(collect::collect(control, library, log, sessions, session, output))
 }
 
 // Forward: read, but answered by the head end where read would wait. Library and log are only read.
@@ -155,7 +157,7 @@ pub extern "C" fn sulyobak_forward(
     ensures { left result (memory library.now log.now sessions.new) output.new
         ≡ left_by (forward control (memory library.now log.now sessions.old) session request.now output.old) }
 {
-    Words::of_read(forward::forward(control, library, log, sessions, session, request, output))
+    Words::from(forward::forward(control, library, log, sessions, session, request, output))
 }
 
 // Move: a session goes to another studio. Memory is only read.
@@ -171,7 +173,7 @@ pub extern "C" fn sulyobak_move(
     ensures { left result (memory library.now log.now sessions.now) []
         ≡ left_by (move control (memory library.now log.now sessions.now) session studio) }
 {
-    Words::of_count(move_session::move_session(control, library, log, sessions, session, studio))
+    Words::from(move_session::move_session(control, library, log, sessions, session, studio))
 }
 
 // The test of lengths and layout alone, which every call that is passed control and memory begins with. Memory is only read.
@@ -184,11 +186,16 @@ pub extern "C" fn sulyobak_layout(
 ) -> Words
     ensures { result ≡ layout_words control (memory library.now log.now sessions.now) }
 {
-    let stopped = rows::stopped_by_memory(control, library, log, sessions);
-    if stopped != 0 {
-        return Words::new(Words::REFUSED, stopped, control);
-    }
-    Words::new(Words::DONE, 0, control)
+    let system = System {
+        control,
+        library,
+        log,
+        sessions,
+    };
+    Words::from(Reply {
+        answer: rows::stopped_by_memory(system),
+        control,
+    })
 }
 
 // Load: whether the copies are what the log makes. Memory is only read.
@@ -202,7 +209,7 @@ pub extern "C" fn sulyobak_load(
     ensures { left result (memory library.now log.now sessions.now) []
         ≡ left_by (load control (memory library.now log.now sessions.now)) }
 {
-    Words::of_count(load::load(control, library, log, sessions))
+    Words::from(load::load(control, library, log, sessions))
 }
 
 // Retire: the oldest transaction of the log acts on the sixth copy, and its records become free.
@@ -216,7 +223,7 @@ pub extern "C" fn sulyobak_retire(
     ensures { left result (memory library.new log.new sessions.now) []
         ≡ left_by (retire control (memory library.old log.old sessions.now)) }
 {
-    Words::of_count(retire::retire(control, library, log, sessions))
+    Words::from(retire::retire(control, library, log, sessions))
 }
 
 // The message of a committed transaction, for a van. Memory is only read.
@@ -232,7 +239,7 @@ pub extern "C" fn sulyobak_van_write(
     ensures { left result (memory library.now log.now sessions.now) output.new
         ≡ left_by (write control (memory library.now log.now sessions.now) number output.old) }
 {
-    Words::of_count(write::write(control, library, log, sessions, number, output))
+    Words::from(write::write(control, library, log, sessions, number, output))
 }
 
 // A message, received in the van: it acts on the van's copy where it is the next one.
@@ -240,7 +247,7 @@ pub extern "C" fn sulyobak_van_write(
 pub extern "C" fn sulyobak_van_receive(copy: &mut [u8], applied: u32, message: &[u8]) -> VanWords
     ensures { van_left result copy.new ≡ van_left_by (receive (van copy.old applied) message.now) }
 {
-    VanWords::of_receive(receive::receive(copy, applied, message))
+    VanWords::from(receive::receive(copy, applied, message))
 }
 
 // An old wall file, converted to one copy of ours.
@@ -248,7 +255,7 @@ pub extern "C" fn sulyobak_van_receive(copy: &mut [u8], applied: u32, message: &
 pub extern "C" fn sulyobak_from_old(file: &[u8], copy: &mut [u8]) -> Words
     ensures { old_left result copy.new ≡ old_left_by (from_old file.now copy.old) }
 {
-    Words::of_convert(convert::from_old(file, copy))
+    Words::from(convert::from_old(file, copy))
 }
 
 // One copy of ours, converted to an old wall file.
@@ -256,5 +263,5 @@ pub extern "C" fn sulyobak_from_old(file: &[u8], copy: &mut [u8]) -> Words
 pub extern "C" fn sulyobak_to_old(copy: &[u8], file: &mut [u8]) -> Words
     ensures { old_left result file.new ≡ old_left_by (to_old copy.now file.old) }
 {
-    Words::of_convert(convert::to_old(copy, file))
+    Words::from(convert::to_old(copy, file))
 }

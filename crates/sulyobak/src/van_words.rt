@@ -4,7 +4,7 @@ ghost use Rattle.van.specs.Answer.{receive_answer};
 ghost use Rattle.sulyobak.specs.VanWords.{van_words, van_words_of};
 
 use crate::words::Words;
-use van::answer::{ReceiveAnswer, ReceiveResult};
+use van::answer::{ReceiveResult, Received};
 
 #[repr(C)]
 #[derive(Clone, Copy)]
@@ -26,17 +26,18 @@ impl VanWords {
             applied,
         }
     }
+}
 
-    // The answer of the receiver.
-    pub fn of_receive(res: ReceiveResult) -> VanWords
-        ensures { result ≡ van_words_of (receive_answer res.answer) res.applied }
-    {
-        let answer = res.answer;
-        let applied = res.applied;
-        match answer {
-            ReceiveAnswer::Applied(n) => VanWords::new(Words::DONE, n, applied),
-            ReceiveAnswer::Held(n) => VanWords::new(VanWords::HELD, n, applied),
-            ReceiveAnswer::Refused(n) => VanWords::new(Words::REFUSED, n, applied),
+// The answer of the receiver.
+impl From<ReceiveResult> for VanWords {
+    ghost from_gives = { λ reply given. given ≡ van_words_of (receive_answer reply.answer) reply.applied };
+
+    fn from(reply: ReceiveResult) -> VanWords {
+        let applied = reply.applied;
+        match reply.answer {
+            Ok(Received::Applied(n)) => VanWords::new(Words::DONE, n, applied),
+            Ok(Received::Held(n)) => VanWords::new(VanWords::HELD, n, applied),
+            Err(refusal) => VanWords::new(Words::REFUSED, refusal.number(), applied),
         }
     }
 }

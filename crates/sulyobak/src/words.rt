@@ -1,16 +1,16 @@
 // An answer as it passes to C: three words, and control. specs/Words.antt gives the words of each answer.
 ghost use Rattle.std.specs.Prelude.{◌≡◌};
+ghost use Rattle.carts.specs.Refusal.{refusal_number};
 ghost use Rattle.replication.specs.Answer.{setup_answer, count_answer, read_answer};
 ghost use Rattle.old_edition.specs.Convert.{convert_answer};
 ghost use Rattle.sulyobak.specs.OldWords.{old_words_of};
 ghost use Rattle.sulyobak.specs.Words.{words, words_of};
 
-use old_edition::answer::ConvertAnswer;
-use replication::answer::{
-    CountAnswer, CountResult, ReadAnswer, ReadResult, SetupAnswer, SetupResult,
-};
+use carts::refusal::Refusal;
+use replication::answer::{CountResult, ReadResult, Reading, SetupResult};
 use replication::control::Control;
 
+// Numbers of two and more words as C reads them: the C interface needs them as they are.
 #[repr(C)]
 #[derive(Clone, Copy)]
 pub struct Words {
@@ -43,56 +43,66 @@ impl Words {
         }
     }
 
-    // Setup's answer.
-    pub fn of_setup(res: SetupResult) -> Words
-        ensures { result ≡ words_of (setup_answer res.answer) res.control }
+    // A refused call.
+    fn refused(refusal: Refusal, control: Control) -> Words
+        ensures { result ≡ words 0 (refusal_number refusal) 0 control }
     {
-        let answer = res.answer;
-        let control = res.control;
-        match answer {
-            SetupAnswer::Ready => Words::new(Words::DONE, 0, control),
-            SetupAnswer::Refused(n) => Words::new(Words::REFUSED, n, control),
+        Words::new(Words::REFUSED, refusal.number(), control)
+    }
+}
+
+// Setup's answer, and the layout test's.
+impl From<SetupResult> for Words {
+    ghost from_gives = { λ reply given. given ≡ words_of (setup_answer reply.answer) reply.control };
+
+    fn from(reply: SetupResult) -> Words {
+        match reply.answer {
+            Ok(()) => Words::new(Words::DONE, 0, reply.control),
+            Err(refusal) => Words::refused(refusal, reply.control),
         }
     }
+}
 
-    // The answer of commit, preview, send, refresh, the van's writer, move, load and retire.
-    pub fn of_count(res: CountResult) -> Words
-        ensures { result ≡ words_of (count_answer res.answer) res.control }
-    {
-        let answer = res.answer;
-        let control = res.control;
-        match answer {
-            CountAnswer::Number(n) => Words::new(Words::DONE, n, control),
-            CountAnswer::Refused(n) => Words::new(Words::REFUSED, n, control),
+// The answer of commit, preview, send, refresh, the van's writer, move, load and retire.
+impl From<CountResult> for Words {
+    ghost from_gives = { λ reply given. given ≡ words_of (count_answer reply.answer) reply.control };
+
+    fn from(reply: CountResult) -> Words {
+        match reply.answer {
+            Ok(n) => Words::new(Words::DONE, n, reply.control),
+            Err(refusal) => Words::refused(refusal, reply.control),
         }
     }
+}
 
-    // The answer of read, collect and forward.
-    pub fn of_read(res: ReadResult) -> Words
-        ensures { result ≡ words_of (read_answer res.answer) res.control }
-    {
-        let answer = res.answer;
-        let control = res.control;
-        match answer {
-            ReadAnswer::Answered { state, found } => Words {
+// The answer of read, collect and forward.
+impl From<ReadResult> for Words {
+    ghost from_gives = { λ reply given. given ≡ words_of (read_answer reply.answer) reply.control };
+
+    fn from(reply: ReadResult) -> Words {
+        let control = reply.control;
+        match reply.answer {
+            Ok(Reading::Answered { state, found }) => Words {
                 kind: Words::ANSWERED,
                 value: state,
                 found,
                 control,
             },
-            ReadAnswer::Waits(n) => Words::new(Words::WAITS, n, control),
-            ReadAnswer::Refused(n) => Words::new(Words::REFUSED, n, control),
+            Ok(Reading::Waits(n)) => Words::new(Words::WAITS, n, control),
+            Err(refusal) => Words::refused(refusal, control),
         }
     }
+}
 
-    // The answer of a conversion, which is passed no control: it is all zero.
-    pub fn of_convert(answer: ConvertAnswer) -> Words
-        ensures { result ≡ old_words_of (convert_answer answer) }
-    {
+// The answer of a conversion, which is passed no control: it is all zero.
+impl From<Result<u32, Refusal>> for Words {
+    ghost from_gives = { λ answer given. given ≡ old_words_of (convert_answer answer) };
+
+    fn from(answer: Result<u32, Refusal>) -> Words {
         let control = Control::new(0, [0; 16], 0, 0);
         match answer {
-            ConvertAnswer::Written(n) => Words::new(Words::DONE, n, control),
-            ConvertAnswer::Refused(n) => Words::new(Words::REFUSED, n, control),
+            Ok(n) => Words::new(Words::DONE, n, control),
+            Err(refusal) => Words::refused(refusal, control),
         }
     }
 }

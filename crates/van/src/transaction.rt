@@ -37,8 +37,8 @@ fn put_operation(place: &mut [u8], stored: &[u8])
 
 // The operations of the transaction whose first record is `first`, one after the other: `places` has room for them and no more.
 pub fn put_operations(places: &mut [u8], log: &[u8], first: u32)
-    requires log_len { (length log.now ≡ log_size) × (every (usable log.now) (records_of log.now first) ≡ true) }
-    requires places_len { length places.old ≡ cart_size * length (records_of log.now first) }
+    requires chain { (length log.now ≡ log_size) × (every (usable log.now) (records_of log.now first) ≡ true) }
+    requires room { length places.old ≡ cart_size * length (records_of log.now first) }
     ensures { places.new ≡ joined (map handed_in (transaction_at log.now first)) }
 {
     let mut r = first;

@@ -23,6 +23,6 @@ returns c = let g = c.args in
 pub returns-2 : goal.returns-2
 returns-2 c = let g = c.args in
     let k = g.system.control in
-    let here = level_at_of k g.system.library.now g.copy.now g.n c.loop-i.i _ _ c.is_level-ok.ensures c.applied_by.ensures in
+    let here = level_at_of k g.system.library.now g.copy.now g.n _ _ _ c.is_level-ok.ensures c.applied_by.ensures in
     studios_last (level_at k g.system.library.now g.copy.now g.n) k.studios c.loop-i.i c.loop-i.ok c.loop-i.invariant (omega arith) (omega arith)
     (ap (λ (b : Bool). c.loop-i.ok && b) here)

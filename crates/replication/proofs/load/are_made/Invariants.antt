@@ -16,5 +16,5 @@ invariant-loop-n l =
       walks : walkable (k.commits - l.n) log l.r ≡ true;
       acts : every (usable log) (log_records (k.commits - l.n) log l.r) ≡ true;
       left : (are_level k library l.fn.copy k.retired && whole_from k library log (log_count k) k.retired k.oldest l.fn.copy)
-          ≡ (l.ok && whole_from k library log (k.commits - l.n) l.n l.r l.copy)
+          ≡ (l.ok && whole_from k library log (k.commits - l.n) l.n l.r l.copy);
     }

@@ -12,5 +12,5 @@ invariant-loop-i l = let n = l.fn.count in
     record {
       few : l.found ≤ l.i;
       found : found_by_numbers l.copy (numbers_in l.request) ≡ l.found + found_by_numbers l.copy (Left l.request n l.i);
-      shown : over l.fn.output 0 (80 * n) (shown_by_numbers l.copy (numbers_in l.request)) ≡ over l.output (80 * l.i) (80 * (n - l.i)) (shown_by_numbers l.copy (Left l.request n l.i))
+      shown : over l.fn.output 0 (80 * n) (shown_by_numbers l.copy (numbers_in l.request)) ≡ over l.output (80 * l.i) (80 * (n - l.i)) (shown_by_numbers l.copy (Left l.request n l.i));
     }

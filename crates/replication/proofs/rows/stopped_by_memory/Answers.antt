@@ -1,7 +1,4 @@
-use mathlib.Core.Path.{◌≡◌, sym, ◌∙◌}
-use mathlib.Core.Bool.{true}
-use Rattle.replication.specs.Memory.{lengths_form}
-use Rattle.replication.specs.System.{memory_of}
+use mathlib.Core.Path.{sym, ◌∙◌}
 use Rattle.replication.proofs.RowLaws.{lengths_wrong, layout_wrong, memory_right, lengths_are}
 use Rattle.replication.proofs.rows.stopped_by_memory.Goals as goal
 

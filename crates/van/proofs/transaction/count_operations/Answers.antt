@@ -14,21 +14,15 @@ loop-n-init c = (omega arith, c.requires.1, omega arith)
 pub returns-then-r-eq0 : goal.returns-then-r-eq0
 returns-then-r-eq0 c = let t = c.loop-n in counted _ t.n t.r c.if-r-eq0.true t.invariant.2
 
-pub at-links-requires : goal.at-links-requires
-at-links-requires c = let u = here _ c.loop-n.n c.loop-n.r c.loop-n-test.true c.if-r-eq0.false c.loop-n.invariant.1 in
+pub at-r-requires : goal.at-r-requires
+at-r-requires c = let u = here _ c.loop-n.n c.loop-n.r c.loop-n-test.true c.if-r-eq0.false c.loop-n.invariant.1 in
     (c.requires.0, (u.low, u.high))
-
-pub overflow_add-n : goal.overflow_add-n
-overflow_add-n c = omega arith
-
-pub loop-n-smaller : goal.loop-n-smaller
-loop-n-smaller c = omega arith
 
 pub loop-n-preserved : goal.loop-n-preserved
 loop-n-preserved c = let t = c.loop-n in
     let h = c.loop-n-test.true in
-    let next = ap (λ (x : Record). x.next_operation) c.at-links.ensures.0 in
+    let next = ap (λ (x : Record). x.next_operation) c.at-r.ensures.0 in
     (omega arith, rw next (later _ t.n t.r h c.if-r-eq0.false t.invariant.1), rw next (next_length _ t.n t.r h c.if-r-eq0.false t.invariant.2))
 
 pub returns : goal.returns
-returns c = let t = c.loop-n in counted_all _ t.n t.r c.loop-n-test.false t.invariant.2
+returns c = let t = c.loop-n in let whole = counted_all _ t.n t.r (omega arith) t.invariant.2 in omega (arith, whole)

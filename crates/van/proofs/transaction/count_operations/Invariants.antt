@@ -10,6 +10,3 @@ use Rattle.van.proofs.transaction.count_operations.Given as goal
 
 abbrev pub invariant-loop-n : goal.invariant-loop-n
 invariant-loop-n l = (l.n ≤ 9) × (every (usable l.log) (Left l.log l.n l.r) ≡ true) × (length (records_of l.log l.first) ≡ l.n + length (Left l.log l.n l.r))
-
-abbrev pub decreases-loop-n : goal.decreases-loop-n
-decreases-loop-n l = 9 - l.n

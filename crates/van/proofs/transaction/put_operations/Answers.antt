@@ -12,54 +12,32 @@ use Rattle.van.proofs.transaction.put_operations.Goals as goal
 
 pub loop-i-init : goal.loop-i-init
 unfolding records_of transaction_at
-loop-i-init c = let n = c.requires.1 in
-    (omega arith, refl, c.requires.0.1, all_left _ _ n, put_start _ _ _ (whole_parts _ _ n))
-
-pub overflow_mul-start : goal.overflow_mul-start
-overflow_mul-start c = omega arith
-
-pub overflow_add-end : goal.overflow_add-end
-overflow_add-end c = omega arith
-
-pub slice_bounds-put_operation-count : goal.slice_bounds-put_operation-count
-slice_bounds-put_operation-count c = omega arith
-
-pub slice_bounds-put_operation-start : goal.slice_bounds-put_operation-start
-slice_bounds-put_operation-start c = omega arith
-
-pub slice_bounds-put_operation-end : goal.slice_bounds-put_operation-end
-slice_bounds-put_operation-end c = omega arith
+loop-i-init c = let n = c.requires.room in
+    (refl, c.requires.chain.1, all_left _ _ n, put_start _ _ _ (whole_parts _ _ n))
 
 pub record_at-requires : goal.record_at-requires
-record_at-requires c = let u = (let k = (some_left _ c.loop-i.i c.loop-i.r (some_of _ _ _ c.loop-i-test.true c.loop-i.invariant.3)) in here _ c.loop-i.i c.loop-i.r k.0 k.1 c.loop-i.invariant.2) in (c.requires.0.0, (u.low, u.high))
+record_at-requires c = let u = (let k = (some_left _ c.loop-i.i c.loop-i.r (some_of _ _ _ c.loop-i-test.true c.loop-i.invariant.2)) in here _ c.loop-i.i c.loop-i.r k.0 k.1 c.loop-i.invariant.1) in (c.requires.chain.0, (u.low, u.high))
 
 pub put_operation-requires : goal.put_operation-requires
 put_operation-requires c = (length_lent 80 c.loop-i.i c.loop-i.places (omega arith), c.record_at.ensures.1)
 
-pub at-links-requires : goal.at-links-requires
-at-links-requires c = let u = (let k = (some_left _ c.loop-i.i c.loop-i.r (some_of _ _ _ c.loop-i-test.true c.loop-i.invariant.3)) in here _ c.loop-i.i c.loop-i.r k.0 k.1 c.loop-i.invariant.2) in (c.requires.0.0, (u.low, u.high))
-
-pub overflow_add-i : goal.overflow_add-i
-overflow_add-i c = omega arith
-
-pub loop-i-smaller : goal.loop-i-smaller
-loop-i-smaller c = omega arith
+pub at-r-requires : goal.at-r-requires
+at-r-requires c = let u = (let k = (some_left _ c.loop-i.i c.loop-i.r (some_of _ _ _ c.loop-i-test.true c.loop-i.invariant.2)) in here _ c.loop-i.i c.loop-i.r k.0 k.1 c.loop-i.invariant.1) in (c.requires.chain.0, (u.low, u.high))
 
 pub loop-i-preserved : goal.loop-i-preserved
 loop-i-preserved c = let log = c.args.log.now in
     let i = c.loop-i.i in
     let r = c.loop-i.r in
     let h = c.loop-i-test.true in
-    let some = (some_left _ c.loop-i.i c.loop-i.r (some_of _ _ _ h c.loop-i.invariant.3)) in
-    let onward = ap (λ (x : Record). x.next_operation) c.at-links.ensures.0 in
+    let some = (some_left _ c.loop-i.i c.loop-i.r (some_of _ _ _ h c.loop-i.invariant.2)) in
+    let onward = ap (λ (x : Record). x.next_operation) c.at-r.ensures.0 in
     let place = c.put_operation.ensures ∙ ap handed_in c.record_at.ensures.0 in
     let size = c.put_operation.auto.place ∙ length_lent 80 i c.loop-i.places (omega arith) in (
-      omega arith,
-      same_len_mid (80 * i) (80 * i + 80 - 80 * i) c.loop-i.places c.put_operation.new.place c.put_operation.auto.place ∙ c.loop-i.invariant.1,
-      rw onward (later log i r some.0 some.1 c.loop-i.invariant.2),
-      rw onward (less_left log i r some.0 some.1 _ c.loop-i.invariant.3),
-      rw onward (put_more log _ i r c.loop-i.places c.put_operation.new.place some.0 some.1 h (omega arith) size place c.loop-i.invariant.4),
+      same_len_mid (80 * i) (80 * i + 80 - 80 * i) c.loop-i.places c.put_operation.new.place c.put_operation.auto.place ∙ c.loop-i.invariant.0,
+      rw onward (later log i r some.0 some.1 c.loop-i.invariant.1),
+      rw onward (less_left log i r some.0 some.1 _ c.loop-i.invariant.2),
+      rw onward (put_more log _ i r c.loop-i.places c.put_operation.new.place some.0 some.1 h (omega arith) size place c.loop-i.invariant.3),
     )
 
 pub returns : goal.returns
-returns c = let t = c.loop-i in put_end _ _ t.i t.r t.places c.loop-i-test.false t.invariant.3 t.invariant.4
+returns c = let t = c.loop-i in put_end _ _ t.i t.r t.places c.loop-i-test.false t.invariant.2 t.invariant.3

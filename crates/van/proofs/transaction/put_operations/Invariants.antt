@@ -1,7 +1,7 @@
 use mathlib.Core.Path.{◌≡◌}
 use mathlib.Core.Bool.{true}
 use mathlib.Core.List.{map}
-use Prim.Native.Nat.{◌*◌, ◌-◌, ◌≤◌}
+use Prim.Native.Nat.{◌*◌, ◌-◌, ◌/◌}
 use lib.ListN.{length}
 use Rattle.carts.specs.Bytes.{over, every}
 use Rattle.edit_log.specs.Log.{transaction_at, handed_in}
@@ -11,8 +11,5 @@ use Rattle.van.proofs.TransactionLaws.{Left, Texts}
 use Rattle.van.proofs.transaction.put_operations.Given as goal
 
 abbrev pub invariant-loop-i : goal.invariant-loop-i
-invariant-loop-i l = (l.i ≤ l.count) × (length l.places ≡ length l.initial.places) × (every (usable l.log) (Left l.log l.i l.r) ≡ true) × (length (Left l.log l.i l.r) ≡ l.count - l.i)
-    × (joined (map handed_in (transaction_at l.log l.first)) ≡ over l.places (80 * l.i) (80 * (l.count - l.i)) (Texts l.log l.i l.r))
-
-abbrev pub decreases-loop-i : goal.decreases-loop-i
-decreases-loop-i l = l.count - l.i
+invariant-loop-i l = (length l.places ≡ length l.fn.places) × (every (usable l.log) (Left l.log l.i l.r) ≡ true) × (length (Left l.log l.i l.r) ≡ length l.fn.places / 80 - l.i)
+    × (joined (map handed_in (transaction_at l.log l.first)) ≡ over l.places (80 * l.i) (80 * (length l.fn.places / 80 - l.i)) (Texts l.log l.i l.r))

@@ -13,10 +13,10 @@ pub returns-in-Err : goal.returns-in-Err
 returns-in-Err c = write_refused _ _ _ _ _ c.in-Err.ensures (refuses _)
 
 pub overflow_sub-number : goal.overflow_sub-number
-overflow_sub-number c = ((write_known _ _ _ c.args.output.now _ c.in_default.ensures refl)).low
+overflow_sub-number c = (write_known _ _ _ c.args.output.now _ c.in_default.ensures refl).low
 
 pub transaction_after-first-requires : goal.transaction_after-first-requires
-transaction_after-first-requires c = let k = (write_known _ _ _ c.args.output.now _ c.in_default.ensures refl) in ((k.log, k.kept), k.walks)
+transaction_after-first-requires c = let k = (write_known _ _ _ c.args.output.now _ c.in_default.ensures refl) in record { kept = (k.log, k.kept); reached = k.walks }
 
 pub count_operations-count-requires : goal.count_operations-count-requires
 count_operations-count-requires c = let k = (write_known _ _ _ c.args.output.now _ c.in_default.ensures refl) in (k.log, rw c.transaction_after-first.ensures k.acts)
@@ -26,18 +26,18 @@ returns-then-output-size c = let short : length c.args.output.now < 4 + 80 * c.c
     write_short _ _ _ _ _ c.in_default.ensures refl _ _ c.transaction_after-first.ensures c.count_operations-count.ensures short
 
 pub put_head-requires : goal.put_head-requires
-put_head-requires c = let f = (let k = ((write_known _ _ _ c.args.output.now _ c.in_default.ensures refl)).short in rw (c.count_operations-count.ensures, c.transaction_after-first.ensures) k) in
-    let k = ((write_known _ _ _ c.args.output.now _ c.in_default.ensures refl)).few in
+put_head-requires c = let f : c.count_operations-count.result ≤ 8 = rw (c.count_operations-count.ensures, c.transaction_after-first.ensures) (write_known _ _ _ c.args.output.now _ c.in_default.ensures refl).short in
+    let k = (write_known _ _ _ c.args.output.now _ c.in_default.ensures refl).few in
     (omega (arith, c.if-output-size.false), (omega arith, omega arith))
 
 pub put_operations-requires : goal.put_operations-requires
 put_operations-requires c = let k = (write_known _ _ _ c.args.output.now _ c.in_default.ensures refl) in
     let out = c.args.output.now in
     let room : 4 + 80 * c.count_operations-count.result ≤ length out = omega (arith, c.if-output-size.false) in
-    ((k.log, rw c.transaction_after-first.ensures k.acts), length_places c.put_head.new.output out _ c.put_head.auto.output room ∙ ap (λ (j : ℕ). 80 * j) c.count_operations-count.ensures)
+    record { chain = (k.log, rw c.transaction_after-first.ensures k.acts); room = length_places c.put_head.new.output out _ c.put_head.auto.output room ∙ ap (λ (j : ℕ). 80 * j) c.count_operations-count.ensures }
 
 pub overflow_cast-result : goal.overflow_cast-result
-overflow_cast-result c = let f = (let k = ((write_known _ _ _ c.args.output.now _ c.in_default.ensures refl)).short in rw (c.count_operations-count.ensures, c.transaction_after-first.ensures) k) in omega arith
+overflow_cast-result c = let f : c.count_operations-count.result ≤ 8 = rw (c.count_operations-count.ensures, c.transaction_after-first.ensures) (write_known _ _ _ c.args.output.now _ c.in_default.ensures refl).short in omega arith
 
 pub returns : goal.returns
 returns c = let room : 4 + 80 * c.count_operations-count.result ≤ length c.args.output.now = omega (arith, c.if-output-size.false) in
