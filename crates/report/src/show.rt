@@ -12,9 +12,6 @@ use replication::control::Control;
 use replication::session::Session;
 use words::{answer, line};
 
-// The carts of a copy, as an index counts them.
-const CARTS: usize = 128;
-
 // What a held cart has.
 pub fn held(s: &[u8]) {
     if s.len() == Cart::SIZE {
@@ -23,11 +20,12 @@ pub fn held(s: &[u8]) {
 }
 
 // Cart c of a copy, where it is held; the answer is whether it is.
-fn cart_of(library: &[u8], copy: usize, c: usize) -> bool
+fn cart_of(library: &[u8], copy: u32, c: u32) -> bool
     requires { (copy < copy_count) × (c < cart_count) }
     ensures { result ≡ eqb (byte (part_in library.now (copy_size * copy + cart_size * c) cart_size) 0) 1 }
 {
-    let found = text::part_of(library, Cart::COPY_SIZE * copy + Cart::SIZE * c, Cart::SIZE);
+    let at = Cart::COPY_SIZE * copy as usize + Cart::SIZE * c as usize;
+    let found = text::part_of(library, at, Cart::SIZE);
     let is_held = text::letter(found, 0) == 1;
     if is_held {
         held(found);
@@ -36,11 +34,11 @@ fn cart_of(library: &[u8], copy: usize, c: usize) -> bool
 }
 
 // The held carts of a copy.
-fn carts_of(library: &[u8], copy: usize)
+fn carts_of(library: &[u8], copy: u32)
     requires { copy < copy_count }
 {
     let mut some = false;
-    for c in 0..CARTS {
+    for c in 0..Cart::COUNT {
         some |= cart_of(library, copy, c);
     }
     if !some {
@@ -57,7 +55,7 @@ fn studio_line(control: Control, library: &[u8], i: u32)
     let applied = control.applied_by(i);
     let behind = answer::behind(control.commits, applied);
     line::told(&state::studio(i, control.sent_to(i), applied, behind));
-    carts_of(library, i as usize);
+    carts_of(library, i);
 }
 
 // The van's line, and the held carts of its copy.
