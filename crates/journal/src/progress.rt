@@ -1,18 +1,18 @@
 // What a player of a transcript carries from line to line, and how each answer changes it.
+#![tactic(auto, unfolding(crate::specs::Progress::counted, crate::specs::Progress::compared, crate::specs::Progress::next_line, crate::specs::Progress::stepped, crate::specs::Progress::with_van, crate::specs::Progress::after_setup, van::specs::Receive::fresh_van, crate::specs::Progress::after_count, crate::specs::Progress::after_receive, crate::specs::Progress::places_of, crate::specs::Progress::request_in))]
+
 ghost use Rattle.std.specs.Prelude.{◌≡◌, ◌*◌, ◌<◌, ◌≤◌, length};
 ghost use Rattle.journal.specs.History.{slot_size};
 ghost use Rattle.journal.specs.declared.progress.Outcome.TheVariants.{Unreadable};
-ghost use Rattle.journal.specs.Progress.{one_more, counted, start, compared, next_line, stepped, with_van, kept, entry_of, with_entry, after_setup, after_count, after_commit, places_of, after_read, after_receive, request_in};
+ghost use Rattle.journal.specs.Progress.{counted, start, compared, next_line, stepped, with_van, kept, entry_of, with_entry, after_setup, after_count, after_commit, places_of, after_read, after_receive, request_in};
 
 use crate::history;
-use crate::history::{Entry, History};
-use carts::bytes;
+use crate::history::{Entry, History, Kind};
+use carts::refusal::Refusal;
 use lines::text;
-use replication::answer::{
-    CountAnswer, CountResult, ReadAnswer, ReadResult, SetupAnswer, SetupResult,
-};
+use replication::answer::{CountResult, ReadResult, Reading, SetupResult};
 use replication::control::Control;
-use van::answer::{ReceiveAnswer, ReceiveResult};
+use van::answer::ReceiveResult;
 
 // What came of a line: a call was accepted, waits or was refused, or the line could not be read.
 #[derive(Clone, Copy)]
@@ -43,15 +43,8 @@ pub struct Progress {
     pub van_applied: u32,
 }
 
-// One more, in 32 bits.
-fn one_more(n: u32) -> u32
-    ensures { result ≡ one_more n }
-{
-    std::num::wrapping_add_u32(n, 1)
-}
-
 // An entry that has no slots yet.
-fn entry_of(kind: u32, line: u32, session: u32, number: u32, found: u32) -> Entry
+fn entry_of(kind: Kind, line: u32, session: u32, number: u32, found: u32) -> Entry
     ensures { result ≡ entry_of kind line session number found }
 {
     Entry {
@@ -70,24 +63,23 @@ impl Tally {
     fn counted(self, outcome: Outcome) -> Tally
         ensures { result ≡ counted self outcome }
     {
-        let mut next = self;
         match outcome {
-            Outcome::Accepted => {
-                next.accepted = one_more(self.accepted);
-                return next;
-            }
-            Outcome::Waited => {
-                next.waited = one_more(self.waited);
-                return next;
-            }
-            Outcome::Refused => {
-                next.refused = one_more(self.refused);
-                return next;
-            }
-            Outcome::Unreadable => {
-                next.unreadable = one_more(self.unreadable);
-                return next;
-            }
+            Outcome::Accepted => Tally {
+                accepted: self.accepted.wrapping_add(1),
+                ..self
+            },
+            Outcome::Waited => Tally {
+                waited: self.waited.wrapping_add(1),
+                ..self
+            },
+            Outcome::Refused => Tally {
+                refused: self.refused.wrapping_add(1),
+                ..self
+            },
+            Outcome::Unreadable => Tally {
+                unreadable: self.unreadable.wrapping_add(1),
+                ..self
+            },
         }
     }
 }
@@ -113,36 +105,32 @@ impl Progress {
     }
 
     // The entries of a system were compared: all are the same, or not.
-    pub fn compared(self, same: bool) -> Progress
+    pub fn compared(mut self, same: bool) -> Progress
         ensures { (result ≡ compared self same) × (result.history.entries ≤ self.history.entries) }
     {
-        let mut tally = self.tally;
-        tally.same = tally.same & same;
-        let mut next = self;
-        next.tally = tally;
-        next
+        self.tally.same &= same;
+        self
     }
 
     // One line more.
     pub fn next_line(self) -> Progress
         ensures { (result ≡ next_line self) × (result.history.entries ≤ self.history.entries) }
     {
-        let mut next = self;
-        next.line = one_more(self.line);
-        next
+        Progress {
+            line: self.line.wrapping_add(1),
+            ..self
+        }
     }
 
     // After a line: control and history as they are then, and its outcome counted.
     fn stepped(self, control: Control, history: History, outcome: Outcome) -> Progress
         ensures { result ≡ stepped self control history outcome }
     {
-        let tally = self.tally;
         Progress {
-            line: self.line,
             control,
             history,
-            tally: tally.counted(outcome),
-            van_applied: self.van_applied,
+            tally: self.tally.counted(outcome),
+            ..self
         }
     }
 
@@ -150,9 +138,10 @@ impl Progress {
     fn with_van(self, applied: u32) -> Progress
         ensures { result ≡ with_van self applied }
     {
-        let mut next = self;
-        next.van_applied = applied;
-        next
+        Progress {
+            van_applied: applied,
+            ..self
+        }
     }
 
     // After a call that is an entry, one more where there is room.
@@ -160,17 +149,16 @@ impl Progress {
         self,
         control: Control,
         outcome: Outcome,
-        cells: &mut [u32],
+        entries: &mut [Entry],
         store: &mut [u8],
         e: Entry,
         payload: &[u8],
     ) -> Progress
-        requires { 8 * self.history.entries ≤ length cells.old }
-        ensures { (kept cells.new store.new result ≡ with_entry self control outcome e payload.now cells.old store.old)
-            × (8 * result.history.entries ≤ length cells.old) }
+        requires { self.history.entries ≤ length entries.old }
+        ensures { (kept entries.new store.new result ≡ with_entry self control outcome e payload.now entries.old store.old)
+            × (result.history.entries ≤ length entries.old) }
     {
-        let history = self.history;
-        let next = history.add(cells, store, e, payload);
+        let next = self.history.add(entries, store, e, payload);
         self.stepped(control, next, outcome)
     }
 
@@ -178,18 +166,11 @@ impl Progress {
     pub fn after_setup(self, res: SetupResult) -> Progress
         ensures { (result ≡ after_setup self res.control res.answer) × (result.history.entries ≤ self.history.entries) }
     {
-        let answer = res.answer;
-        let control = res.control;
-        match answer {
-            SetupAnswer::Ready => {
-                let next = self.stepped(control, History::new(), Outcome::Accepted);
-                next.with_van(0)
-            }
-            SetupAnswer::Refused(_) => {
-                let before = self.control;
-                let history = self.history;
-                self.stepped(before, history, Outcome::Refused)
-            }
+        match res.answer {
+            Ok(()) => self
+                .stepped(res.control, History::new(), Outcome::Accepted)
+                .with_van(0),
+            Err(_) => self.stepped(self.control, self.history, Outcome::Refused),
         }
     }
 
@@ -198,12 +179,9 @@ impl Progress {
     pub fn after_count(self, res: CountResult) -> Progress
         ensures { (result ≡ after_count self res.control res.answer) × (result.history.entries ≤ self.history.entries) }
     {
-        let answer = res.answer;
-        let control = res.control;
-        let history = self.history;
-        match answer {
-            CountAnswer::Number(_) => self.stepped(control, history, Outcome::Accepted),
-            CountAnswer::Refused(_) => self.stepped(control, history, Outcome::Refused),
+        match res.answer {
+            Ok(_) => self.stepped(res.control, self.history, Outcome::Accepted),
+            Err(_) => self.stepped(res.control, self.history, Outcome::Refused),
         }
     }
 
@@ -211,30 +189,26 @@ impl Progress {
     pub fn after_commit(
         self,
         res: CountResult,
-        cells: &mut [u32],
+        entries: &mut [Entry],
         store: &mut [u8],
         session: u32,
         ops: &[u8],
     ) -> Progress
-        requires { 8 * self.history.entries ≤ length cells.old }
-        ensures { (kept cells.new store.new result ≡ after_commit self res.control res.answer session ops.now cells.old store.old)
-            × (8 * result.history.entries ≤ length cells.old) }
+        requires { self.history.entries ≤ length entries.old }
+        ensures { (kept entries.new store.new result ≡ after_commit self res.control res.answer session ops.now entries.old store.old)
+            × (result.history.entries ≤ length entries.old) }
     {
-        let answer = res.answer;
-        let control = res.control;
-        match answer {
-            CountAnswer::Number(n) => {
-                let e = entry_of(Entry::COMMIT, self.line, session, n, 0);
-                self.with_entry(control, Outcome::Accepted, cells, store, e, ops)
+        match res.answer {
+            Ok(n) => {
+                let e = entry_of(Kind::Commit, self.line, session, n, 0);
+                self.with_entry(res.control, Outcome::Accepted, entries, store, e, ops)
             }
-            CountAnswer::Refused(row) => {
-                if row == 8 {
-                    let e = entry_of(Entry::REFUSED, self.line, session, control.commits, 0);
-                    return self.with_entry(control, Outcome::Refused, cells, store, e, ops);
-                }
-                let history = self.history;
-                self.stepped(control, history, Outcome::Refused)
+            Err(Refusal::WrongState) => {
+                let commits = res.control.commits;
+                let e = entry_of(Kind::Refused, self.line, session, commits, 0);
+                self.with_entry(res.control, Outcome::Refused, entries, store, e, ops)
             }
+            Err(_) => self.stepped(res.control, self.history, Outcome::Refused),
         }
     }
 
@@ -242,29 +216,26 @@ impl Progress {
     pub fn after_read(
         self,
         res: ReadResult,
-        cells: &mut [u32],
+        entries: &mut [Entry],
         store: &mut [u8],
         session: u32,
         block: &[u8],
     ) -> Progress
-        requires { 8 * self.history.entries ≤ length cells.old }
-        ensures { (kept cells.new store.new result ≡ after_read self res.control res.answer session block.now cells.old store.old)
-            × (8 * result.history.entries ≤ length cells.old) }
+        requires { self.history.entries ≤ length entries.old }
+        ensures { (kept entries.new store.new result ≡ after_read self res.control res.answer session block.now entries.old store.old)
+            × (result.history.entries ≤ length entries.old) }
     {
-        let answer = res.answer;
-        let control = res.control;
-        let history = self.history;
-        match answer {
-            ReadAnswer::Answered { state, found } => {
-                let e = entry_of(Entry::READ, self.line, session, state, found);
+        match res.answer {
+            Ok(Reading::Answered { state, found }) => {
+                let e = entry_of(Kind::Read, self.line, session, state, found);
                 let payload = text::part_of(block, 0, Entry::SLOT + Entry::SLOT * places(block));
-                self.with_entry(control, Outcome::Accepted, cells, store, e, payload)
+                self.with_entry(res.control, Outcome::Accepted, entries, store, e, payload)
             }
-            ReadAnswer::Waits(_) => {
+            Ok(Reading::Waits(_)) => {
                 history::keep_request(store, session, text::part_of(block, 0, Entry::SLOT));
-                self.stepped(control, history, Outcome::Waited)
+                self.stepped(res.control, self.history, Outcome::Waited)
             }
-            ReadAnswer::Refused(_) => self.stepped(control, history, Outcome::Refused),
+            Err(_) => self.stepped(res.control, self.history, Outcome::Refused),
         }
     }
 
@@ -272,13 +243,10 @@ impl Progress {
     pub fn after_receive(self, control: Control, res: ReceiveResult) -> Progress
         ensures { (result ≡ after_receive self control res.applied res.answer) × (result.history.entries ≤ self.history.entries) }
     {
-        let answer = res.answer;
         let next = self.with_van(res.applied);
-        let history = self.history;
-        match answer {
-            ReceiveAnswer::Applied(_) => next.stepped(control, history, Outcome::Accepted),
-            ReceiveAnswer::Held(_) => next.stepped(control, history, Outcome::Accepted),
-            ReceiveAnswer::Refused(_) => next.stepped(control, history, Outcome::Refused),
+        match res.answer {
+            Ok(_) => next.stepped(control, self.history, Outcome::Accepted),
+            Err(_) => next.stepped(control, self.history, Outcome::Refused),
         }
     }
 
@@ -286,9 +254,7 @@ impl Progress {
     pub fn unreadable(self) -> Progress
         ensures { (result ≡ stepped self self.control self.history Unreadable) × (result.history.entries ≤ self.history.entries) }
     {
-        let control = self.control;
-        let history = self.history;
-        self.stepped(control, history, Outcome::Unreadable)
+        self.stepped(self.control, self.history, Outcome::Unreadable)
     }
 }
 
@@ -297,9 +263,10 @@ pub fn places(block: &[u8]) -> usize
     ensures { (result ≡ places_of block.now) × (result < 256) }
 {
     if text::letter(block, 0) == 2 {
-        return 1;
+        1
+    } else {
+        usize::from(text::letter(block, 1))
     }
-    text::wide(text::letter(block, 1)) as usize
 }
 
 // A request, where it is one, stands at the start of a block.
@@ -307,8 +274,7 @@ pub fn put_request(block: &mut [u8], request: &[u8])
     requires { slot_size ≤ length block.old }
     ensures { block.new ≡ request_in block.old request.now }
 {
-    if request.len() != Entry::SLOT {
-        return;
+    if request.len() == Entry::SLOT {
+        block[..Entry::SLOT].copy_from_slice(request);
     }
-    bytes::copy_all(&mut block[0..Entry::SLOT], request);
 }

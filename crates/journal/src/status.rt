@@ -1,4 +1,6 @@
 // The status with which a player ends.
+#![tactic(auto, unfolding(crate::specs::Status::made_calls, crate::specs::Status::all_well, crate::specs::Status::status_of))]
+
 ghost use Rattle.std.specs.Prelude.{◌≡◌};
 ghost use Rattle.journal.specs.Status.{made_calls, all_well, status_of};
 
