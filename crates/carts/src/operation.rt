@@ -75,8 +75,8 @@ fn is_right_state(op: &[u8], held: bool) -> bool
 // The operation meets its cart in the right state.
 #[tactic(auto, unfolding(crate::specs::Operation::meets, crate::specs::Operation::meets_cart))]
 pub fn meets(copy: &[u8], op: &[u8]) -> bool
-    requires copy_len { (length copy.now ≡ copy_size) × (length op.now ≡ cart_size) }
-    requires bound { (1 ≤ cart_number op.now) × (cart_number op.now ≤ cart_count) }
+    requires lengths { (length copy.now ≡ copy_size) × (length op.now ≡ cart_size) }
+    requires number { (1 ≤ cart_number op.now) × (cart_number op.now ≤ cart_count) }
     ensures { result ≡ meets copy.now op.now }
 {
     let held = cart::is_held(cart::cart_at(copy, bytes::u16_at(op, Cart::NUMBER_AT)));
@@ -159,8 +159,8 @@ fn act_on(cart: &mut [u8], op: &[u8])
 // The operation acts on a copy: its cart is lent on as a part.
 #[tactic(auto, unfolding(crate::specs::Operation::act, crate::specs::Cart::cart_at))]
 pub fn apply(copy: &mut [u8], op: &[u8])
-    requires copy_len { (length copy.old ≡ copy_size) × (length op.now ≡ cart_size) }
-    requires bound { (1 ≤ cart_number op.now) × (cart_number op.now ≤ cart_count) }
+    requires lengths { (length copy.old ≡ copy_size) × (length op.now ≡ cart_size) }
+    requires number { (1 ≤ cart_number op.now) × (cart_number op.now ≤ cart_count) }
     ensures { copy.new ≡ act copy.old op.now }
 {
     let c = bytes::u16_at(op, Cart::NUMBER_AT);
@@ -207,8 +207,8 @@ fn is_held_then(held: bool, op: &[u8], c: u32) -> bool
 
 // Cart c is held after the first n operations; the copy itself is only read.
 fn is_held_after(copy: &[u8], ops: &[u8], n: usize, c: u32) -> bool
-    requires copy_len { (length copy.now ≡ copy_size) × (every operation_fields (operations_of ops.now) ≡ true) }
-    requires n_in_bounds { (n ≤ length ops.now / cart_size) × ((1 ≤ c) × (c ≤ cart_count)) }
+    requires lengths { (length copy.now ≡ copy_size) × (every operation_fields (operations_of ops.now) ≡ true) }
+    requires places { (n ≤ length ops.now / cart_size) × ((1 ≤ c) × (c ≤ cart_count)) }
     ensures { result ≡ held (cart_at (act_all copy.now (parts cart_size n ops.now)) c) }
 {
     let mut state = cart::is_held(cart::cart_at(copy, c));

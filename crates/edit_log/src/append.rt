@@ -41,14 +41,14 @@ pub fn append_transaction(
     first: u32,
     ops: &[u8],
 ) -> u32
-    requires log_len { (length log.old ≡ log_size) × ((1 ≤ length ops.now / record_size) × Takeable (length ops.now / record_size) log.old first) }
-    requires oldest_value { (walkable transactions log.old oldest ≡ true) × (first < 65536) }
+    requires room { (length log.old ≡ log_size) × ((1 ≤ length ops.now / record_size) × Takeable (length ops.now / record_size) log.old first) }
+    requires chain { (walkable transactions log.old oldest ≡ true) × (first < 65536) }
     ensures { (log.new ≡ appended transactions log.old oldest first (operations_of ops.now)) × (result ≡ follow (length ops.now / record_size) log.old first) }
 {
     if transactions == 0 {
         return write_all(log, first, ops);
     }
-    let last = walk::walk_on(log, transactions - 1, oldest);
+    let last = walk::walk(log, transactions - 1, oldest);
     let next = write_all(log, first, ops);
     cell::put(log, last, Record::NEXT_TRANSACTION, first);
     next

@@ -8,8 +8,8 @@ use carts::bytes;
 
 // A cell becomes x, with v as the u16 at an index.
 fn store(dst: &mut [u8], x: &[u8], at: usize, v: u32)
-    requires dst_len { (length dst.old ≡ record_size) × (length x.now ≡ record_size) }
-    requires at_bound { (at + 2 ≤ record_size) × (v < 65536) }
+    requires lengths { (length dst.old ≡ record_size) × (length x.now ≡ record_size) }
+    requires value { (at + 2 ≤ record_size) × (v < 65536) }
     ensures { dst.new ≡ over x.now at 2 (u16_bytes v) }
 {
     dst.copy_from_slice(x);
@@ -18,8 +18,8 @@ fn store(dst: &mut [u8], x: &[u8], at: usize, v: u32)
 
 // Cell i becomes x, with v as the u16 at an index.
 pub fn fill(cells: &mut [u8], i: u32, x: &[u8], at: usize, v: u32)
-    requires le_i { ((1 ≤ i) × (record_size * i ≤ length cells.old)) × (length x.now ≡ record_size) }
-    requires at_bound { (at + 2 ≤ record_size) × (v < 65536) }
+    requires cell { ((1 ≤ i) × (record_size * i ≤ length cells.old)) × (length x.now ≡ record_size) }
+    requires value { (at + 2 ≤ record_size) × (v < 65536) }
     ensures { cells.new ≡ over cells.old (record_size * (i - 1)) record_size (over x.now at 2 (u16_bytes v)) }
 {
     let start = Record::SIZE * (i as usize - 1);
@@ -29,8 +29,8 @@ pub fn fill(cells: &mut [u8], i: u32, x: &[u8], at: usize, v: u32)
 
 // The u16 at an index of cell i becomes v.
 pub fn put(cells: &mut [u8], i: u32, at: usize, v: u32)
-    requires le_i { (1 ≤ i) × (record_size * i ≤ length cells.old) }
-    requires at_bound { (at + 2 ≤ record_size) × (v < 65536) }
+    requires cell { (1 ≤ i) × (record_size * i ≤ length cells.old) }
+    requires value { (at + 2 ≤ record_size) × (v < 65536) }
     ensures { cells.new ≡ over cells.old (record_size * (i - 1)) record_size (over (part cells.old (record_size * (i - 1)) record_size) at 2 (u16_bytes v)) }
 {
     let start = Record::SIZE * (i as usize - 1);

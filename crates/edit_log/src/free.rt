@@ -45,8 +45,8 @@ fn free_all(log: &mut [u8], first: u32) -> Freed
 
 // The records of the transaction at record oldest join the free chain, whose last record is last, 0 for none; the last of them is its new last record.
 pub fn retire_transaction(log: &mut [u8], oldest: u32, last: u32) -> Freed
-    requires log_len { (length log.old ≡ log_size) × Ending log.old oldest }
-    requires oldest_bound { (oldest < 65536) × (last ≤ record_count) }
+    requires chain { (length log.old ≡ log_size) × Ending log.old oldest }
+    requires links { (oldest < 65536) × (last ≤ record_count) }
     ensures { (log.new ≡ released log.old oldest last) × (result ≡ freed_of log.old oldest) }
 {
     let freed = free_all(log, oldest);

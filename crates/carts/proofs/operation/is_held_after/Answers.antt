@@ -23,11 +23,11 @@ loop-op-preserved c =
     let i = length c.loop-op.yielded in
     let t = chunk_turn i ops c.loop-op.op-iterator.iter c.next.new.self.iter c.in-Some.op c.loop-op.invariant.0 c.in-Some.ensures.steps.0 in
     let e = rw t.part at c.is_held_then-state.ensures in
-    rw length_push (t.passed, omega (arith, c.in-Some.ensures.steps.1), e ∙ ap (λ b. held_then (take 80 (drop (80 * i) ops)) c.args.c b) c.loop-op.invariant.2 ∙ sym (held_more copy ops c.requires.copy_len.0 c.requires.copy_len.1 i t.below c.args.c c.requires.n_in_bounds.1.0))
+    rw length_push (t.passed, omega (arith, c.in-Some.ensures.steps.1), e ∙ ap (λ b. held_then (take 80 (drop (80 * i) ops)) c.args.c b) c.loop-op.invariant.2 ∙ sym (held_more copy ops c.requires.lengths.0 c.requires.lengths.1 i t.below c.args.c c.requires.places.1.0))
 
 pub returns : goal.returns
 returns c =
     let ops = c.args.ops.now in
     let i = length c.loop-op.yielded in
-    let e = first_end c.loop-op.op-iterator.n c.args.n i ops c.loop-op.op-iterator.iter c.next.new.self.iter c.loop-op.invariant.0 c.in-None.ensures.steps c.loop-op.invariant.1 c.requires.n_in_bounds.0 in
+    let e = first_end c.loop-op.op-iterator.n c.args.n i ops c.loop-op.op-iterator.iter c.next.new.self.iter c.loop-op.invariant.0 c.in-None.ensures.steps c.loop-op.invariant.1 c.requires.places.0 in
     c.loop-op.invariant.2 ∙ ap (λ k. held (cart_at (act_all c.args.copy.now (parts 80 k ops)) c.args.c)) e

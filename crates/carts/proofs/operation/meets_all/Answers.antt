@@ -13,8 +13,8 @@ pub loop-i-init : goal.loop-i-init
 unfolding operations_of
 loop-i-init c = (record { size = cc; rest = cc }, cc, rw (sub-zero, act_none) refl)
 
-pub is_held_after-held-requires-clause-n_in_bounds : goal.is_held_after-held-requires-clause-n_in_bounds
-is_held_after-held-requires-clause-n_in_bounds c =
+pub is_held_after-held-requires-clause-places : goal.is_held_after-held-requires-clause-places
+is_held_after-held-requires-clause-places c =
     let ops = c.args.ops.now in
     let i = length c.loop-i.yielded in
     let t = chunk_turn i ops c.loop-i.i-iterator.iter c.next.new.self.iter c.in-Some.op c.loop-i.invariant.0 c.in-Some.ensures.steps.0 in

@@ -12,15 +12,15 @@ pub loop-operation-init : goal.loop-operation-init
 unfolding operations_of
 loop-operation-init c = rw sub-zero (record { passed = record { size = cc; rest = cc }; size = c.requires.0; fields = c.requires.1; met = refl; acted = refl })
 
-pub meets-ok-requires-clause-bound : goal.meets-ok-requires-clause-bound
-meets-ok-requires-clause-bound c =
+pub meets-ok-requires-clause-number : goal.meets-ok-requires-clause-number
+meets-ok-requires-clause-number c =
     let ops = c.args.ops.now in
     let i = length c.loop-operation.yielded in
     let t = chunk_turn i ops c.loop-operation.operation-iterator c.next.new.self c.in-Some.operation c.loop-operation.invariant.passed c.in-Some.ensures.steps in
     rw t.part ((op_ready ops i t.below c.loop-operation.invariant.fields).1)
 
-pub apply-requires-clause-bound : goal.apply-requires-clause-bound
-apply-requires-clause-bound c =
+pub apply-requires-clause-number : goal.apply-requires-clause-number
+apply-requires-clause-number c =
     let ops = c.args.ops.now in
     let i = length c.loop-operation.yielded in
     let t = chunk_turn i ops c.loop-operation.operation-iterator c.next.new.self c.in-Some.operation c.loop-operation.invariant.passed c.in-Some.ensures.steps in

@@ -20,8 +20,8 @@ at-after-requires c =
     let fits = op_fits c.args.ops.now _ _ _ (sym v.0 ∙ s.0.1.0) (s.0.1.1 ∙ v.1) in
     (c.loop-i.auto.log ∙ c.requires.0, here (length c.args.ops.now / 80) _ c.args.ops.now _ _ (omega arith) v.3)
 
-pub fill-requires-clause-le_i : goal.fill-requires-clause-le_i
-fill-requires-clause-le_i c =
+pub fill-requires-clause-cell : goal.fill-requires-clause-cell
+fill-requires-clause-cell c =
     let v = c.loop-i.invariant in
     let s = c.in-Some.ensures.steps in
     let fits = op_fits c.args.ops.now _ _ _ (sym v.0 ∙ s.0.1.0) (s.0.1.1 ∙ v.1) in

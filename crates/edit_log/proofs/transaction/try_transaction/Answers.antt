@@ -16,14 +16,14 @@ returns-then-r-eq0 c = (test_end c.loop.ok c.loop.invariant.2 (met_ends _ _ _ _ 
 pub record_at-op-requires : goal.record_at-op-requires
 record_at-op-requires c = let u = usable_here _ _ _ (omega arith) c.if-r-eq0.false c.loop.invariant.1 in (c.requires.1.0, (u.low, u.high))
 
-pub meets-ok-requires-clause-bound : goal.meets-ok-requires-clause-bound
-meets-ok-requires-clause-bound c =
+pub meets-ok-requires-clause-number : goal.meets-ok-requires-clause-number
+meets-ok-requires-clause-number c =
     let u = usable_here _ _ _ (omega arith) c.if-r-eq0.false c.loop.invariant.1 in
     let e = c.record_at-op.ensures in
     (rw e.0 u.cart_low, rw e.0 u.cart_high)
 
-pub apply-requires-clause-bound : goal.apply-requires-clause-bound
-apply-requires-clause-bound c =
+pub apply-requires-clause-number : goal.apply-requires-clause-number
+apply-requires-clause-number c =
     let u = usable_here _ _ _ (omega arith) c.if-r-eq0.false c.loop.invariant.1 in
     let e = c.record_at-op.ensures in
     (rw e.0 u.cart_low, rw e.0 u.cart_high)

@@ -6,4 +6,4 @@ use Rattle.edit_log.proofs.walk.walk.Given as goal
 abbrev pub invariant-loop : goal.invariant-loop
 invariant-loop l =
     let left = l.left - l.counter in
-    (walkable left l.log.now l.at ≡ true) × (walk l.left l.log.now l.r ≡ walk left l.log.now l.at)
+    (walkable left l.log l.at ≡ true) × (walk l.left l.log l.r ≡ walk left l.log l.at)

@@ -31,7 +31,7 @@ pub append_transaction-next-requires : goal.append_transaction-next-requires
 append_transaction-next-requires c =
     let k = commit_known _ _ _ _ _ c.in_default.ensures refl in
     let small = k.small in
-    record { log_len = (k.formed.log.size, (k.some, k.free)); oldest_value = (rw c.log_count.ensures k.walks, omega arith) }
+    record { room = (k.formed.log.size, (k.some, k.free)); chain = (rw c.log_count.ensures k.walks, omega arith) }
 
 pub overflow_cast-operations : goal.overflow_cast-operations
 overflow_cast-operations c = let k = (commit_known _ _ _ _ _ c.in_default.ensures refl).room in omega arith

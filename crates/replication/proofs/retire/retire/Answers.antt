@@ -15,7 +15,7 @@ pub apply_to_sixth-requires : goal.apply_to_sixth-requires
 apply_to_sixth-requires c = let k = retire_known _ _ _ c.in_default.ensures refl in (k.library, (k.log, k.acts))
 
 pub retire_transaction-freed-requires : goal.retire_transaction-freed-requires
-retire_transaction-freed-requires c = let k = retire_known _ _ _ c.in_default.ensures refl in record { log_len = (k.log, k.ends); oldest_bound = (omega (arith, k.high), k.last) }
+retire_transaction-freed-requires c = let k = retire_known _ _ _ c.in_default.ensures refl in record { chain = (k.log, k.ends); links = (omega (arith, k.high), k.last) }
 
 pub after_retire-left-requires : goal.after_retire-left-requires
 after_retire-left-requires c = let k = retire_known _ _ _ c.in_default.ensures refl in (rw c.retire_transaction-freed.ensures.1 k.held, k.few)
