@@ -17,9 +17,9 @@ use Rattle.carts.proofs.PartLaws.{length_over, take_over, part_over, drop_over_a
 use Rattle.lines.specs.declared.cursor.Mistake.{Mistake}
 use Rattle.lines.specs.declared.cursor.Mistake.TheVariants.{UnknownWord, UnknownOperation, ColonMissing, TooManyOperations, TooManyNumbers, TooMuch}
 use Rattle.lines.specs.declared.text.Class.TheVariants.{Digit}
-use Rattle.lines.specs.declared.parse.Command.{Command}
-use Rattle.lines.specs.declared.parse.Kind.{Kind}
-use Rattle.lines.specs.declared.parse.Kind.TheVariants.{New, Retitle, Recut, Withdraw}
+use Rattle.lines.specs.declared.keyword.Command.{Command}
+use Rattle.lines.specs.declared.keyword.Kind.{Kind}
+use Rattle.lines.specs.declared.keyword.Kind.TheVariants.{New, Retitle, Recut, Withdraw}
 use Rattle.lines.specs.declared.parse.Call.{Call}
 use Rattle.lines.specs.declared.parse.Call.TheVariants.{Nothing, Show, Setup, Send, Refresh, Read, Collect, Load, Retire, Van, Unreadable}
 use Rattle.lines.specs.Text.{in_class}

@@ -5,9 +5,9 @@ use Rattle.carts.specs.Bytes.{zeros}
 use Rattle.lines.specs.declared.text.Class.TheVariants.{Digit}
 use Rattle.lines.specs.declared.cursor.Mistake.{Mistake}
 use Rattle.lines.specs.declared.cursor.Mistake.TheVariants.{UnknownWord, UnknownOperation, ColonMissing, AudioMissing, LengthMissing, ToMissing, TooManyOperations, TooManyNumbers, TooMuch}
-use Rattle.lines.specs.declared.parse.Command.{Command}
-use Rattle.lines.specs.declared.parse.Kind.{Kind}
-use Rattle.lines.specs.declared.parse.Kind.TheVariants.{New, Retitle, Recut, Withdraw}
+use Rattle.lines.specs.declared.keyword.Command.{Command}
+use Rattle.lines.specs.declared.keyword.Kind.{Kind}
+use Rattle.lines.specs.declared.keyword.Kind.TheVariants.{New, Retitle, Recut, Withdraw}
 use Rattle.lines.specs.declared.parse.Call.{Call}
 use Rattle.lines.specs.declared.parse.Call.TheVariants.{Nothing, Show, Setup, Commit, Preview, Send, Refresh, Read, Collect, Move, Load, Retire, Van, Unreadable}
 use Rattle.lines.specs.Text.{in_class}

@@ -4,5 +4,6 @@
 pub mod build;
 pub mod cursor;
 pub mod input;
+pub mod keyword;
 pub mod parse;
 pub mod text;
