@@ -1,25 +1,13 @@
--- A page of lent memory, and text in it.
-use Rattle.std.specs.Prelude.{◌≡◌, cond, ◌||◌, List, [], ◌∷◌, ◌++◌, ℕ, zero, suc, ◌+◌, ◌/◌, ◌%◌, ◌≤◌, length, eqb, ltb}
+-- A page, and text on it.
+use Rattle.std.specs.Prelude.{cond, ◌||◌, List, [], ◌∷◌, ◌++◌, ℕ, zero, suc, ◌+◌, ◌/◌, ◌%◌, length, eqb, ltb}
 use Prim.Native.String.{String}
-use Rattle.carts.specs.Bytes.{byte, over}
+use Rattle.carts.specs.Bytes.{byte}
 use Rattle.carts.specs.Cart.{printable}
 use Rattle.lines.specs.Words.{bytes_of}
-use Rattle.lines.specs.Parse.{begun_with}
 
--- how many bytes a page has
+-- how many bytes of text a page has room for
 abbrev pub page_size : ℕ
 page_size = 4096
-
--- the page before and after a text was put in at a place, the rest of the page as it was; r is the place after the text
-pub record Put (text before : List ℕ) (at : ℕ) (after : List ℕ) (r : ℕ) : Type 0 where
-  pub page : after ≡ over before at (length text) text
-  pub end : r ≡ at + length text
-
--- the page before and after a text was written at its start, the rest of the page as it was; r is the text's length, and all of it is on the page
-pub record Told (text before after : List ℕ) (r : ℕ) : Type 0 where
-  pub page : after ≡ begun_with text before
-  pub end : r ≡ length text
-  pub fits : r ≤ length after
 
 -- a number of at most so many digits, in base ten, with no zeros before it: 0 is the byte 48
 unfoldable pub digits_of : ℕ → ℕ → List ℕ
@@ -41,10 +29,6 @@ count_of n thing = decimal n ++ bytes_of " " ++ thing ++ cond (eqb n 1) [] (byte
 -- a title's letters between quotes
 unfoldable pub quoted : List ℕ → List ℕ
 quoted letters = bytes_of "\"" ++ letters ++ bytes_of "\""
-
--- text k of four, counted from 0; the last where k is more than 2
-unfoldable pub one_of : ℕ → List ℕ → List ℕ → List ℕ → List ℕ → List ℕ
-one_of k a b c d = cond (eqb k 0) a (cond (eqb k 1) b (cond (eqb k 2) c d))
 
 -- a byte as it is shown: a printable one and a tab as they are, any other by its number in base 16
 unfoldable pub hex_digit : ℕ → ℕ

@@ -1,207 +1,219 @@
 // Answers in words.
+#![tactic(auto, unfolding(crate::specs::Answers::fresh_text, crate::specs::Answers::ended_text, crate::specs::Answers::goes_on_text, crate::specs::Answers::committed_text, crate::specs::Answers::previewed_text, crate::specs::Answers::sent_text, crate::specs::Answers::applied_text, crate::specs::Answers::behind_text, crate::specs::Answers::answered_text, crate::specs::Answers::head_end_text, crate::specs::Answers::waits_text, crate::specs::Answers::untitled_text, crate::specs::Answers::several_text, crate::specs::Answers::moved_text, crate::specs::Answers::whole_text, crate::specs::Answers::free_text, crate::specs::Answers::retired_text, crate::specs::Answers::van_applied_text, crate::specs::Answers::van_holds_text))]
+
 ghost use Rattle.std.specs.Prelude.{◌≡◌, ◌+◌, ◌-◌, ◌≤◌, length, ◌++◌};
 ghost use Rattle.lines.specs.Words.{bytes_of};
-ghost use Rattle.words.specs.Page.{page_size, Put, Told, decimal, numbered};
+ghost use Rattle.words.specs.Page.{page_size, decimal, numbered};
 ghost use Rattle.words.specs.Answers.{fresh_text, ended_text, goes_on_text, committed_text, previewed_text, sent_text, applied_text, behind_text, answered_text, head_end_text, waits_text, untitled_text, several_text, moved_text, whole_text, free_text, retired_text, van_applied_text, van_holds_text};
 
-use crate::page;
+use crate::page::Page;
 
 // A setup was accepted.
-pub fn fresh(out: &mut [u8], studios: u32) -> usize
-    requires { length out.old ≡ page_size }
-    ensures { Told (fresh_text studios) out.old out.new result }
+pub fn fresh(studios: u32) -> Page
+    ensures { result ≡ fresh_text studios }
 {
-    let a = page::put_counted(out, 0, b"  a fresh system with ", studios, b"studio");
-    page::put(out, a, b"\n")
+    let mut page = Page::new();
+    page.put_counted(b"  a fresh system with ", studios, b"studio");
+    page.put(b"\n");
+    page
 }
 
 // A setup ends the system before it.
-pub fn ended(out: &mut [u8]) -> usize
-    requires { length out.old ≡ page_size }
-    ensures { Told ended_text out.old out.new result }
+pub fn ended() -> Page
+    ensures { result ≡ ended_text }
 {
-    page::put(out, 0, b"  the system before this line ends here\n")
+    let mut page = Page::new();
+    page.put(b"  the system before this line ends here\n");
+    page
 }
 
 // A setup was refused: memory and control are as they were.
-pub fn goes_on(out: &mut [u8]) -> usize
-    requires { length out.old ≡ page_size }
-    ensures { Told goes_on_text out.old out.new result }
+pub fn goes_on() -> Page
+    ensures { result ≡ goes_on_text }
 {
-    page::put(out, 0, b"  the system before this line goes on unchanged\n")
+    let mut page = Page::new();
+    page.put(b"  the system before this line goes on unchanged\n");
+    page
 }
 
 // A commit was accepted.
-pub fn committed(out: &mut [u8], n: u32) -> usize
-    requires { length out.old ≡ page_size }
-    ensures { Told (committed_text n) out.old out.new result }
+pub fn committed(n: u32) -> Page
+    ensures { result ≡ committed_text n }
 {
-    page::put_between(out, 0, b"  edit ", n, b" is committed\n")
+    let mut page = Page::new();
+    page.put_between(b"  edit ", n, b" is committed\n");
+    page
 }
 
 // A preview was accepted: the number that the commit would have.
-pub fn previewed(out: &mut [u8], n: u32) -> usize
-    requires { length out.old ≡ page_size }
-    ensures { Told (previewed_text n) out.old out.new result }
+pub fn previewed(n: u32) -> Page
+    ensures { result ≡ previewed_text n }
 {
-    page::put_between(out, 0, b"  would be edit ", n, b"\n")
+    let mut page = Page::new();
+    page.put_between(b"  would be edit ", n, b"\n");
+    page
 }
 
 // What became of an edit at a studio.
-fn edit_at_studio(out: &mut [u8], n: u32, what: &[u8], studio: u32) -> usize
-    requires { (length out.old ≡ page_size) × (length what.now ≤ 64) }
-    ensures { Told (numbered "  edit " n ++ (what.now ++ decimal studio) ++ bytes_of "\n") out.old out.new result }
+fn edit_at_studio(n: u32, what: &[u8], studio: u32) -> Page
+    requires { length what.now ≤ 64 }
+    ensures { result ≡ numbered "  edit " n ++ (what.now ++ decimal studio) ++ bytes_of "\n" }
 {
-    let a = page::put_numbered(out, 0, b"  edit ", n);
-    page::put_between(out, a, what, studio, b"\n")
+    let mut page = Page::new();
+    page.put_numbered(b"  edit ", n);
+    page.put_between(what, studio, b"\n");
+    page
 }
 
 // A send was accepted.
-pub fn sent(out: &mut [u8], n: u32, studio: u32) -> usize
-    requires { length out.old ≡ page_size }
-    ensures { Told (sent_text n studio) out.old out.new result }
+pub fn sent(n: u32, studio: u32) -> Page
+    ensures { result ≡ sent_text n studio }
 {
-    edit_at_studio(out, n, b" is sent to studio ", studio)
+    edit_at_studio(n, b" is sent to studio ", studio)
 }
 
 // A refresh was accepted.
-pub fn applied(out: &mut [u8], n: u32, studio: u32) -> usize
-    requires { length out.old ≡ page_size }
-    ensures { Told (applied_text n studio) out.old out.new result }
+pub fn applied(n: u32, studio: u32) -> Page
+    ensures { result ≡ applied_text n studio }
 {
-    edit_at_studio(out, n, b" is applied by studio ", studio)
+    edit_at_studio(n, b" is applied by studio ", studio)
 }
 
 // How many edits a copy that applied so many is behind the head end.
 pub fn behind(commits: u32, applied: u32) -> u32
     ensures { result ≡ commits - applied }
 {
-    if applied < commits {
-        return commits - applied;
-    }
-    0
+    commits.saturating_sub(applied)
 }
 
 // So many edits behind the head end, in words.
-pub fn put_behind(out: &mut [u8], at: usize, edits: u32) -> usize
-    requires { at + 64 ≤ length out.old }
-    ensures { Put (behind_text edits) out.old at out.new result × (result ≤ at + 64) }
+pub fn put_behind(page: &mut Page, edits: u32)
+    requires { length page.old + 64 ≤ page_size }
+    ensures text { page.new ≡ page.old ++ behind_text edits }
+    ensures fits { length page.new ≤ length page.old + 64 }
 {
     if edits == 0 {
-        return page::put(out, at, b", level with the head end");
+        page.put(b", level with the head end");
+    } else {
+        page.put_between(b", ", edits, b" behind the head end");
     }
-    page::put_between(out, at, b", ", edits, b" behind the head end")
 }
 
 // A read was answered at an edit, so many behind the head end, with so many carts found.
-pub fn answered(out: &mut [u8], state: u32, behind: u32, found: u32) -> usize
-    requires { length out.old ≡ page_size }
-    ensures { Told (answered_text state behind found) out.old out.new result }
+pub fn answered(state: u32, behind: u32, found: u32) -> Page
+    ensures { result ≡ answered_text state behind found }
 {
-    let a = page::put_numbered(out, 0, b"  answered at edit ", state);
-    let b = put_behind(out, a, behind);
-    page::put_between(out, b, b", found ", found, b":\n")
+    let mut page = Page::new();
+    page.put_numbered(b"  answered at edit ", state);
+    put_behind(&mut page, behind);
+    page.put_between(b", found ", found, b":\n");
+    page
 }
 
 // A forward was answered by the head end at an edit, with so many carts found.
-pub fn by_head_end(out: &mut [u8], state: u32, found: u32) -> usize
-    requires { length out.old ≡ page_size }
-    ensures { Told (head_end_text state found) out.old out.new result }
+pub fn by_head_end(state: u32, found: u32) -> Page
+    ensures { result ≡ head_end_text state found }
 {
-    let a = page::put_numbered(out, 0, b"  answered by the head end at edit ", state);
-    page::put_between(out, a, b", found ", found, b":\n")
+    let mut page = Page::new();
+    page.put_numbered(b"  answered by the head end at edit ", state);
+    page.put_between(b", found ", found, b":\n");
+    page
 }
 
 // A read waits for an edit.
-pub fn waits(out: &mut [u8], n: u32) -> usize
-    requires { length out.old ≡ page_size }
-    ensures { Told (waits_text n) out.old out.new result }
+pub fn waits(n: u32) -> Page
+    ensures { result ≡ waits_text n }
 {
-    page::put_between(out, 0, b"  waits for edit ", n, b"\n")
+    let mut page = Page::new();
+    page.put_between(b"  waits for edit ", n, b"\n");
+    page
 }
 
 // A read by title found no cart.
-pub fn untitled(out: &mut [u8]) -> usize
-    requires { length out.old ≡ page_size }
-    ensures { Told untitled_text out.old out.new result }
+pub fn untitled() -> Page
+    ensures { result ≡ untitled_text }
 {
-    page::put(out, 0, b"    no cart has this title\n")
+    let mut page = Page::new();
+    page.put(b"    no cart has this title\n");
+    page
 }
 
 // A read by title found more than one cart.
-pub fn several(out: &mut [u8], found: u32) -> usize
-    requires { length out.old ≡ page_size }
-    ensures { Told (several_text found) out.old out.new result }
+pub fn several(found: u32) -> Page
+    ensures { result ≡ several_text found }
 {
-    page::put_between(
-        out,
-        0,
+    let mut page = Page::new();
+    page.put_between(
         b"    ",
         found,
         b" carts have this title, so none is shown\n",
-    )
+    );
+    page
 }
 
 // A session was moved to a studio.
-pub fn moved(out: &mut [u8], session: u32, studio: u32) -> usize
-    requires { length out.old ≡ page_size }
-    ensures { Told (moved_text session studio) out.old out.new result }
+pub fn moved(session: u32, studio: u32) -> Page
+    ensures { result ≡ moved_text session studio }
 {
-    let a = page::put_numbered(out, 0, b"  session ", session);
-    page::put_between(out, a, b" is at studio ", studio, b"\n")
+    let mut page = Page::new();
+    page.put_numbered(b"  session ", session);
+    page.put_between(b" is at studio ", studio, b"\n");
+    page
 }
 
 // A load was accepted: each copy is what the log's edits make.
-pub fn whole(out: &mut [u8], n: u32) -> usize
-    requires { length out.old ≡ page_size }
-    ensures { Told (whole_text n) out.old out.new result }
+pub fn whole(n: u32) -> Page
+    ensures { result ≡ whole_text n }
 {
-    page::put_between(out, 0, b"  the wall is whole at edit ", n, b"\n")
+    let mut page = Page::new();
+    page.put_between(b"  the wall is whole at edit ", n, b"\n");
+    page
 }
 
 // How many of the log's 512 records are free.
 fn free_records(used: u32) -> u32
     ensures { result ≡ 512 - used }
 {
-    if used < 512 {
-        return 512 - used;
-    }
-    0
+    512_u32.saturating_sub(used)
 }
 
 // So many records are free, in words, and the line's end.
-fn put_free(out: &mut [u8], at: usize, free: u32) -> usize
-    requires { at + 64 ≤ length out.old }
-    ensures { Put (free_text free) out.old at out.new result }
+fn put_free(page: &mut Page, free: u32)
+    requires { length page.old + 64 ≤ page_size }
+    ensures { page.new ≡ page.old ++ free_text free }
 {
-    let a = page::put_counted(out, at, b", ", free, b"record");
+    page.put_counted(b", ", free, b"record");
     if free == 1 {
-        return page::put(out, a, b" is free\n");
+        page.put(b" is free\n");
+    } else {
+        page.put(b" are free\n");
     }
-    page::put(out, a, b" are free\n")
 }
 
 // A retire was accepted: an edit, and the records that the log uses after it.
-pub fn retired(out: &mut [u8], n: u32, used: u32) -> usize
-    requires { length out.old ≡ page_size }
-    ensures { Told (retired_text n used) out.old out.new result }
+pub fn retired(n: u32, used: u32) -> Page
+    ensures { result ≡ retired_text n used }
 {
-    let a = page::put_between(out, 0, b"  edit ", n, b" is retired");
-    put_free(out, a, free_records(used))
+    let mut page = Page::new();
+    page.put_between(b"  edit ", n, b" is retired");
+    put_free(&mut page, free_records(used));
+    page
 }
 
 // The van has applied the edit of a message.
-pub fn van_applied(out: &mut [u8], n: u32) -> usize
-    requires { length out.old ≡ page_size }
-    ensures { Told (van_applied_text n) out.old out.new result }
+pub fn van_applied(n: u32) -> Page
+    ensures { result ≡ van_applied_text n }
 {
-    page::put_between(out, 0, b"  the van has applied edit ", n, b"\n")
+    let mut page = Page::new();
+    page.put_between(b"  the van has applied edit ", n, b"\n");
+    page
 }
 
 // The van had applied the edit of a message before.
-pub fn van_holds(out: &mut [u8], n: u32) -> usize
-    requires { length out.old ≡ page_size }
-    ensures { Told (van_holds_text n) out.old out.new result }
+pub fn van_holds(n: u32) -> Page
+    ensures { result ≡ van_holds_text n }
 {
-    page::put_between(out, 0, b"  the van holds edit ", n, b" already\n")
+    let mut page = Page::new();
+    page.put_between(b"  the van holds edit ", n, b" already\n");
+    page
 }

@@ -1,4 +1,4 @@
-// Text at the start of a lent page: words and numbers, and what came of an accepted call; and a page on standard output.
+// Text on a page of fixed memory: words and numbers, and what came of an accepted call; and a page on standard output.
 #![tactic(auto)]
 
 pub mod answer;

@@ -1,152 +1,165 @@
-// A page of lent memory: words and numbers put in at a place. The answer is the place after them.
-ghost use Rattle.std.specs.Prelude.{◌≡◌, [], ◌∷◌, ◌++◌, ◌+◌, ◌≤◌, ◌<◌, length};
+// A page: text, with words and numbers put at its end.
+ghost use Rattle.std.specs.Prelude.{◌≡◌, List, [], ◌++◌, ℕ, ◌+◌, ◌≤◌, ◌<◌, length, take};
 ghost use Rattle.carts.specs.Cart.{cart_size, title_at};
 ghost use Rattle.lines.specs.Text.{part_in};
-ghost use Rattle.words.specs.Page.{Put, decimal, count_of, quoted, one_of};
+ghost use Rattle.words.specs.Page.{page_size, decimal, count_of, quoted};
 
-use carts::bytes;
 use carts::cart::Cart;
 use lines::text;
+use std::marker::Model;
 
 // The size of a page: every line fits.
 pub const SIZE: usize = 4096;
 
-// Words at a place.
-pub fn put(out: &mut [u8], at: usize, s: &[u8]) -> usize
-    requires { at + length s.now ≤ length out.old }
-    ensures { Put s.now out.old at out.new result }
-{
-    let end = at + s.len();
-    bytes::copy_all(&mut out[at..end], s);
-    end
+// Text of at most so many bytes, in fixed memory.
+#[derive(Drop)]
+pub struct Page {
+    bytes: [u8; SIZE],
+    used: usize,
 }
 
-// A digit at a place.
-fn put_digit(out: &mut [u8], at: usize, n: u64) -> usize
-    requires { (n < 10) × (at < length out.old) }
-    ensures { Put ((48 + n) ∷ []) out.old at out.new result }
-{
-    out[at] = (48 + n) as u8;
-    at + 1
+// A page is the text on it.
+impl Model for Page {
+    ghost Value = { List ℕ };
+
+    ghost view = { λ p. take p.used p.bytes };
+
+    ghost invariant = { λ p. p.used ≤ page_size };
 }
 
-// The digits of a number, where there is room for them.
-fn put_digits(out: &mut [u8], at: usize, n: u64) -> usize
-    requires { at + length (decimal n) ≤ length out.old }
-    ensures { Put (decimal n) out.old at out.new result }
-{
-    if n < 10 {
-        return put_digit(out, at, n);
+impl Page {
+    // A page with no text.
+    pub fn new() -> Page
+        ensures { result ≡ [] }
+    {
+        Page {
+            bytes: [0; SIZE],
+            used: 0,
+        }
     }
-    let next = put_digits(out, at, n / 10);
-    put_digit(out, next, n % 10)
-}
 
-// A number in base ten, of at most 20 digits.
-pub fn put_long(out: &mut [u8], at: usize, n: u64) -> usize
-    requires { at + 20 ≤ length out.old }
-    ensures { Put (decimal n) out.old at out.new result × (result ≤ at + 20) }
-{
-    put_digits(out, at, n)
-}
-
-// A number in base ten, of at most ten digits.
-pub fn put_number(out: &mut [u8], at: usize, n: u32) -> usize
-    requires { at + 10 ≤ length out.old }
-    ensures { Put (decimal n) out.old at out.new result × (result ≤ at + 10) }
-{
-    put_digits(out, at, n as u64)
-}
-
-// Words, and a number after them.
-pub fn put_numbered(out: &mut [u8], at: usize, words: &[u8], n: u32) -> usize
-    requires { at + length words.now + 10 ≤ length out.old }
-    ensures { Put (words.now ++ decimal n) out.old at out.new result × (result ≤ at + length words.now + 10) }
-{
-    let a = put(out, at, words);
-    put_number(out, a, n)
-}
-
-// Words, a number and words after it.
-pub fn put_between(out: &mut [u8], at: usize, words: &[u8], n: u32, more: &[u8]) -> usize
-    requires { at + length words.now + length more.now + 10 ≤ length out.old }
-    ensures { Put (words.now ++ decimal n ++ more.now) out.old at out.new result × (result ≤ at + length words.now + length more.now + 10) }
-{
-    let a = put_numbered(out, at, words, n);
-    put(out, a, more)
-}
-
-// Two numbers, each after words.
-pub fn put_pair(out: &mut [u8], at: usize, words: &[u8], n: u32, more: &[u8], m: u32) -> usize
-    requires { at + length words.now + length more.now + 20 ≤ length out.old }
-    ensures { Put (words.now ++ decimal n ++ (more.now ++ decimal m)) out.old at out.new result × (result ≤ at + length words.now + length more.now + 20) }
-{
-    let a = put_numbered(out, at, words, n);
-    put_numbered(out, a, more, m)
-}
-
-// A count of things, with an s where it is not 1.
-fn put_count(out: &mut [u8], at: usize, n: u32, thing: &[u8]) -> usize
-    requires { at + length thing.now + 12 ≤ length out.old }
-    ensures { Put (count_of n thing.now) out.old at out.new result × (result ≤ at + length thing.now + 12) }
-{
-    let a = put_number(out, at, n);
-    let b = put(out, a, b" ");
-    let c = put(out, b, thing);
-    if n == 1 {
-        return c;
+    // The text on the page.
+    pub fn text(&self) -> &[u8]
+        ensures text { result.now ≡ self.now }
+        ensures fits { length self.now ≤ page_size }
+    {
+        &self.bytes[..self.used]
     }
-    put(out, c, b"s")
-}
 
-// Words, and a count of things after them.
-pub fn put_counted(out: &mut [u8], at: usize, words: &[u8], n: u32, thing: &[u8]) -> usize
-    requires { at + length words.now + length thing.now + 12 ≤ length out.old }
-    ensures { Put (words.now ++ count_of n thing.now) out.old at out.new result × (result ≤ at + length words.now + length thing.now + 12) }
-{
-    let a = put(out, at, words);
-    put_count(out, a, n, thing)
-}
-
-// Text k of four, counted from 0; the last where k is more than 2.
-pub fn put_one_of(
-    out: &mut [u8],
-    at: usize,
-    k: u32,
-    a: &[u8],
-    b: &[u8],
-    c: &[u8],
-    d: &[u8],
-) -> usize
-    requires { (at + 128 ≤ length out.old) × (length a.now ≤ 128) × (length b.now ≤ 128) × (length c.now ≤ 128) × (length d.now ≤ 128) }
-    ensures { Put (one_of k a.now b.now c.now d.now) out.old at out.new result × (result ≤ at + 128) }
-{
-    if k == 0 {
-        return put(out, at, a);
+    // Words.
+    pub fn put(&mut self, words: &[u8])
+        requires { length self.old + length words.now ≤ page_size }
+        ensures text { self.new ≡ self.old ++ words.now }
+        ensures fits { length self.new ≡ length self.old + length words.now }
+    {
+        let end = self.used + words.len();
+        self.bytes[self.used..end].copy_from_slice(words);
+        self.used = end;
     }
-    if k == 1 {
-        return put(out, at, b);
-    }
-    if k == 2 {
-        return put(out, at, c);
-    }
-    put(out, at, d)
-}
 
-// A title's letters between quotes.
-pub fn put_quoted(out: &mut [u8], at: usize, letters: &[u8]) -> usize
-    requires { at + length letters.now + 2 ≤ length out.old }
-    ensures { Put (quoted letters.now) out.old at out.new result × (result ≤ at + length letters.now + 2) }
-{
-    let a = put(out, at, b"\"");
-    let b = put(out, a, letters);
-    put(out, b, b"\"")
-}
+    // A number in base ten, where there is room for its digits.
+    fn put_decimal(&mut self, n: u64)
+        requires { length self.old + length (decimal n) ≤ page_size }
+        ensures { self.new ≡ self.old ++ decimal n }
+    {
+        let mut digits = [0; 20];
+        let count = io::decimal(n, &mut digits);
+        self.put(&digits[..count]);
+    }
 
-// A title of n letters, in a cart's or a request's 80 bytes.
-pub fn put_title(out: &mut [u8], at: usize, s: &[u8], n: u32) -> usize
-    requires { (at + 82 ≤ length out.old) × (length s.now ≡ cart_size) }
-    ensures { Put (quoted (part_in s.now title_at n)) out.old at out.new result × (result ≤ at + 82) }
-{
-    put_quoted(out, at, text::part_of(s, Cart::TITLE_AT, n as usize))
+    // A number in base ten, of at most 20 digits.
+    #[tactic(auto, using(crate::proofs::PageLaws::decimal_long))]
+    pub fn put_long(&mut self, n: u64)
+        requires { length self.old + 20 ≤ page_size }
+        ensures text { self.new ≡ self.old ++ decimal n }
+        ensures fits { length self.new ≤ length self.old + 20 }
+    {
+        self.put_decimal(n);
+    }
+
+    // A number in base ten, of at most ten digits.
+    #[tactic(auto, using(crate::proofs::PageLaws::decimal_few))]
+    pub fn put_number(&mut self, n: u32)
+        requires { length self.old + 10 ≤ page_size }
+        ensures text { self.new ≡ self.old ++ decimal n }
+        ensures fits { length self.new ≤ length self.old + 10 }
+    {
+        self.put_decimal(n as u64);
+    }
+
+    // Words, and a number after them.
+    pub fn put_numbered(&mut self, words: &[u8], n: u32)
+        requires { length self.old + length words.now + 10 ≤ page_size }
+        ensures text { self.new ≡ self.old ++ (words.now ++ decimal n) }
+        ensures fits { length self.new ≤ length self.old + length words.now + 10 }
+    {
+        self.put(words);
+        self.put_number(n);
+    }
+
+    // Words, a number and words after it.
+    pub fn put_between(&mut self, words: &[u8], n: u32, more: &[u8])
+        requires { length self.old + length words.now + length more.now + 10 ≤ page_size }
+        ensures text { self.new ≡ self.old ++ (words.now ++ decimal n) ++ more.now }
+        ensures fits { length self.new ≤ length self.old + length words.now + length more.now + 10 }
+    {
+        self.put_numbered(words, n);
+        self.put(more);
+    }
+
+    // Two numbers, each after words.
+    pub fn put_pair(&mut self, words: &[u8], n: u32, more: &[u8], m: u32)
+        requires { length self.old + length words.now + length more.now + 20 ≤ page_size }
+        ensures text { self.new ≡ self.old ++ (words.now ++ decimal n) ++ (more.now ++ decimal m) }
+        ensures fits { length self.new ≤ length self.old + length words.now + length more.now + 20 }
+    {
+        self.put_numbered(words, n);
+        self.put_numbered(more, m);
+    }
+
+    // A count of things, with an s where it is not 1.
+    #[tactic(auto, unfolding(crate::specs::Page::count_of))]
+    fn put_count(&mut self, n: u32, thing: &[u8])
+        requires { length self.old + length thing.now + 12 ≤ page_size }
+        ensures text { self.new ≡ self.old ++ count_of n thing.now }
+        ensures fits { length self.new ≤ length self.old + length thing.now + 12 }
+    {
+        self.put_number(n);
+        self.put(b" ");
+        self.put(thing);
+        if n != 1 {
+            self.put(b"s");
+        }
+    }
+
+    // Words, and a count of things after them.
+    pub fn put_counted(&mut self, words: &[u8], n: u32, thing: &[u8])
+        requires { length self.old + length words.now + length thing.now + 12 ≤ page_size }
+        ensures text { self.new ≡ self.old ++ words.now ++ count_of n thing.now }
+        ensures fits { length self.new ≤ length self.old + length words.now + length thing.now + 12 }
+    {
+        self.put(words);
+        self.put_count(n, thing);
+    }
+
+    // A title's letters between quotes.
+    #[tactic(auto, unfolding(crate::specs::Page::quoted))]
+    pub fn put_quoted(&mut self, letters: &[u8])
+        requires { length self.old + length letters.now + 2 ≤ page_size }
+        ensures text { self.new ≡ self.old ++ quoted letters.now }
+        ensures fits { length self.new ≡ length self.old + length letters.now + 2 }
+    {
+        self.put(b"\"");
+        self.put(letters);
+        self.put(b"\"");
+    }
+
+    // A title of n letters, in a cart's or a request's 80 bytes.
+    pub fn put_title(&mut self, s: &[u8], n: u32)
+        requires { (length self.old + 82 ≤ page_size) × (length s.now ≡ cart_size) }
+        ensures text { self.new ≡ self.old ++ quoted (part_in s.now title_at n) }
+        ensures fits { length self.new ≤ length self.old + 82 }
+    {
+        self.put_quoted(text::part_of(s, Cart::TITLE_AT, n as usize));
+    }
 }

@@ -1,53 +1,42 @@
 // The bytes of a line as they are shown: what is not printable by its number in base 16.
-ghost use Rattle.std.specs.Prelude.{◌≡◌, [], ◌∷◌, ◌+◌, ◌≤◌, ◌<◌, length};
-ghost use Rattle.words.specs.Page.{page_size, Put, Told, hex_digit, shown_byte, shown};
+ghost use Rattle.std.specs.Prelude.{◌≡◌, ◌++◌, ◌+◌, ◌≤◌, ◌<◌, length};
+ghost use Rattle.words.specs.Page.{page_size, hex_digit, shown_byte, shown};
 
-use crate::page;
+use crate::page::Page;
 use carts::bytes;
 
-// A digit in base 16.
+// A digit in base 16, a capital letter from 10 on; the library's are small letters.
+#[tactic(auto, unfolding(crate::specs::Page::hex_digit))]
 fn hex_digit(n: u8) -> u8
     requires { n < 16 }
     ensures { result ≡ hex_digit n }
 {
-    if n < 10 {
-        return 48 + n;
-    }
-    55 + n
-}
-
-// One byte at a place.
-fn put_byte(out: &mut [u8], at: usize, b: u8) -> usize
-    requires { at < length out.old }
-    ensures { Put (b ∷ []) out.old at out.new result }
-{
-    out[at] = b;
-    at + 1
+    if n < 10 { b'0' + n } else { b'A' - 10 + n }
 }
 
 // A byte as it is shown, in one letter or four.
-fn put_shown(out: &mut [u8], at: usize, b: u8) -> usize
-    requires { at + 4 ≤ length out.old }
-    ensures { Put (shown_byte b) out.old at out.new result × (result ≤ at + 4) }
+#[tactic(auto, unfolding(crate::specs::Page::shown_byte))]
+fn put_shown(page: &mut Page, b: u8)
+    requires { length page.old + 4 ≤ page_size }
+    ensures text { page.new ≡ page.old ++ shown_byte b }
+    ensures fits { length page.new ≤ length page.old + 4 }
 {
-    if bytes::is_printable(b) | (b == 9) {
-        return put_byte(out, at, b);
+    if bytes::is_printable(b) | (b == b'\t') {
+        page.put(&[b]);
+    } else {
+        page.put(b"\\x");
+        page.put(&[hex_digit(b / 16), hex_digit(b % 16)]);
     }
-    let a = page::put(out, at, b"\\x");
-    let c = put_byte(out, a, hex_digit(b / 16));
-    put_byte(out, c, hex_digit(b % 16))
 }
 
 // A part of a line, at most 1,024 bytes, as it is shown.
-pub fn line(out: &mut [u8], s: &[u8]) -> usize
-    requires { (length out.old ≡ page_size) × (length s.now ≤ 1024) }
-    ensures { Told (shown s.now) out.old out.new result }
+pub fn line(s: &[u8]) -> Page
+    requires { length s.now ≤ 1024 }
+    ensures { result ≡ shown s.now }
 {
-    let mut end: usize = 0;
-    let mut i = 0;
-    while i < s.len() {
-        end = put_shown(out, end, s[i]);
-        i += 1;
+    let mut page = Page::new();
+    for b in s {
+        put_shown(&mut page, *b);
     }
-    end
+    page
 }
