@@ -4,6 +4,7 @@ use mathlib.Core.Bool.{Bool}
 use mathlib.Core.List.{List, [], ◌∷◌, ◌++◌}
 use Prim.Native.Nat.{ℕ}
 use lib.Dec.{eqb}
+use Rattle.std.specs.Prelude.{Some, None}
 use Rattle.carts.specs.Bytes.{zeros, byte}
 use Rattle.carts.specs.Cart.{held}
 use Rattle.lines.specs.Words.{bytes_of}
@@ -17,10 +18,10 @@ own : ℕ → List ℕ → Bool
 own i s = eqb (byte s 0) i
 
 pub record Faults : Type 0 where
-  first : first_fault own 1 3 1 (2 ∷ 1 ∷ 3 ∷ []) ≡ 1
-  second : first_fault own 1 3 1 (1 ∷ 1 ∷ 1 ∷ []) ≡ 2
-  last : first_fault own 1 3 1 (1 ∷ 2 ∷ 4 ∷ []) ≡ 3
-  none : first_fault own 1 3 1 (1 ∷ 2 ∷ 3 ∷ []) ≡ 0
+  first : first_fault own 1 3 1 (2 ∷ 1 ∷ 3 ∷ []) ≡ Some 1
+  second : first_fault own 1 3 1 (1 ∷ 1 ∷ 1 ∷ []) ≡ Some 2
+  last : first_fault own 1 3 1 (1 ∷ 2 ∷ 4 ∷ []) ≡ Some 3
+  none : first_fault own 1 3 1 (1 ∷ 2 ∷ 3 ∷ []) ≡ None
   two_held : held_in 2 3 (1 ∷ 0 ∷ 2 ∷ 1 ∷ 1 ∷ 1 ∷ []) ≡ 2
 
 pub faults : Faults

@@ -1,12 +1,11 @@
 -- Laws of held carts, for the loop that counts them.
 use Prim.Native.Nat.{ℕ, ◌+◌, ◌-◌, ◌*◌, ◌<◌, ◌≤◌}
-use mathlib.Core.Path.{◌≡◌, sym, ap, ◌∙◌}
+use mathlib.Core.Path.{◌≡◌, sym, ◌∙◌}
 use mathlib.Core.Bool.{Bool, cond}
 use mathlib.Core.List.{List}
 use native.Mathlib.Omega.{arith}
 use lib.Dec.{eqb}
 use lib.ListN.{drop}
-use lib.Seq.{get_or-take, get_or-drop}
 use Rattle.carts.specs.Bytes.{part, byte}
 use Rattle.carts.specs.Cart.{held}
 use Rattle.carts.proofs.RecordLaws.{left_suc, drop_next}
@@ -14,11 +13,9 @@ use Rattle.convert.specs.Held.{held_in}
 
 -- a turn of the loop that counts held carts, and its end
 module _ (size n i : ℕ) (s : List ℕ) (count : ℕ) {whole : ℕ} (inv : whole ≡ count + held_in size (n - i) (drop (size * i) s)) where
-  pub held_more : 1 ≤ size → i < n → (b : Bool) {new : ℕ} → eqb (byte s (size * i)) 1 ≡ b → new ≡ count + cond b 1 0 → whole ≡ new + held_in size (n - (i + 1)) (drop (size * (i + 1)) s)
+  pub held_more : i < n → (b : Bool) {new : ℕ} → eqb (byte (part s (size * i) size) 0) 1 ≡ b → new ≡ count + cond b 1 0 → whole ≡ new + held_in size (n - (i + 1)) (drop (size * (i + 1)) s)
   unfolding held_in held
-  held_more l h b e f =
-      let first : byte (part s (size * i) size) 0 ≡ byte s (size * i) = get_or-take size (drop (size * i) s) 0 0 (omega arith) ∙ get_or-drop (size * i) s 0 0 ∙ ap (byte s) (omega arith) in
-      inv ∙ rw (left_suc n i h, ← drop_next size i s, first, e, f) (omega arith)
+  held_more h b e f = inv ∙ rw (left_suc n i h, ← drop_next size i s, e, f) (omega arith)
 
   pub held_all : n ≤ i → count ≡ whole
   unfolding held_in

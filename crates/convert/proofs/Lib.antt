@@ -2,5 +2,5 @@
 pub mod Examples
 pub mod FaultLaws
 pub mod HeldLaws
-pub mod LentLaws
 pub mod OutcomeLaws
+pub mod PartLaws

@@ -15,42 +15,40 @@ pub enum Rule {
     ShortTitle,
 }
 
-// How many bytes a cart has of which this is asked.
-fn size_by(rule: Rule) -> usize
-    ensures { (result ≡ size_by rule) × (result ≤ cart_size) }
-{
-    match rule {
-        Rule::OldForm => old_cart::SIZE,
-        Rule::Form => Cart::SIZE,
-        Rule::ShortTitle => Cart::SIZE,
+impl Rule {
+    // How many bytes a cart has of which this is asked.
+    fn size(self) -> usize
+        ensures { (result ≡ size_by self) × (1 ≤ result) × (result ≤ cart_size) }
+    {
+        match self {
+            Rule::OldForm => old_cart::SIZE,
+            Rule::Form | Rule::ShortTitle => Cart::SIZE,
+        }
+    }
+
+    // Cart c is as asked.
+    fn is_kept(self, cart: &[u8], c: u32) -> bool
+        requires { length cart.now ≡ size_by self }
+        ensures { result ≡ keeps self c cart.now }
+    {
+        match self {
+            Rule::OldForm => old_cart::is_old_cart(cart, c),
+            Rule::Form => cart::is_cart(cart, c),
+            Rule::ShortTitle => !old_cart::is_long_title(cart),
+        }
     }
 }
 
-// Cart c is as asked.
-fn is_as_asked(rule: Rule, cart: &[u8], c: u32) -> bool
-    requires { length cart.now ≡ size_by rule }
-    ensures { result ≡ keeps rule c cart.now }
-{
-    match rule {
-        Rule::OldForm => old_cart::is_old_cart(cart, c),
-        Rule::Form => cart::is_cart(cart, c),
-        Rule::ShortTitle => !(old_cart::TITLE_LONGEST < cart[1]),
-    }
-}
-
-// The first of 128 carts that is not as asked, counted from 1; 0 where each is.
-pub fn first_fault(carts: &[u8], rule: Rule) -> u32
+// The first of 128 carts that is not as asked, counted from 1.
+pub fn first_fault(carts: &[u8], rule: Rule) -> Option<u32>
     requires { length carts.now ≡ size_by rule * cart_count }
     ensures { result ≡ fault_by rule carts.now }
 {
-    let size = size_by(rule);
-    let mut c: u32 = 0;
-    while c < Cart::COUNT {
-        let start = size * (c as usize);
-        c += 1;
-        if !is_as_asked(rule, &carts[start..start + size], c) {
-            return c;
+    for (i, cart) in carts.chunks_exact(rule.size()).enumerate() {
+        let c = i as u32 + 1;
+        if !rule.is_kept(cart, c) {
+            return Some(c);
         }
     }
-    0
+    None
 }

@@ -1,34 +1,40 @@
 // A file, saved whole or not at all: it is written under a new name beside its own, which it takes once it is whole.
 ghost use Rattle.std.specs.Prelude.{◌≡◌, ◌≤◌, length};
-ghost use Rattle.words.specs.Page.{page_size, Told};
-ghost use Rattle.convert.specs.Names.{name_size, partial_name};
+ghost use Rattle.words.specs.Page.{page_size};
+ghost use Rattle.convert.specs.Names.{partial_name};
 
 use files::failure;
-use lines::text;
 use std::fs;
 use std::fs::{OpenFile, OpenOptions};
 use std::io::{Result, Write};
 use std::rt::Files;
-use words::page;
+
+// What the new name ends with.
+const ENDING: &[u8] = b".partial";
+
+// Room for a name of 4,096 bytes, and eight more.
+const NAME_SIZE: usize = 4104;
 
 // The new name.
-fn partial_name(out: &mut [u8], to: &[u8]) -> usize
-    requires { (length out.old ≡ name_size) × (length to.now ≤ page_size) }
-    ensures { Told (partial_name to.now) out.old out.new result }
+fn partial_name<'a>(room: &'a mut [u8; NAME_SIZE], to: &[u8]) -> &'a [u8]
+    requires { length to.now ≤ page_size }
+    ensures { result.now ≡ partial_name to.now }
 {
-    let a = page::put(out, 0, to);
-    page::put(out, a, b".partial")
+    let end = to.len() + ENDING.len();
+    room[..to.len()].copy_from_slice(to);
+    room[to.len()..end].copy_from_slice(ENDING);
+    &room[..end]
 }
 
 // The new file, open for writing; an error where there is a file of that name.
 fn create<R: Files>(rt: &R, name: &[u8]) -> Result<R::File> {
-    match str::from_utf8(name) {
-        Ok(name) => OpenOptions::new()
-            .write(true)
-            .create_new(true)
-            .open(rt, name),
-        Err(_) => Err(failure::not_utf8()),
-    }
+    let Ok(name) = str::from_utf8(name) else {
+        return Err(failure::not_utf8());
+    };
+    OpenOptions::new()
+        .write(true)
+        .create_new(true)
+        .open(rt, name)
 }
 
 // The bytes are in the new file, and on its device; the file is closed.
@@ -39,10 +45,10 @@ fn write<F: Write + OpenFile + Drop>(mut file: F, bytes: &[u8]) -> Result<()> {
 
 // The new file has the name of the one that is saved.
 fn rename(rt: &impl Files, name: &[u8], to: &[u8]) -> Result<()> {
-    match (str::from_utf8(name), str::from_utf8(to)) {
-        (Ok(name), Ok(to)) => fs::rename(rt, name, to),
-        _ => Err(failure::not_utf8()),
-    }
+    let (Ok(name), Ok(to)) = (str::from_utf8(name), str::from_utf8(to)) else {
+        return Err(failure::not_utf8());
+    };
+    fs::rename(rt, name, to)
 }
 
 // The new file, where it is not to stay, is removed.
@@ -69,20 +75,18 @@ fn fill<R: Files>(rt: &R, file: R::File, name: &[u8], to: &[u8], bytes: &[u8]) -
 pub fn save(rt: &impl Files, to: &[u8], bytes: &[u8]) -> bool
     requires { length to.now ≤ page_size }
 {
-    let mut page = [0u8; 4104];
-    let n = partial_name(&mut page, to);
-    let name = text::part_of(&page, 0, n);
-    match create(rt, name) {
+    let mut room = [0; NAME_SIZE];
+    let name = partial_name(&mut room, to);
+    let file = match create(rt, name) {
+        Ok(file) => file,
         Err(error) => {
             failure::tell(name, error);
-            false
+            return false;
         }
-        Ok(file) => {
-            let is_saved = fill(rt, file, name, to, bytes);
-            if !is_saved {
-                remove(rt, name);
-            }
-            is_saved
-        }
+    };
+    let is_saved = fill(rt, file, name, to, bytes);
+    if !is_saved {
+        remove(rt, name);
     }
+    is_saved
 }

@@ -1,112 +1,130 @@
 // What came of an input, in a line.
-ghost use Rattle.std.specs.Prelude.{◌≡◌, ◌+◌, ◌≤◌, length};
-ghost use Rattle.carts.specs.Cart.{cart_size};
-ghost use Rattle.words.specs.Page.{page_size, Put, Told};
-ghost use Rattle.convert.specs.Outcome.{outcome_of};
-ghost use Rattle.convert.specs.Sentences.{made_text, length_text, wrong_length_text, form_text, long_title_text, sentence_of};
+#![tactic(auto, unfolding(crate::specs::Sentences::made_text, crate::specs::Sentences::length_text, crate::specs::Sentences::wrong_length_text, crate::specs::Sentences::form_text, crate::specs::Sentences::long_title_text))]
 
-use crate::outcome::Outcome;
+ghost use Rattle.std.specs.Prelude.{◌≡◌, ◌+◌, ◌≤◌, ◌++◌, Err, length};
+ghost use Rattle.carts.specs.Cart.{cart_size};
+ghost use Rattle.words.specs.Page.{page_size};
+ghost use Rattle.convert.specs.Outcome.{outcome_of};
+ghost use Rattle.convert.specs.Sentences.{made_text, length_text, wrong_length_text, form_text, long_title_text, converted_text, refused_text, sentence_of};
+
+use crate::outcome::{Fault, Made};
 use carts::cart;
-use words::page;
+use words::page::Page;
 
 // What was converted, with so many held carts, and to what.
-fn made(out: &mut [u8], from: &[u8], held: u32, to: &[u8]) -> usize
-    requires { (length out.old ≡ page_size) × (length from.now ≤ 128) × (length to.now ≤ 128) }
-    ensures { Told (made_text from.now held to.now) out.old out.new result }
+fn made(from: &[u8], held: u32, to: &[u8]) -> Page
+    requires { (length from.now ≤ 128) × (length to.now ≤ 128) }
+    ensures { result ≡ made_text from.now held to.now }
 {
-    let a = page::put_counted(out, 0, from, held, b"cart");
-    page::put(out, a, to)
+    let mut page = Page::new();
+    page.put_counted(from, held, b"cart");
+    page.put(to);
+    page
 }
 
 // A length; 65,536 bytes are the most that are read.
-fn put_length(out: &mut [u8], at: usize, n: u64) -> usize
-    requires { at + 32 ≤ length out.old }
-    ensures { Put (length_text n) out.old at out.new result × (result ≤ at + 32) }
+fn put_length(page: &mut Page, n: u64)
+    requires { length page.old + 32 ≤ page_size }
+    ensures text { page.new ≡ page.old ++ length_text n }
+    ensures fits { length page.new ≤ length page.old + 32 }
 {
-    let a = page::put_long(out, at, n);
+    page.put_long(n);
     if n == 65536 {
-        return page::put(out, a, b" or more");
+        page.put(b" or more");
     }
-    a
 }
 
 // Refusal 22 of an input of another length, which stands between words.
-fn wrong_length(out: &mut [u8], words: &[u8], n: u64, more: &[u8]) -> usize
-    requires { (length out.old ≡ page_size) × (length words.now ≤ 128) × (length more.now ≤ 128) }
-    ensures { Told (wrong_length_text words.now n more.now) out.old out.new result }
+fn wrong_length(words: &[u8], n: u64, more: &[u8]) -> Page
+    requires { (length words.now ≤ 128) × (length more.now ≤ 128) }
+    ensures { result ≡ wrong_length_text words.now n more.now }
 {
-    let a = page::put(out, 0, words);
-    let b = put_length(out, a, n);
-    page::put(out, b, more)
+    let mut page = Page::new();
+    page.put(words);
+    put_length(&mut page, n);
+    page.put(more);
+    page
 }
 
 // Refusal 22 of a cart out of form: whose it is, and how long a title may be there.
-fn out_of_form(out: &mut [u8], c: u32, whose: &[u8], longest: u32) -> usize
-    requires { (length out.old ≡ page_size) × (length whose.now ≤ 128) }
-    ensures { Told (form_text c whose.now longest) out.old out.new result }
+fn out_of_form(c: u32, whose: &[u8], longest: u32) -> Page
+    requires { length whose.now ≤ 128 }
+    ensures { result ≡ form_text c whose.now longest }
 {
-    let a = page::put_between(out, 0, b"refused (22): cart ", c, whose);
-    page::put_between(
-        out,
-        a,
+    let mut page = Page::new();
+    page.put_between(b"refused (22): cart ", c, whose);
+    page.put_between(
         b" is out of form: a held cart has its place as its number, a title of 1 to ",
         longest,
         b" letters and then zeros, audio and length of at least 1, and zeros in bytes 12 to 15; an empty one is all zero\n",
-    )
+    );
+    page
 }
 
 // Refusal 23 of cart c, whose title has so many letters.
-fn long_title(out: &mut [u8], cart: &[u8], c: u32, letters: u32) -> usize
-    requires { (length out.old ≡ page_size) × (length cart.now ≡ cart_size) }
-    ensures { Told (long_title_text cart.now c letters) out.old out.new result }
+fn long_title(cart: &[u8], c: u32, letters: u32) -> Page
+    requires { length cart.now ≡ cart_size }
+    ensures { result ≡ long_title_text cart.now c letters }
 {
-    let a = page::put_numbered(out, 0, b"refused (23): the title of cart ", c);
-    let b = page::put_between(
-        out,
-        a,
+    let mut page = Page::new();
+    page.put_numbered(b"refused (23): the title of cart ", c);
+    page.put_between(
         b" has ",
         letters,
         b" letters, and an old file has room for 32: ",
     );
-    let d = page::put_title(out, b, cart, letters);
-    page::put(out, d, b"\n")
+    page.put_title(cart, letters);
+    page.put(b"\n");
+    page
 }
 
-// What came of the input.
-pub fn sentence(out: &mut [u8], input: &[u8], outcome: Outcome) -> usize
-    requires { (length out.old ≡ page_size) × (outcome ≡ outcome_of input.now) }
-    ensures { Told (sentence_of input.now outcome) out.old out.new result }
+// What the input was converted to.
+fn converted(to: Made) -> Page
+    ensures { result ≡ converted_text to }
 {
-    match outcome {
-        Outcome::CopyMade(held) => made(
-            out,
+    match to {
+        Made::Copy(held) => made(
             b"an old file with ",
             held,
             b", converted to a copy of 10240 bytes\n",
         ),
-        Outcome::FileMade(held) => made(
-            out,
+        Made::OldFile(held) => made(
             b"a copy with ",
             held,
             b", converted to an old file of 6150 bytes\n",
         ),
-        Outcome::OtherLength(n) => wrong_length(
-            out,
+    }
+}
+
+// Why the input is refused.
+fn refused(input: &[u8], fault: Fault) -> Page
+    requires { Err fault ≡ outcome_of input.now }
+    ensures { result ≡ refused_text input.now fault }
+{
+    match fault {
+        Fault::OtherLength(n) => wrong_length(
             b"refused (22): it begins with CART32, as an old file does, but its length is ",
             n,
             b" and not 6150\n",
         ),
-        Outcome::NoWall(n) => wrong_length(
-            out,
+        Fault::NoWall(n) => wrong_length(
             b"refused (22): it is no wall: it does not begin with CART32, as an old file does, and its length is ",
             n,
             b" and not 10240, as a copy's is\n",
         ),
-        Outcome::OldCartFault(c) => out_of_form(out, c, b" of the old file", 32),
-        Outcome::CartFault(c) => out_of_form(out, c, b" of the copy", 64),
-        Outcome::LongTitle(c, letters) => {
-            let cart = cart::cart_at(input, c);
-            long_title(out, cart, c, letters)
-        }
+        Fault::OldCart(c) => out_of_form(c, b" of the old file", 32),
+        Fault::Cart(c) => out_of_form(c, b" of the copy", 64),
+        Fault::LongTitle { cart, letters } => long_title(cart::cart_at(input, cart), cart, letters),
+    }
+}
+
+// What came of the input.
+pub fn sentence(input: &[u8], outcome: Result<Made, Fault>) -> Page
+    requires { outcome ≡ outcome_of input.now }
+    ensures { result ≡ sentence_of input.now outcome }
+{
+    match outcome {
+        Ok(to) => converted(to),
+        Err(fault) => refused(input, fault),
     }
 }

@@ -1,11 +1,12 @@
-use lib.ListN.{drop}
-use mathlib.Core.Path.{◌≡◌}
-use Prim.Native.Nat.{◌≤◌, ◌-◌, ◌+◌, ◌*◌}
-use Rattle.convert.specs.Fault.{keeps, first_fault, fault_by}
+use Rattle.std.proofs.Common.{◌≡◌, ◌+◌, ◌-◌, ◌*◌, drop}
+use Rattle.std.specs.Slice.Iter.{chunks_exact_rest, chunks_exact_size}
+use Rattle.std.specs.Iterator.Adapters.{enumerate_source, enumerate_count}
+use Rattle.convert.specs.Fault.{size_by, keeps, first_fault, fault_by}
 use Rattle.convert.proofs.fault.first_fault.Given as goal
 
-abbrev pub invariant-loop-c : goal.invariant-loop-c
-invariant-loop-c l = (l.c ≤ 128) × (fault_by l.rule l.carts ≡ first_fault (keeps l.rule) l.size (128 - l.c) (l.c + 1) (drop (l.size * l.c) l.carts))
-
-abbrev pub decreases-loop-c : goal.decreases-loop-c
-decreases-loop-c l = 128 - l.c
+abbrev pub invariant-loop-i : goal.invariant-loop-i
+invariant-loop-i l =
+    let k = enumerate_count l.i-iterator in
+    let size = size_by l.rule in
+    (chunks_exact_size (enumerate_source l.i-iterator) ≡ size) × (chunks_exact_rest (enumerate_source l.i-iterator) ≡ drop (size * k) l.carts)
+    × (fault_by l.rule l.carts ≡ first_fault (keeps l.rule) size (128 - k) (k + 1) (drop (size * k) l.carts))

@@ -1,11 +1,10 @@
-use lib.ListN.{drop}
-use mathlib.Core.Path.{◌≡◌}
-use Prim.Native.Nat.{◌≤◌, ◌-◌, ◌+◌, ◌*◌}
+use Rattle.std.proofs.Common.{◌≡◌, ◌≤◌, ◌+◌, ◌-◌, ◌*◌, length, drop}
+use Rattle.std.specs.Slice.Iter.{chunks_exact_rest, chunks_exact_size}
 use Rattle.convert.specs.Held.{held_in}
 use Rattle.convert.proofs.held.count_held.Given as goal
 
-abbrev pub invariant-loop-i : goal.invariant-loop-i
-invariant-loop-i l = (l.i ≤ 128) × (l.held ≤ l.i) × (held_in l.size 128 l.carts ≡ l.held + held_in l.size (128 - l.i) (drop (l.size * l.i) l.carts))
-
-abbrev pub decreases-loop-i : goal.decreases-loop-i
-decreases-loop-i l = 128 - l.i
+abbrev pub invariant-loop-cart : goal.invariant-loop-cart
+invariant-loop-cart l =
+    let k = length l.yielded in
+    (chunks_exact_size l.cart-iterator ≡ l.size) × (chunks_exact_rest l.cart-iterator ≡ drop (l.size * k) l.carts) × (l.held ≤ k)
+    × (held_in l.size 128 l.carts ≡ l.held + held_in l.size (128 - k) (drop (l.size * k) l.carts))

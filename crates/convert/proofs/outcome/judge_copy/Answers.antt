@@ -1,33 +1,30 @@
-use mathlib.Core.Path.{refl}
-use native.Mathlib.Omega.{arith}
+use Rattle.std.proofs.Common.{sym, arith}
 use borrow.Author.Tests.{eq-eqb, ne_eqb}
 use Rattle.convert.specs.declared.fault.Rule.TheVariants.{ShortTitle}
 use Rattle.convert.specs.Fault.{keeps}
 use Rattle.convert.specs.Outcome.{copy_outcome}
-use Rattle.convert.proofs.FaultLaws.{fault_most}
+use Rattle.convert.proofs.FaultLaws.{fault_named}
 use Rattle.convert.proofs.outcome.judge_copy.Goals as goal
 
 pub returns-then-copy-ne-COPY_SIZE : goal.returns-then-copy-ne-COPY_SIZE
 unfolding copy_outcome
 returns-then-copy-ne-COPY_SIZE c = rw (ne_eqb _ 10240 c.if-copy-ne-COPY_SIZE.true)
 
-pub returns-then-c-ne0 : goal.returns-then-c-ne0
+pub returns-in-Some : goal.returns-in-Some
 unfolding copy_outcome
-returns-then-c-ne0 c =
-    rw (eq-eqb _ 10240 c.if-copy-ne-COPY_SIZE.false, ← c.first_fault-c.ensures, ne_eqb _ 0 c.if-c-ne0.true)
+returns-in-Some c = rw (eq-eqb _ 10240 c.if-copy-ne-COPY_SIZE.false, ← c.in-Some.ensures)
 
 pub cart_at-requires : goal.cart_at-requires
 cart_at-requires c =
-    let l = c.first_fault-long.ensures in
-    let m = fault_most (keeps ShortTitle) 80 128 1 0 c.args.copy.now refl in
-    (omega arith, (omega arith, omega arith))
+    let m = fault_named (keeps ShortTitle) 80 128 1 c.in-Some-first_fault.c c.args.copy.now (sym c.in-Some-first_fault.ensures) in
+    (c.if-copy-ne-COPY_SIZE.false, (omega arith, omega arith))
 
-pub returns-then-long-ne0 : goal.returns-then-long-ne0
+pub returns-in-Some-first_fault : goal.returns-in-Some-first_fault
 unfolding copy_outcome
-returns-then-long-ne0 c =
-    rw (eq-eqb _ 10240 c.if-copy-ne-COPY_SIZE.false, ← c.first_fault-c.ensures, eq-eqb _ 0 c.if-c-ne0.false, ← c.first_fault-long.ensures, ne_eqb _ 0 c.if-long-ne0.true, c.byte_at.ensures.0, c.cart_at.ensures.0)
+returns-in-Some-first_fault c =
+    rw (eq-eqb _ 10240 c.if-copy-ne-COPY_SIZE.false, ← c.in_default.ensures, ← c.in-Some-first_fault.ensures, c.byte_at-letters.ensures.0, c.cart_at.ensures.0)
 
 pub returns : goal.returns
 unfolding copy_outcome
 returns c =
-    rw (eq-eqb _ 10240 c.if-copy-ne-COPY_SIZE.false, ← c.first_fault-c.ensures, eq-eqb _ 0 c.if-c-ne0.false, ← c.first_fault-long.ensures, eq-eqb _ 0 c.if-long-ne0.false, c.count_held.ensures)
+    rw (eq-eqb _ 10240 c.if-copy-ne-COPY_SIZE.false, ← c.in_default.ensures, ← c.in_default-first_fault.ensures, c.count_held.ensures)
