@@ -12,7 +12,6 @@ use crate::control::Control;
 use crate::session::Session;
 use crate::system::System;
 use crate::{block, rows, session};
-use carts::bytes;
 use carts::refusal::Refusal;
 
 // The row that stops a collect, if any.
@@ -56,7 +55,7 @@ pub fn collect(
         };
     }
     let mut asked = [0u8; Session::SIZE];
-    bytes::copy_all(&mut asked, session::session_at(sessions, session));
+    asked.copy_from_slice(session::session_at(sessions, session));
     let nothing = [0u8; Session::SIZE];
     let reading = block::block(
         control, library, sessions, session, &asked, &nothing, output,

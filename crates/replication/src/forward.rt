@@ -12,7 +12,6 @@ use crate::session::Session;
 use crate::source::Source;
 use crate::system::System;
 use crate::{read, session, source};
-use carts::bytes;
 
 // Which copy answers. Where it is the head end's, the session has seen all that is committed.
 fn source_of(control: Control, due: Due) -> Source
@@ -58,7 +57,7 @@ pub fn forward(
         };
     }
     let mut own = [0u8; Session::SIZE];
-    bytes::copy_all(&mut own, session::session_at(sessions, session));
+    own.copy_from_slice(session::session_at(sessions, session));
     let due = Due::at(control, sessions, session);
     let source = source_of(control, due);
     let reading = source::answer_from(source, library, sessions, session, request, &own, output);

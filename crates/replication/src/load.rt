@@ -66,13 +66,13 @@ fn are_made(system: System, copy: &mut [u8]) -> bool
     ok & bytes::are_equal(copies::copy_at(system.library, 0), copy)
 }
 
-// The row that stops a load, or 0. The copy on the stack begins as the sixth (S-9).
+// The row that stops a load, if any. The copy on the stack begins as the sixth (S-9).
 pub fn decide_load(system: System) -> Result<(), Refusal>
     ensures { stop_number result ≡ load_stop system.entry.control (memory_of system.entry) }
 {
     rows::stopped_by_memory(system)?;
     let mut copy = [0u8; Cart::COPY_SIZE];
-    bytes::copy_all(&mut copy, copies::copy_at(system.library, Control::SIXTH));
+    copy.copy_from_slice(copies::copy_at(system.library, Control::SIXTH));
     if !are_made(system, &mut copy) {
         return Err(Refusal::OtherCopy);
     }

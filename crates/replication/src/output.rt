@@ -20,11 +20,8 @@ fn show_cart(copy: &[u8], c: u32, place: &mut [u8]) -> u32
     ensures { (result ≡ cond (held (cart_at copy.now c)) 1 0) × (place.new ≡ cart_at copy.now c) }
 {
     let cart = cart::cart_at(copy, c);
-    bytes::copy_all(place, cart);
-    if !cart::is_held(cart) {
-        return 0;
-    }
-    1
+    place.copy_from_slice(cart);
+    if cart::is_held(cart) { 1 } else { 0 }
 }
 
 // By numbers: one cart for each number asked; found counts the places that are held.
@@ -57,7 +54,7 @@ fn show_title(copy: &[u8], title: &[u8], output: &mut [u8]) -> u32
         return titles::found_count(found);
     };
     let cart = cart::cart_at(copy, c);
-    bytes::copy_all(&mut output[0..Cart::SIZE], cart);
+    output[0..Cart::SIZE].copy_from_slice(cart);
     1
 }
 

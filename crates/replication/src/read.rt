@@ -12,7 +12,6 @@ use crate::control::Control;
 use crate::session::Session;
 use crate::system::System;
 use crate::{block, rows, session};
-use carts::bytes;
 use carts::refusal::Refusal;
 
 // The row that stops a read, if any.
@@ -61,7 +60,7 @@ pub fn read(
         };
     }
     let mut own = [0u8; Session::SIZE];
-    bytes::copy_all(&mut own, session::session_at(sessions, session));
+    own.copy_from_slice(session::session_at(sessions, session));
     let reading = block::block(control, library, sessions, session, request, &own, output);
     if let Reading::Waits(number) = reading {
         session::store(sessions, session, request, number);

@@ -3,7 +3,7 @@ ghost use Rattle.std.specs.Prelude.{◌≡◌, ◌<◌, ◌≤◌, length};
 ghost use Rattle.replication.specs.Memory.{session_size, sessions_size, session_count, session_at, with_session, with_sequence, with_number};
 ghost use Rattle.replication.specs.Request.{numbers_form, request_fields, request_form};
 ghost use Rattle.replication.specs.Layout.{waiting_form, session_form_of};
-ghost use Rattle.replication.specs.Values.{session_value, waits_by, needed_by};
+ghost use Rattle.replication.specs.Values.{session_value, waiting_value, waits_by, needed_by};
 
 use carts::cart::Cart;
 use carts::{bytes, cart};
@@ -41,53 +41,46 @@ impl Session {
     pub const NUMBERS_MOST: usize = 32;
 
     // The session, or the request, in 80 bytes.
+    #[tactic(auto, unfolding(crate::specs::Values::session_value, crate::specs::Memory::sequence_of))]
     pub fn from_bytes(x: &[u8]) -> Session
         requires { length x.now ≡ session_size }
         ensures { (result ≡ session_value x.now) × (result.number < 65536) }
     {
         let number = bytes::u16_at(x, Session::NUMBER_AT);
-        let n = bytes::byte_at(x, 1);
-        let kind = x[0];
-        if kind == 1 {
-            return Session {
-                number,
-                waiting: Waiting::Numbers(n),
-            };
-        }
-        if kind == 2 {
-            return Session {
-                number,
-                waiting: Waiting::Title(n),
-            };
-        }
-        Session {
-            number,
-            waiting: Waiting::Nothing,
-        }
+        let waiting = waiting_in(x);
+        Session { number, waiting }
     }
 
     // A read is waiting.
     pub fn is_waiting(self) -> bool
         ensures { result ≡ waits_by self.waiting }
     {
-        let waiting = self.waiting;
-        match waiting {
-            Waiting::Nothing => false,
-            Waiting::Numbers(_) => true,
-            Waiting::Title(_) => true,
-        }
+        !matches!(self.waiting, Waiting::Nothing)
     }
 
     // The bytes of output that the waiting read asks for.
     pub fn needed(self) -> usize
         ensures { result ≡ needed_by self.waiting }
     {
-        let waiting = self.waiting;
-        match waiting {
+        match self.waiting {
             Waiting::Nothing => 0,
             Waiting::Numbers(n) => Cart::SIZE * (n as usize),
             Waiting::Title(_) => Cart::SIZE,
         }
+    }
+}
+
+// The read in byte 0, and the count in byte 1.
+#[tactic(auto, unfolding(crate::specs::Values::waiting_value))]
+fn waiting_in(x: &[u8]) -> Waiting
+    requires { length x.now ≡ session_size }
+    ensures { result ≡ waiting_value x.now }
+{
+    let n = bytes::byte_at(x, 1);
+    match x[0] {
+        1 => Waiting::Numbers(n),
+        2 => Waiting::Title(n),
+        _ => Waiting::Nothing,
     }
 }
 
@@ -113,18 +106,16 @@ fn is_numbers(x: &[u8]) -> bool
 }
 
 // Byte 0 is 1 or 2, and the read's fields are of their form.
+#[tactic(auto, unfolding(crate::specs::Request::request_fields, carts::specs::Cart::has_title))]
 fn is_read(x: &[u8]) -> bool
     requires { length x.now ≡ session_size }
     ensures { result ≡ request_fields x.now }
 {
-    let kind = x[0];
-    if kind == 1 {
-        return is_numbers(x);
+    match x[0] {
+        1 => is_numbers(x),
+        2 => cart::is_title_as_asked(x, true),
+        _ => false,
     }
-    if kind == 2 {
-        return cart::is_title_as_asked(x, true);
-    }
-    false
 }
 
 // The bytes are those of a read request.

@@ -18,7 +18,7 @@ pub block-reading-requires : goal.block-reading-requires
 block-reading-requires c =
     let g = c.args in
     let k = collect_known g.control (memory g.library.now g.log.now g.sessions.now) g.session g.output.now _ c.in_default.ensures refl in
-    let x = asked_same _ _ _ (c.copy_all.ensures ∙ c.session_at.ensures.0) k.1 in
+    let x = asked_same _ _ _ (c.copy_from_slice.ensures.after ∙ c.session_at.ensures.0) k.1 in
     record {
       memory = (k.0.library, k.0.place);
       studio = (k.0.studio, k.0.state);
@@ -28,4 +28,4 @@ block-reading-requires c =
 
 pub returns : goal.returns
 unfolding zeros
-returns c = collect_steps _ _ _ _ _ c.in_default.ensures refl _ _ (c.copy_all.ensures ∙ c.session_at.ensures.0) (c.block-reading.ensures.left _)
+returns c = collect_steps _ _ _ _ _ c.in_default.ensures refl _ _ (c.copy_from_slice.ensures.after ∙ c.session_at.ensures.0) (c.block-reading.ensures.left _)

@@ -35,12 +35,12 @@ answer_from-reading-requires c =
       memory = (k.0.library, k.0.place);
       source = c.source_of-source.ensures.1;
       request = (k.1.size, (k.1.fields, k.1.fits));
-      left_by = ap length c.copy_all.ensures ∙ c.session_at.ensures.1;
+      left_by = ap length c.copy_from_slice.ensures.after ∙ c.session_at.ensures.1;
     }
 
 pub returns : goal.returns
 returns c =
     let g = c.args in
-    let own = c.copy_all.ensures ∙ c.session_at.ensures.0 in
+    let own = c.copy_from_slice.ensures.after ∙ c.session_at.ensures.0 in
     forward_answers g.control (memory g.library.now g.log.now g.sessions.now) g.session g.request.now g.output.now _ c.in_default.ensures refl
     _ c.at-due.ensures.0 _ own _ c.source_of-source.ensures.0 _ (c.answer_from-reading.ensures g.control g.log.now)

@@ -22,5 +22,5 @@ returns c = let found = c.search-found.ensures.0 in
     let one = c.in-One.is in
     let out = c.args.output.now in (
       one_found c.args.copy.now c.args.title.now _ found _ one,
-      ap (λ (ys : List ℕ). ys ++ drop 80 out) (c.copy_all.ensures ∙ c.cart_at-cart.ensures.0 ∙ one_shown c.args.copy.now c.args.title.now _ found _ one),
+      ap (λ (ys : List ℕ). ys ++ drop 80 out) (c.copy_from_slice.ensures.after ∙ c.cart_at-cart.ensures.0 ∙ one_shown c.args.copy.now c.args.title.now _ found _ one),
     )

@@ -22,7 +22,7 @@ block-reading-requires c =
       memory = (k.0.library, k.0.place);
       studio = (k.0.studio, k.0.state);
       request = (k.1.size, (k.1.fields, k.1.fits));
-      left_by = ap length c.copy_all.ensures ∙ c.session_at.ensures.1;
+      left_by = ap length c.copy_from_slice.ensures.after ∙ c.session_at.ensures.1;
     }
 
 pub store-requires : goal.store-requires
@@ -36,10 +36,10 @@ store-requires c =
 
 pub returns-in-Waits : goal.returns-in-Waits
 returns-in-Waits c =
-    let own = c.copy_all.ensures ∙ c.session_at.ensures.0 in
+    let own = c.copy_from_slice.ensures.after ∙ c.session_at.ensures.0 in
     read_waits _ _ _ _ _ _ c.in_default.ensures refl _ _ _ own _ _ refl (c.in-Waits.ensures.left _) _ c.store.ensures
 
 pub returns-in_default-reading : goal.returns-in_default-reading
 returns-in_default-reading c =
-    let own = c.copy_all.ensures ∙ c.session_at.ensures.0 in
+    let own = c.copy_from_slice.ensures.after ∙ c.session_at.ensures.0 in
     rw c.in_default-reading.is (read_answers _ _ _ _ _ _ c.in_default.ensures refl _ _ _ own _ (answered_waits _ _) (c.in_default-reading.ensures.left _))
