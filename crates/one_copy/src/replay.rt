@@ -62,7 +62,7 @@ pub fn numbers_agree(copy: &[u8], request: &[u8], found: u32, shown: &[u8]) -> b
         ok &= place_agrees(copy, c, text::part_of(shown, Cart::SIZE * i, Cart::SIZE));
         held += u32::from(is_held_at(copy, c));
     }
-    ok & (held == found)
+    ok && held == found
 }
 
 // The library answers a read by title with this found and this cart.
@@ -75,8 +75,7 @@ pub fn title_agrees(copy: &[u8], title: &[u8], found: u32, shown: &[u8]) -> bool
     let count = titles::found_count(result);
     let place = text::part_of(shown, 0, Cart::SIZE);
     let Found::One(c) = result else {
-        let nothing = [0u8; Cart::SIZE];
-        return (count == found) & text::same(&nothing, place);
+        return (count == found) & text::same(&[0; Cart::SIZE], place);
     };
     (count == found) & text::same(cart::cart_at(copy, c), place)
 }

@@ -35,8 +35,14 @@ loop-i-preserved c =
       held = let w = rw k at h in omega (arith, t.invariant.held);
     }
 
-pub returns : goal.returns
-returns c =
+pub returns-then-ok : goal.returns-then-ok
+returns-then-ok c =
     let s = c.args in
     let t = c.loop-i in
-    numbers_done s.copy.now s.request.now s.shown.now c.byte_at-n.result t.i s.found t.held t.ok c.byte_at-n.ensures.0 (omega arith) (omega arith) t.invariant.agree t.invariant.held
+    rw c.if-ok.true at (numbers_done s.copy.now s.request.now s.shown.now c.byte_at-n.result t.i s.found t.held t.ok c.byte_at-n.ensures.0 (omega arith) (omega arith) t.invariant.agree t.invariant.held)
+
+pub returns-else-ok : goal.returns-else-ok
+returns-else-ok c =
+    let s = c.args in
+    let t = c.loop-i in
+    c.if-ok.false ∙ (rw c.if-ok.false at (numbers_done s.copy.now s.request.now s.shown.now c.byte_at-n.result t.i s.found t.held t.ok c.byte_at-n.ensures.0 (omega arith) (omega arith) t.invariant.agree t.invariant.held))
