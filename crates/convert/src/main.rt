@@ -23,7 +23,7 @@ use words::line;
 // The descriptor of standard error.
 const STDERR: i32 = 2;
 
-// How a run ends: the status is a digit for each.
+// How a run ends.
 #[derive(Clone, Copy)]
 enum Ending {
     Converted,
@@ -33,6 +33,7 @@ enum Ending {
 }
 
 impl Ending {
+    // The status: a digit.
     fn status(self) -> u8 {
         match self {
             Ending::Converted => 0,

@@ -1,6 +1,4 @@
 // What came of an input, in a line.
-#![tactic(auto, unfolding(crate::specs::Sentences::made_text, crate::specs::Sentences::length_text, crate::specs::Sentences::wrong_length_text, crate::specs::Sentences::form_text, crate::specs::Sentences::long_title_text))]
-
 ghost use Rattle.std.specs.Prelude.{◌≡◌, ◌+◌, ◌≤◌, ◌++◌, Err, length};
 ghost use Rattle.carts.specs.Cart.{cart_size};
 ghost use Rattle.words.specs.Page.{page_size};
@@ -12,6 +10,7 @@ use carts::cart;
 use words::page::Page;
 
 // What was converted, with so many held carts, and to what.
+#[tactic(auto, unfolding(crate::specs::Sentences::made_text))]
 fn made(from: &[u8], held: u32, to: &[u8]) -> Page
     requires { (length from.now ≤ 128) × (length to.now ≤ 128) }
     ensures { result ≡ made_text from.now held to.now }
@@ -23,6 +22,7 @@ fn made(from: &[u8], held: u32, to: &[u8]) -> Page
 }
 
 // A length; 65,536 bytes are the most that are read.
+#[tactic(auto, unfolding(crate::specs::Sentences::length_text))]
 fn put_length(page: &mut Page, n: u64)
     requires { length page.old + 32 ≤ page_size }
     ensures text { page.new ≡ page.old ++ length_text n }
@@ -35,6 +35,7 @@ fn put_length(page: &mut Page, n: u64)
 }
 
 // Refusal 22 of an input of another length, which stands between words.
+#[tactic(auto, unfolding(crate::specs::Sentences::wrong_length_text))]
 fn wrong_length(words: &[u8], n: u64, more: &[u8]) -> Page
     requires { (length words.now ≤ 128) × (length more.now ≤ 128) }
     ensures { result ≡ wrong_length_text words.now n more.now }
@@ -47,6 +48,7 @@ fn wrong_length(words: &[u8], n: u64, more: &[u8]) -> Page
 }
 
 // Refusal 22 of a cart out of form: whose it is, and how long a title may be there.
+#[tactic(auto, unfolding(crate::specs::Sentences::form_text))]
 fn out_of_form(c: u32, whose: &[u8], longest: u32) -> Page
     requires { length whose.now ≤ 128 }
     ensures { result ≡ form_text c whose.now longest }
@@ -62,6 +64,7 @@ fn out_of_form(c: u32, whose: &[u8], longest: u32) -> Page
 }
 
 // Refusal 23 of cart c, whose title has so many letters.
+#[tactic(auto, unfolding(crate::specs::Sentences::long_title_text))]
 fn long_title(cart: &[u8], c: u32, letters: u32) -> Page
     requires { length cart.now ≡ cart_size }
     ensures { result ≡ long_title_text cart.now c letters }
