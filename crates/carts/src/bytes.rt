@@ -80,7 +80,7 @@ pub fn all_printable(s: &[u8]) -> bool
     ok
 }
 
-// Two slices of one length have the same bytes.
+// Two slices of one length have the same bytes; `==` would stop at the first that differs.
 pub fn are_equal(a: &[u8], b: &[u8]) -> bool
     requires { length a.now ≡ length b.now }
     ensures { result ≡ pairwise eqb a.now b.now }

@@ -25,6 +25,13 @@ impl Kind {
         }
     }
 
+    // The byte that an operation of the kind begins with.
+    pub fn byte(self) -> u8
+        ensures { result ≡ kind_byte self }
+    {
+        self as u8
+    }
+
     // The byte is of a kind that has a title. By comparisons and no match: it runs for each operation, without branches.
     pub fn has_title(byte: u8) -> bool
         ensures { result ≡ (is_new byte || is_retitle byte) }

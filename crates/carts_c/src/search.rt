@@ -4,6 +4,7 @@ ghost use Rattle.carts_c.specs.Search.{words, found_words};
 
 use carts::titles::{Found, Searched};
 
+// Numbers for kinds: C reads them.
 #[repr(C)]
 #[derive(Clone, Copy)]
 pub struct Words {

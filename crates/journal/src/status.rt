@@ -20,7 +20,7 @@ fn all_well(tally: Tally) -> bool
     tally.same && tally.unreadable == 0 && made_calls(tally)
 }
 
-// 2 where the input was not read to its end as text, else 0 where all is well and 1 where it is not.
+// A number, as the exit status of a program is: 2 where the input was not read to its end as text, else 0 where all is well and 1 where it is not.
 pub fn status(is_read: bool, tally: Tally) -> u8
     ensures { result ≡ status_of is_read tally }
 {

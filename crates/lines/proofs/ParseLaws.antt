@@ -18,8 +18,8 @@ use Rattle.lines.specs.declared.cursor.Mistake.{Mistake}
 use Rattle.lines.specs.declared.cursor.Mistake.TheVariants.{UnknownWord, UnknownOperation, ColonMissing, TooManyOperations, TooManyNumbers, TooMuch}
 use Rattle.lines.specs.declared.text.Class.TheVariants.{Digit}
 use Rattle.lines.specs.declared.keyword.Command.{Command}
-use Rattle.lines.specs.declared.keyword.Kind.{Kind}
-use Rattle.lines.specs.declared.keyword.Kind.TheVariants.{New, Retitle, Recut, Withdraw}
+use Rattle.carts.specs.declared.kind.Kind.{Kind}
+use Rattle.carts.specs.declared.kind.Kind.TheVariants.{New, Retitle, Recut, Withdraw}
 use Rattle.lines.specs.declared.parse.Call.{Call}
 use Rattle.lines.specs.declared.parse.Call.TheVariants.{Nothing, Show, Setup, Send, Refresh, Read, Collect, Load, Retire, Van, Unreadable}
 use Rattle.lines.specs.Text.{in_class}

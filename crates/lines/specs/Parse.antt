@@ -6,8 +6,9 @@ use Rattle.lines.specs.declared.text.Class.TheVariants.{Digit}
 use Rattle.lines.specs.declared.cursor.Mistake.{Mistake}
 use Rattle.lines.specs.declared.cursor.Mistake.TheVariants.{UnknownWord, UnknownOperation, ColonMissing, AudioMissing, LengthMissing, ToMissing, TooManyOperations, TooManyNumbers, TooMuch}
 use Rattle.lines.specs.declared.keyword.Command.{Command}
-use Rattle.lines.specs.declared.keyword.Kind.{Kind}
-use Rattle.lines.specs.declared.keyword.Kind.TheVariants.{New, Retitle, Recut, Withdraw}
+pub use Rattle.carts.specs.Kind.{kind_byte}
+use Rattle.carts.specs.declared.kind.Kind.{Kind}
+use Rattle.carts.specs.declared.kind.Kind.TheVariants.{New, Retitle, Recut, Withdraw}
 use Rattle.lines.specs.declared.parse.Call.{Call}
 use Rattle.lines.specs.declared.parse.Call.TheVariants.{Nothing, Show, Setup, Commit, Preview, Send, Refresh, Read, Collect, Move, Load, Retire, Van, Unreadable}
 use Rattle.lines.specs.Text.{in_class}
@@ -48,12 +49,6 @@ kind_of word =
     (cond (says word "retitle") (Some Retitle)
     (cond (says word "re-cut") (Some Recut)
     (cond (says word "withdraw") (Some Withdraw) None)))
-
-abbrev pub kind_byte : Kind → ℕ
-kind_byte New = 1
-kind_byte Retitle = 2
-kind_byte Recut = 3
-kind_byte Withdraw = 4
 
 abbrev pub has_title : Kind → Bool
 has_title New = true

@@ -1,59 +1,43 @@
 // Words of the grammar: the commands that lines begin with, and the kinds of operations.
 ghost use Rattle.std.specs.Prelude.{◌≡◌};
-ghost use Rattle.lines.specs.Parse.{kind_of, kind_byte, has_title, has_recording, command_of, number_command_of};
+ghost use Rattle.lines.specs.Parse.{kind_of, has_title, has_recording, command_of, number_command_of};
 
 use crate::text;
+use carts::kind::Kind;
 
-// The kind of an operation, by its byte.
-#[derive(Clone, Copy)]
-pub enum Kind {
-    New = 1,
-    Retitle = 2,
-    Recut = 3,
-    Withdraw = 4,
+// The kind of an operation, by its word. A match over byte strings was tried: it has a goal for each byte at which two words part, and
+// many stay open.
+#[tactic(auto, unfolding(crate::specs::Parse::kind_of))]
+pub fn kind_of(word: &[u8]) -> Option<Kind>
+    ensures { result ≡ kind_of word.now }
+{
+    if text::same(word, b"new") {
+        return Some(Kind::New);
+    }
+    if text::same(word, b"retitle") {
+        return Some(Kind::Retitle);
+    }
+    if text::same(word, b"re-cut") {
+        return Some(Kind::Recut);
+    }
+    if text::same(word, b"withdraw") {
+        return Some(Kind::Withdraw);
+    }
+    None
 }
 
-impl Kind {
-    // By its word. A match over byte strings was tried: it has a goal for each byte at which two words part, and many stay open.
-    #[tactic(auto, unfolding(crate::specs::Parse::kind_of))]
-    pub fn of(word: &[u8]) -> Option<Kind>
-        ensures { result ≡ kind_of word.now }
-    {
-        if text::same(word, b"new") {
-            return Some(Kind::New);
-        }
-        if text::same(word, b"retitle") {
-            return Some(Kind::Retitle);
-        }
-        if text::same(word, b"re-cut") {
-            return Some(Kind::Recut);
-        }
-        if text::same(word, b"withdraw") {
-            return Some(Kind::Withdraw);
-        }
-        None
-    }
+// The line of such an operation has a title.
+pub fn has_title(kind: Kind) -> bool
+    ensures { result ≡ has_title kind }
+{
+    matches!(kind, Kind::New | Kind::Retitle)
+}
 
-    // The byte that an operation begins with.
-    pub fn byte(self) -> u8
-        ensures { result ≡ kind_byte self }
-    {
-        self as u8
-    }
-
-    // Its line has a title.
-    pub fn has_title(self) -> bool
-        ensures { result ≡ has_title self }
-    {
-        matches!(self, Kind::New | Kind::Retitle)
-    }
-
-    // Its line has a recording.
-    pub fn has_recording(self) -> bool
-        ensures { result ≡ has_recording self }
-    {
-        matches!(self, Kind::New | Kind::Recut)
-    }
+// It has a recording.
+pub fn has_recording(kind: Kind) -> bool
+    ensures { result ≡ has_recording kind }
+{
+    matches!(kind, Kind::New | Kind::Recut)
 }
 
 // The first word of a line that has a call.
@@ -75,7 +59,7 @@ pub enum Command {
 }
 
 impl Command {
-    // By its word; a match over byte strings was tried, as at Kind::of.
+    // By its word; a match over byte strings was tried, as at kind_of.
     #[tactic(auto, unfolding(crate::specs::Parse::command_of))]
     pub fn of(word: &[u8]) -> Option<Command>
         ensures { result ≡ command_of word.now }

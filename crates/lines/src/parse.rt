@@ -6,11 +6,12 @@ ghost use Rattle.lines.specs.Cursor.{letters_of};
 ghost use Rattle.lines.specs.Parse.{gathered, title_if, number_if, kind_byte, has_title, has_recording, fields_at, operation_at, operations_at, numbers_at, title_request_at, numbers_request_at, request_at, whole_call, setup_at, edit_call, edit_at, read_at, move_at, line_by, call_of, payload_of, call_fits, Means, Stored};
 
 use crate::cursor::{Cursor, Mistake};
-use crate::keyword::{Command, Kind};
+use crate::keyword::Command;
 use crate::text::Class;
-use crate::{build, text};
+use crate::{build, keyword, text};
 use carts::bytes;
 use carts::cart::Cart;
+use carts::kind::Kind;
 
 // What a line asks for. The bytes that belong to it stand at the start of the payload: a setup's 16 studio bytes,
 // a commit's or a preview's operations of 80 bytes, a read's or a forward's request of 80 bytes.
@@ -84,9 +85,9 @@ fn fields(c: &mut Cursor, op: &mut [u8], kind: Kind)
     requires { length op.old ≡ cart_size }
     ensures { gathered op.new c.new ≡ fields_at c.old (kind_byte kind) (has_title kind) (has_recording kind) }
 {
-    let recorded = kind.has_recording();
+    let recorded = keyword::has_recording(kind);
     let cart = c.number(TWO_BYTES);
-    let title = title_if(c, kind.has_title());
+    let title = title_if(c, keyword::has_title(kind));
     let audio = number_if(c, b"audio", Mistake::AudioMissing, recorded);
     let milliseconds = number_if(c, b"length", Mistake::LengthMissing, recorded);
     build::put_operation(op, kind.byte(), cart, audio, milliseconds, title);
@@ -97,7 +98,7 @@ fn operation(c: &mut Cursor, op: &mut [u8])
     requires { length op.old ≡ cart_size }
     ensures { gathered op.new c.new ≡ operation_at c.old }
 {
-    match Kind::of(c.peek_word()) {
+    match keyword::kind_of(c.peek_word()) {
         Some(kind) => {
             c.skip_word();
             fields(c, op, kind);

@@ -6,7 +6,7 @@ ghost use Rattle.carts.specs.Cart.{cart_size};
 ghost use Rattle.words.specs.Page.{page_size};
 ghost use Rattle.order_lines.specs.Order.{order_text, refusals_text, place_text, edit_text, operation_text, request_text, asked_text, reason_text, shown_text, same_text, unlike_text, verdict_text, left_out_text};
 
-use carts::bytes;
+use carts::{bytes, kind};
 use journal::history::{Entry, Kind};
 use words::page::Page;
 use words::request;
@@ -65,10 +65,10 @@ pub fn operation(op: &[u8]) -> Page
 {
     let cart = bytes::u16_at(op, 2);
     let mut page = Page::new();
-    match op[0] {
-        1 => page.put_numbered(b" new cart ", cart),
-        2 => page.put_numbered(b" retitle cart ", cart),
-        3 => page.put_numbered(b" re-cut cart ", cart),
+    match kind::Kind::of(op[0]) {
+        Some(kind::Kind::New) => page.put_numbered(b" new cart ", cart),
+        Some(kind::Kind::Retitle) => page.put_numbered(b" retitle cart ", cart),
+        Some(kind::Kind::Recut) => page.put_numbered(b" re-cut cart ", cart),
         _ => page.put_numbered(b" withdraw cart ", cart),
     }
     page

@@ -9,7 +9,7 @@ ghost use Rattle.replication.specs.Calls.{control_of, committed, with_log, with_
 
 use edit_log::free::Freed;
 
-// Sizes are document 01's. Any value may stand in any field: each has its answer.
+// Sizes are document 01's. Any value may stand in any field: each has its answer. C reads the fields, so a 0 stays a 0 (no studio, no record).
 #[repr(C)]
 #[derive(Clone, Copy)]
 pub struct Control {
@@ -121,7 +121,7 @@ impl Control {
         (sent <= self.commits) & (sent - applied <= Control::WINDOW) & (self.retired <= applied)
     }
 
-    // Control with another number sent to studio i.
+    // Control with another number sent to studio i. This and the two below differ in a field, and in no type or size.
     pub fn with_sent(self, i: u32, n: u32) -> Control
         requires { (1 ≤ i) × (i ≤ studio_count) }
         ensures { result ≡ with_sent self i n }

@@ -25,7 +25,7 @@ fn is_replica(copy: &[u8], i: u32, studios: u32) -> bool
     bytes::all_zero(copy)
 }
 
-// The sixth copy is of its form: carts, or zeros while nothing is retired.
+// As is_replica, by another definition and condition: the sixth copy is of its form: carts, or zeros while nothing is retired.
 fn is_sixth(copy: &[u8], retired: u32) -> bool
     requires { length copy.now ≡ copy_size }
     ensures { result ≡ sixth_form retired copy.now }

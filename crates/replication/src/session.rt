@@ -152,7 +152,7 @@ pub fn is_session(x: &[u8], studio: u32, commits: u32) -> bool
         & is_waiting_form(x)
 }
 
-// The 80 bytes of a session.
+// The 80 bytes of a session. Its two lines stand at cart_at and record_at too: each promises a definition of its own.
 pub fn session_at(sessions: &[u8], session: u32) -> &[u8]
     requires { (length sessions.now ≡ sessions_size) × ((1 ≤ session) × (session ≤ session_count)) }
     ensures { (result.now ≡ session_at sessions.now session) × (length result.now ≡ session_size) }

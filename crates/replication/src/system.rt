@@ -1,4 +1,5 @@
-// A system as a call reads it before it changes anything: control and the three memories, of any bytes and lengths.
+// A system as a call reads it before it changes anything: control and the three memories, of any bytes and lengths. The calls
+// themselves take the memories one by one, as C lends them: by & or &mut, so that a call's type says which it only reads.
 use crate::control::Control;
 
 #[derive(Clone, Copy)]
