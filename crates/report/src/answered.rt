@@ -1,13 +1,15 @@
 // Who answered a read, a collect or a forward, in words.
-ghost use Rattle.std.specs.Prelude.{◌≡◌, length};
-ghost use Rattle.words.specs.Page.{page_size, Told};
+ghost use Rattle.std.specs.Prelude.{◌≡◌};
 ghost use Rattle.report.specs.Answered.{applied_for, answer_text};
 
 use carts::bytes;
 use replication::control::Control;
 use words::answer;
+use words::page::Page;
 
 // What the studio of a session has applied; 0 where there is no such session or studio, and so no answer.
+// Not an Option: the clause of `answered` compares that 0 with the state.
+#[tactic(auto, using(carts::proofs::ScanLaws::within_true), unfolding(crate::specs::Answered::applied_for))]
 fn applied_for(control: Control, session: u32) -> u32
     ensures { result ≡ applied_for control session }
 {
@@ -22,12 +24,12 @@ fn applied_for(control: Control, session: u32) -> u32
 }
 
 // An answer at a state, with so many carts found: the studio's where it has applied so many, else the head end's.
-pub fn answered(out: &mut [u8], control: Control, session: u32, state: u32, found: u32) -> usize
-    requires { length out.old ≡ page_size }
-    ensures { Told (answer_text control session state found) out.old out.new result }
+#[tactic(auto, unfolding(crate::specs::Answered::answer_text))]
+pub fn answered(control: Control, session: u32, state: u32, found: u32) -> Page
+    ensures { result ≡ answer_text control session state found }
 {
     if state == applied_for(control, session) {
-        return answer::answered(out, state, answer::behind(control.commits, state), found);
+        return answer::answered(state, answer::behind(control.commits, state), found);
     }
-    answer::by_head_end(out, state, found)
+    answer::by_head_end(state, found)
 }

@@ -12,50 +12,37 @@ use replication::control::Control;
 use replication::session::Session;
 use words::{answer, line};
 
-// The carts of a copy, as an index counts them.
-const CARTS: usize = 128;
-
 // What a held cart has.
 pub fn held(s: &[u8]) {
-    if s.len() != Cart::SIZE {
-        return;
+    if s.len() == Cart::SIZE {
+        line::told(&cart::held(s));
     }
-    let mut page = io::buffer();
-    let n = cart::held(&mut page, s);
-    line::told(&page, n);
 }
 
 // Cart c of a copy, where it is held; the answer is whether it is.
-fn cart_of(library: &[u8], copy: usize, c: usize) -> bool
+fn cart_of(library: &[u8], copy: u32, c: u32) -> bool
     requires { (copy < copy_count) × (c < cart_count) }
     ensures { result ≡ eqb (byte (part_in library.now (copy_size * copy + cart_size * c) cart_size) 0) 1 }
 {
-    let found = text::part_of(library, Cart::COPY_SIZE * copy + Cart::SIZE * c, Cart::SIZE);
-    if text::letter(found, 0) != 1 {
-        return false;
+    let at = Cart::COPY_SIZE * copy as usize + Cart::SIZE * c as usize;
+    let found = text::part_of(library, at, Cart::SIZE);
+    let is_held = text::letter(found, 0) == 1;
+    if is_held {
+        held(found);
     }
-    held(found);
-    true
-}
-
-fn no_cart() {
-    let mut page = io::buffer();
-    let n = cart::none(&mut page);
-    line::told(&page, n);
+    is_held
 }
 
 // The held carts of a copy.
-fn carts_of(library: &[u8], copy: usize)
+fn carts_of(library: &[u8], copy: u32)
     requires { copy < copy_count }
 {
     let mut some = false;
-    let mut c: usize = 0;
-    while c < CARTS {
+    for c in 0..Cart::COUNT {
         some |= cart_of(library, copy, c);
-        c += 1;
     }
     if !some {
-        no_cart();
+        line::told(&cart::none());
     }
 }
 
@@ -65,19 +52,15 @@ fn studio_line(control: Control, library: &[u8], i: u32)
     if control.studios < i {
         return;
     }
-    let mut page = io::buffer();
     let applied = control.applied_by(i);
     let behind = answer::behind(control.commits, applied);
-    let n = state::studio(&mut page, i, control.sent_to(i), applied, behind);
-    line::told(&page, n);
-    carts_of(library, i as usize);
+    line::told(&state::studio(i, control.sent_to(i), applied, behind));
+    carts_of(library, i);
 }
 
 // The van's line, and the held carts of its copy.
 fn van_line(control: Control, copy: &[u8], applied: u32) {
-    let mut page = io::buffer();
-    let n = state::van(&mut page, applied, answer::behind(control.commits, applied));
-    line::told(&page, n);
+    line::told(&state::van(applied, answer::behind(control.commits, applied)));
     carts_of(copy, 0);
 }
 
@@ -85,54 +68,36 @@ fn session_line(control: Control, sessions: &[u8], j: u32)
     requires { (1 ≤ j) × (j ≤ session_count) }
 {
     let at = control.studio_of(j);
-    if at == 0 {
-        return;
-    }
     let own = text::part_of(sessions, Session::SIZE * (j as usize - 1), Session::SIZE);
-    if own.len() != Session::SIZE {
-        return;
+    if (at != 0) & (own.len() == Session::SIZE) {
+        line::told(&state::session(j, at, own));
     }
-    let mut page = io::buffer();
-    let n = state::session(&mut page, j, at, own);
-    line::told(&page, n);
 }
 
 fn studios(control: Control, library: &[u8]) {
-    let mut i: u32 = 1;
-    while i <= 4 {
+    for i in 1..=Control::STUDIOS {
         studio_line(control, library, i);
-        i += 1;
     }
 }
 
 fn sessions_of(control: Control, sessions: &[u8]) {
-    let mut j: u32 = 1;
-    while j <= Session::COUNT {
+    for j in 1..=Session::COUNT {
         session_line(control, sessions, j);
-        j += 1;
     }
 }
 
 // The state of a system and of the van beside it: its copy, and how many edits it has applied.
+// Not a `System` in place of the first three: it has the log too, which nothing here reads and the caller has not.
 pub fn show(control: Control, library: &[u8], sessions: &[u8], copy: &[u8], applied: u32) {
-    let mut page = io::buffer();
     if control.studios == 0 {
-        let n = state::no_system(&mut page);
-        line::told(&page, n);
+        line::told(&state::no_system());
         return;
     }
-    let n = state::head_end(&mut page, control.commits, control.retired, control.used);
-    line::told(&page, n);
+    line::told(&state::head_end(control.commits, control.retired, control.used));
     carts_of(library, 0);
     studios(control, library);
     van_line(control, copy, applied);
     sessions_of(control, sessions);
-}
-
-fn waiting_heading() {
-    let mut page = io::buffer();
-    let n = state::still_waiting(&mut page);
-    line::told(&page, n);
 }
 
 // Session j, where its read waits, after a heading where it is the first; the answer is whether there is a heading now.
@@ -143,7 +108,7 @@ fn waiting_line(control: Control, sessions: &[u8], j: u32, has_heading: bool) ->
         return has_heading;
     }
     if !has_heading {
-        waiting_heading();
+        line::told(&state::still_waiting());
     }
     session_line(control, sessions, j);
     true
@@ -152,9 +117,7 @@ fn waiting_line(control: Control, sessions: &[u8], j: u32, has_heading: bool) ->
 // The sessions whose reads wait.
 pub fn waiting(control: Control, sessions: &[u8]) {
     let mut has_heading = false;
-    let mut j: u32 = 1;
-    while j <= Session::COUNT {
+    for j in 1..=Session::COUNT {
         has_heading = waiting_line(control, sessions, j, has_heading);
-        j += 1;
     }
 }

@@ -1,103 +1,115 @@
 // The state of copies and sessions in words.
-ghost use Rattle.std.specs.Prelude.{◌≡◌, ◌+◌, ◌≤◌, length};
+#![tactic(auto, unfolding(crate::specs::Lines::no_system_text, crate::specs::Lines::retired_part, crate::specs::Lines::head_text, crate::specs::Lines::studio_text, crate::specs::Lines::van_text, crate::specs::Lines::until_text, crate::specs::Lines::waiting_text, crate::specs::Lines::session_text, crate::specs::Lines::still_waiting_text))]
+
+ghost use Rattle.std.specs.Prelude.{◌≡◌, ◌++◌, ◌+◌, ◌≤◌, length};
 ghost use Rattle.carts.specs.Cart.{cart_size};
-ghost use Rattle.words.specs.Page.{page_size, Put, Told};
+ghost use Rattle.words.specs.Page.{page_size};
 ghost use Rattle.report.specs.Lines.{no_system_text, retired_part, head_text, studio_text, van_text, until_text, waiting_text, still_waiting_text, session_text};
 
 use carts::bytes;
-use words::{answer, page, request};
+use words::page::Page;
+use words::{answer, request};
 
 // There is no system.
-pub fn no_system(out: &mut [u8]) -> usize
-    requires { length out.old ≡ page_size }
-    ensures { Told no_system_text out.old out.new result }
+pub fn no_system() -> Page
+    ensures { result ≡ no_system_text }
 {
-    page::put(out, 0, b"  there is no system yet\n")
+    let mut page = Page::new();
+    page.put(b"  there is no system yet\n");
+    page
 }
 
 // How many edits are retired, where any are.
-fn put_retired(out: &mut [u8], at: usize, retired: u32) -> usize
-    requires { at + 32 ≤ length out.old }
-    ensures { Put (retired_part retired) out.old at out.new result × (result ≤ at + 32) }
+fn put_retired(page: &mut Page, retired: u32)
+    requires { length page.old + 32 ≤ page_size }
+    ensures text { page.new ≡ page.old ++ retired_part retired }
+    ensures fits { length page.new ≤ length page.old + 32 }
 {
-    if retired == 0 {
-        return at;
+    if retired != 0 {
+        page.put_between(b", ", retired, b" retired");
     }
-    page::put_between(out, at, b", ", retired, b" retired")
 }
 
 // The head end's counts.
-pub fn head_end(out: &mut [u8], commits: u32, retired: u32, used: u32) -> usize
-    requires { length out.old ≡ page_size }
-    ensures { Told (head_text commits retired used) out.old out.new result }
+pub fn head_end(commits: u32, retired: u32, used: u32) -> Page
+    ensures { result ≡ head_text commits retired used }
 {
-    let a = page::put_counted(out, 0, b"  head end: ", commits, b"edit");
-    let b = put_retired(out, a, retired);
-    page::put_between(out, b, b", ", used, b" of 512 log records\n")
+    let mut page = Page::new();
+    page.put_counted(b"  head end: ", commits, b"edit");
+    put_retired(&mut page, retired);
+    page.put_between(b", ", used, b" of 512 log records\n");
+    page
 }
 
 // A studio's counts, and how many edits its copy is behind the head end.
-pub fn studio(out: &mut [u8], i: u32, sent: u32, applied: u32, behind: u32) -> usize
-    requires { length out.old ≡ page_size }
-    ensures { Told (studio_text i sent applied behind) out.old out.new result }
+pub fn studio(i: u32, sent: u32, applied: u32, behind: u32) -> Page
+    ensures { result ≡ studio_text i sent applied behind }
 {
-    let a = page::put_pair(out, 0, b"  studio ", i, b": sent ", sent);
-    let b = page::put_numbered(out, a, b", applied ", applied);
-    let c = answer::put_behind(out, b, behind);
-    page::put(out, c, b"\n")
+    let mut page = Page::new();
+    page.put_pair(b"  studio ", i, b": sent ", sent);
+    page.put_numbered(b", applied ", applied);
+    answer::put_behind(&mut page, behind);
+    page.put(b"\n");
+    page
 }
 
 // How many edits the van has applied, and how many its copy is behind the head end.
-pub fn van(out: &mut [u8], applied: u32, behind: u32) -> usize
-    requires { length out.old ≡ page_size }
-    ensures { Told (van_text applied behind) out.old out.new result }
+pub fn van(applied: u32, behind: u32) -> Page
+    ensures { result ≡ van_text applied behind }
 {
-    let a = page::put_numbered(out, 0, b"  van: applied ", applied);
-    let b = answer::put_behind(out, a, behind);
-    page::put(out, b, b"\n")
+    let mut page = Page::new();
+    page.put_numbered(b"  van: applied ", applied);
+    answer::put_behind(&mut page, behind);
+    page.put(b"\n");
+    page
 }
 
 // The edit that a session's read waits for, and the line's end.
-fn put_until(out: &mut [u8], at: usize, own: &[u8]) -> usize
-    requires { (at + 32 ≤ length out.old) × (length own.now ≡ cart_size) }
-    ensures { Put (until_text own.now) out.old at out.new result }
+fn put_until(page: &mut Page, own: &[u8])
+    requires { (length page.old + 32 ≤ page_size) × (length own.now ≡ cart_size) }
+    ensures { page.new ≡ page.old ++ until_text own.now }
 {
-    page::put_between(out, at, b" waits for edit ", bytes::u16_at(own, 2), b"\n")
+    page.put_between(b" waits for edit ", bytes::u16_at(own, 2), b"\n");
 }
 
 // The read that a session has waiting, and the line's end.
-fn put_waiting(out: &mut [u8], at: usize, own: &[u8]) -> usize
-    requires { (at + 3000 ≤ length out.old) × (length own.now ≡ cart_size) }
-    ensures { Put (waiting_text own.now) out.old at out.new result }
+fn put_waiting(page: &mut Page, own: &[u8])
+    requires { (length page.old + 3000 ≤ page_size) × (length own.now ≡ cart_size) }
+    ensures { page.new ≡ page.old ++ waiting_text own.now }
 {
     let n = bytes::byte_at(own, 1);
-    if own[0] == 1 {
-        let a = page::put(out, at, b", its read of carts");
-        let b = request::put_asked(out, a, own, n);
-        return put_until(out, b, own);
+    match own[0] {
+        1 => {
+            page.put(b", its read of carts");
+            request::put_asked(page, own, n);
+            put_until(page, own);
+        }
+        2 => {
+            page.put(b", its read of title ");
+            page.put_title(own, n);
+            put_until(page, own);
+        }
+        _ => page.put(b", nothing waits\n"),
     }
-    if own[0] == 2 {
-        let a = page::put(out, at, b", its read of title ");
-        let b = page::put_title(out, a, own, n);
-        return put_until(out, b, own);
-    }
-    page::put(out, at, b", nothing waits\n")
 }
 
 // A session at a studio, from its 80 bytes: its number and its waiting read.
-pub fn session(out: &mut [u8], j: u32, studio: u32, own: &[u8]) -> usize
-    requires { (length out.old ≡ page_size) × (length own.now ≡ cart_size) }
-    ensures { Told (session_text j studio own.now) out.old out.new result }
+pub fn session(j: u32, studio: u32, own: &[u8]) -> Page
+    requires { length own.now ≡ cart_size }
+    ensures { result ≡ session_text j studio own.now }
 {
-    let a = page::put_pair(out, 0, b"  session ", j, b" at studio ", studio);
-    let b = page::put_numbered(out, a, b": number ", bytes::u16_at(own, 2));
-    put_waiting(out, b, own)
+    let mut page = Page::new();
+    page.put_pair(b"  session ", j, b" at studio ", studio);
+    page.put_numbered(b": number ", bytes::u16_at(own, 2));
+    put_waiting(&mut page, own);
+    page
 }
 
 // Reads that wait when the transcript ends.
-pub fn still_waiting(out: &mut [u8]) -> usize
-    requires { length out.old ≡ page_size }
-    ensures { Told still_waiting_text out.old out.new result }
+pub fn still_waiting() -> Page
+    ensures { result ≡ still_waiting_text }
 {
-    page::put(out, 0, b"Reads that still wait:\n")
+    let mut page = Page::new();
+    page.put(b"Reads that still wait:\n");
+    page
 }

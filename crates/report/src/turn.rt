@@ -1,28 +1,62 @@
 // What came of a line of a transcript.
+use carts::refusal::Refusal;
 use lines::cursor::Mistake;
 use replication::answer::{CountAnswer, ReadAnswer, SetupAnswer};
 use replication::control::Control;
 use van::answer::ReceiveResult;
 
-// The answer of a call and what the call named, the studios, the session and how many operations, the studio and whether it
-// is a send, the session of a read, collect or forward, or the session and the studio of a move (a load names nothing), or of a
-// retire the records that the log uses after it; a line that shows the state, that cannot be read, or that is no call; for the van,
-// the row by which no message was written, or what it made of the message, and the edit.
+// The answer of a call and what the call named, of a retire the records that the log uses after it; that a line shows the state, cannot
+// be read or is no call; for the van, why no message of an edit was written, or what it made of the message.
 #[derive(Clone, Copy)]
 pub enum Came {
-    Setup(SetupAnswer, u32),
-    Commit(CountAnswer, u32, u32),
-    Preview(CountAnswer, u32, u32),
-    SendOrRefresh(CountAnswer, u32, bool),
-    Read(ReadAnswer, u32),
+    Setup {
+        answer: SetupAnswer,
+        studios: u32,
+    },
+    Commit {
+        answer: CountAnswer,
+        session: u32,
+        operations: u32,
+    },
+    Preview {
+        answer: CountAnswer,
+        session: u32,
+        operations: u32,
+    },
+    SendOrRefresh {
+        answer: CountAnswer,
+        studio: u32,
+        is_sent: bool,
+    },
+    // A read, a collect or a forward.
+    Read {
+        answer: ReadAnswer,
+        session: u32,
+    },
     Show,
-    Unreadable(Mistake, usize),
+    Unreadable {
+        mistake: Mistake,
+        at: usize,
+    },
     Nothing,
-    Unwritten(u32, u32),
-    Received(ReceiveResult, u32),
-    Move(CountAnswer, u32, u32),
+    Unwritten {
+        refusal: Refusal,
+        edit: u32,
+    },
+    Received {
+        result: ReceiveResult,
+        edit: u32,
+    },
+    Move {
+        answer: CountAnswer,
+        session: u32,
+        studio: u32,
+    },
     Load(CountAnswer),
-    Retire(CountAnswer, u32),
+    Retire {
+        answer: CountAnswer,
+        used: u32,
+    },
 }
 
 // What came of a line, and control after it.
