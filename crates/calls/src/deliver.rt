@@ -9,7 +9,7 @@ ghost use Rattle.calls.specs.Make.{told, made, beside, copy_after, van_leaves};
 use carts::bytes;
 use edit_log::record::Record;
 use lines::text;
-use replication::answer::{CountAnswer, SetupAnswer};
+use replication::answer::SetupAnswer;
 use replication::control::Control;
 use report::turn::{Came, Turn};
 use van::message;
@@ -20,17 +20,18 @@ use van::write::write;
 const MESSAGE_SIZE: usize = message::HEAD_SIZE + Record::TRANSACTION_SIZE;
 
 // The van's copy after a setup: empty where it was accepted.
+#[tactic(auto, unfolding(crate::specs::Make::copy_after, van::specs::Receive::fresh_van))]
 pub fn set_up(answer: SetupAnswer, copy: &mut [u8])
     requires { length copy.old ≡ copy_size }
     ensures { copy.new ≡ copy_after (setup_answer answer) copy.old }
 {
-    match answer {
-        SetupAnswer::Ready => bytes::clear(copy),
-        SetupAnswer::Refused(_) => {}
+    if answer.is_ok() {
+        bytes::clear(copy);
     }
 }
 
 // The message of an edit is written, and the van receives it. The system's memory is only read.
+#[tactic(auto, unfolding(carts::specs::Bytes::zeros, crate::specs::Make::delivered, crate::specs::Make::van_leaves))]
 pub fn deliver(
     control: Control,
     library: &[u8],
@@ -45,19 +46,15 @@ pub fn deliver(
 {
     let mut message = [0u8; MESSAGE_SIZE];
     let written = write(control, library, log, sessions, edit, &mut message);
-    let answer = written.answer;
-    let control = written.control;
-    match answer {
-        CountAnswer::Refused(row) => Turn {
-            came: Came::Unwritten(row, edit),
-            control,
+    let came = match written.answer {
+        Err(refusal) => Came::Unwritten { refusal, edit },
+        Ok(size) => Came::Received {
+            result: receive(copy, applied, text::part_of(&message, 0, size as usize)),
+            edit,
         },
-        CountAnswer::Number(size) => {
-            let result = receive(copy, applied, text::part_of(&message, 0, size as usize));
-            Turn {
-                came: Came::Received(result, edit),
-                control,
-            }
-        }
+    };
+    Turn {
+        came,
+        control: written.control,
     }
 }

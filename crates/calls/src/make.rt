@@ -1,4 +1,6 @@
 // The calls of a transcript, made on the engine.
+#![tactic(auto, unfolding(crate::specs::Make::setup_leaves, crate::specs::Make::read_or_forward, crate::specs::Make::ask_leaves, crate::specs::Make::read_leaves, crate::specs::Make::collect_leaves, crate::specs::Make::van_leaves, crate::specs::Make::line_leaves))]
+
 ghost use Rattle.std.specs.Prelude.{◌≡◌, true, false, [], ◌*◌, length};
 ghost use Rattle.carts.specs.Cart.{copy_size};
 ghost use Rattle.edit_log.specs.Log.{record_size};
@@ -46,13 +48,14 @@ fn make_setup(
         ≡ setup_leaves (memory library.old log.old sessions.old) copy.old studios (part_in payload.now 0 session_count) [] }
 {
     let places = text::part_of(payload, 0, Session::COUNT as usize);
-    let result = setup(library, log, sessions, studios, places);
-    let answer = result.answer;
-    let control = result.control;
-    deliver::set_up(answer, copy);
+    let reply = setup(library, log, sessions, studios, places);
+    deliver::set_up(reply.answer, copy);
     Turn {
-        came: Came::Setup(answer, studios),
-        control,
+        came: Came::Setup {
+            answer: reply.answer,
+            studios,
+        },
+        control: reply.control,
     }
 }
 
@@ -70,12 +73,14 @@ fn make_commit(
         ≡ leaves (λ a. committed a session operations) (commit control (memory library.old log.old sessions.old) session (part_in payload.now 0 (record_size * operations))) [] }
 {
     let ops = text::part_of(payload, 0, Record::SIZE * (operations as usize));
-    let result = commit(control, library, log, sessions, session, ops);
-    let answer = result.answer;
-    let control = result.control;
+    let reply = commit(control, library, log, sessions, session, ops);
     Turn {
-        came: Came::Commit(answer, session, operations),
-        control,
+        came: Came::Commit {
+            answer: reply.answer,
+            session,
+            operations,
+        },
+        control: reply.control,
     }
 }
 
@@ -93,12 +98,14 @@ fn make_preview(
         ≡ leaves (λ a. previewed a session operations) (preview control (memory library.now log.now sessions.now) session (part_in payload.now 0 (record_size * operations))) [] }
 {
     let ops = text::part_of(payload, 0, Record::SIZE * (operations as usize));
-    let result = preview(control, library, log, sessions, session, ops);
-    let answer = result.answer;
-    let control = result.control;
+    let reply = preview(control, library, log, sessions, session, ops);
     Turn {
-        came: Came::Preview(answer, session, operations),
-        control,
+        came: Came::Preview {
+            answer: reply.answer,
+            session,
+            operations,
+        },
+        control: reply.control,
     }
 }
 
@@ -107,12 +114,14 @@ fn make_send(control: Control, library: &[u8], log: &[u8], sessions: &[u8], stud
     ensures { made (told result.came) result.control (memory library.now log.now sessions.now) []
         ≡ leaves (λ a. sent_or_refreshed a studio true) (send control (memory library.now log.now sessions.now) studio) [] }
 {
-    let result = send(control, library, log, sessions, studio);
-    let answer = result.answer;
-    let control = result.control;
+    let reply = send(control, library, log, sessions, studio);
     Turn {
-        came: Came::SendOrRefresh(answer, studio, true),
-        control,
+        came: Came::SendOrRefresh {
+            answer: reply.answer,
+            studio,
+            is_sent: true,
+        },
+        control: reply.control,
     }
 }
 
@@ -127,12 +136,14 @@ fn make_refresh(
     ensures { made (told result.came) result.control (memory library.new log.now sessions.now) []
         ≡ leaves (λ a. sent_or_refreshed a studio false) (refresh control (memory library.old log.now sessions.now) studio) [] }
 {
-    let result = refresh(control, library, log, sessions, studio);
-    let answer = result.answer;
-    let control = result.control;
+    let reply = refresh(control, library, log, sessions, studio);
     Turn {
-        came: Came::SendOrRefresh(answer, studio, false),
-        control,
+        came: Came::SendOrRefresh {
+            answer: reply.answer,
+            studio,
+            is_sent: false,
+        },
+        control: reply.control,
     }
 }
 
@@ -175,14 +186,15 @@ fn make_read(
     let request = text::part_of(payload, 0, Session::SIZE);
     progress::put_request(block, request);
     let output = &mut block[Session::SIZE..Entry::MOST_BYTES];
-    let result = read_or_forward(
+    let reply = read_or_forward(
         control, library, log, sessions, session, forwards, request, output,
     );
-    let answer = result.answer;
-    let control = result.control;
     Turn {
-        came: Came::Read(answer, session),
-        control,
+        came: Came::Read {
+            answer: reply.answer,
+            session,
+        },
+        control: reply.control,
     }
 }
 
@@ -202,12 +214,13 @@ fn make_collect(
 {
     progress::put_request(block, history::kept_request(store, session));
     let output = &mut block[Session::SIZE..Entry::MOST_BYTES];
-    let result = collect(control, library, log, sessions, session, output);
-    let answer = result.answer;
-    let control = result.control;
+    let reply = collect(control, library, log, sessions, session, output);
     Turn {
-        came: Came::Read(answer, session),
-        control,
+        came: Came::Read {
+            answer: reply.answer,
+            session,
+        },
+        control: reply.control,
     }
 }
 
@@ -223,12 +236,14 @@ fn make_move(
     ensures { made (told result.came) result.control (memory library.now log.now sessions.now) []
         ≡ leaves (λ a. moved a session studio) (move control (memory library.now log.now sessions.now) session studio) [] }
 {
-    let result = move_session(control, library, log, sessions, session, studio);
-    let answer = result.answer;
-    let control = result.control;
+    let reply = move_session(control, library, log, sessions, session, studio);
     Turn {
-        came: Came::Move(answer, session, studio),
-        control,
+        came: Came::Move {
+            answer: reply.answer,
+            session,
+            studio,
+        },
+        control: reply.control,
     }
 }
 
@@ -237,12 +252,10 @@ fn make_load(control: Control, library: &[u8], log: &[u8], sessions: &[u8]) -> T
     ensures { made (told result.came) result.control (memory library.now log.now sessions.now) []
         ≡ leaves loaded (load control (memory library.now log.now sessions.now)) [] }
 {
-    let result = load(control, library, log, sessions);
-    let answer = result.answer;
-    let control = result.control;
+    let reply = load(control, library, log, sessions);
     Turn {
-        came: Came::Load(answer),
-        control,
+        came: Came::Load(reply.answer),
+        control: reply.control,
     }
 }
 
@@ -251,12 +264,13 @@ fn make_retire(control: Control, library: &mut [u8], log: &mut [u8], sessions: &
     ensures { made (told result.came) result.control (memory library.new log.new sessions.now) []
         ≡ retire_leaves control (memory library.old log.old sessions.now) [] }
 {
-    let result = retire(control, library, log, sessions);
-    let answer = result.answer;
-    let left = result.control;
+    let reply = retire(control, library, log, sessions);
     Turn {
-        came: Came::Retire(answer, left.used),
-        control: left,
+        came: Came::Retire {
+            answer: reply.answer,
+            used: reply.control.used,
+        },
+        control: reply.control,
     }
 }
 
@@ -309,7 +323,7 @@ pub fn make(
             make_collect(control, library, log, sessions, session, store, block)
         }
         Call::Show => no_call(control, Came::Show),
-        Call::Unreadable { mistake, at } => no_call(control, Came::Unreadable(mistake, at)),
+        Call::Unreadable { mistake, at } => no_call(control, Came::Unreadable { mistake, at }),
         Call::Nothing => no_call(control, Came::Nothing),
         Call::Van(edit) => deliver::deliver(control, library, log, sessions, copy, applied, edit),
         Call::Move { session, studio } => {
