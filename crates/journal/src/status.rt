@@ -10,14 +10,14 @@ use crate::progress::Tally;
 pub fn made_calls(tally: Tally) -> bool
     ensures { result ≡ made_calls tally }
 {
-    !((tally.accepted == 0) & (tally.waited == 0) & (tally.refused == 0))
+    tally.accepted != 0 || tally.waited != 0 || tally.refused != 0
 }
 
 // Every line was read, some line was a call, and every answer is the same on the single library.
 fn all_well(tally: Tally) -> bool
     ensures { result ≡ all_well tally }
 {
-    tally.same & (tally.unreadable == 0) & made_calls(tally)
+    tally.same && tally.unreadable == 0 && made_calls(tally)
 }
 
 // 2 where the input was not read to its end as text, else 0 where all is well and 1 where it is not.

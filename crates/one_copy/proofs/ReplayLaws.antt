@@ -4,15 +4,13 @@ use mathlib.Core.Path.{◌≡◌, refl}
 use mathlib.Core.Bool.{Bool, cond, ◌&&◌}
 use mathlib.Core.List.{List}
 use native.Mathlib.Omega.{arith}
-use native.Mathlib.Numerals.{add-one}
 use lib.Dec.{eqb}
 use borrow.Author.Tests.{le-leb}
 use Rattle.carts.specs.Bytes.{byte}
 use Rattle.carts.proofs.ScanLaws.{test_end}
 use Rattle.lines.specs.Text.{part_in}
 use Rattle.lines.specs.Build.{asked_at}
-use Rattle.one_copy.specs.Fault.{allowed, first_fault}
-use Rattle.one_copy.specs.Replay.{place_agrees, held_at, places_agree, held_places, numbers_agree}
+use Rattle.one_copy.specs.Replay.{place_agrees, is_held_at, places_agree, held_places, numbers_agree}
 
 -- the places left of n, of which i have been passed
 module _ (copy request shown : List ℕ) (n i : ℕ) where
@@ -20,7 +18,7 @@ module _ (copy request shown : List ℕ) (n i : ℕ) where
   unfolding places_agree
   places_next h = let e : n - i ≡ suc (n - (i + 1)) = omega arith in rw e
 
-  pub held_next : i < n → held_places copy request i (n - i) ≡ held_at copy (asked_at request i) + held_places copy request (i + 1) (n - (i + 1))
+  pub held_next : i < n → held_places copy request i (n - i) ≡ cond (is_held_at copy (asked_at request i)) 1 0 + held_places copy request (i + 1) (n - (i + 1))
   unfolding held_places
   held_next h = let e : n - i ≡ suc (n - (i + 1)) = omega arith in rw e
 
@@ -33,9 +31,3 @@ module _ (copy request shown : List ℕ) (n i : ℕ) where
       let a : ok ≡ places_agree copy request shown 0 n = test_end ok (rw z at p) refl in
       let b : held ≡ held_places copy request 0 n = let r = rw z at q in omega arith in
       rw (a, b, ← e, le-leb n 32 h)
-
--- one operation more
-pub fault_more : (copy : List ℕ) (row : ℕ) (ops : List ℕ) (i : ℕ) → first_fault copy row ops (i + 1)
-    ≡ cond (eqb (first_fault copy row ops i) 0) (cond (allowed copy row (part_in ops 0 (80 * (i + 1)))) 0 (i + 1)) (first_fault copy row ops i)
-unfolding first_fault
-fault_more copy row ops i = rw add-one

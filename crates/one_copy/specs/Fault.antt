@@ -1,5 +1,5 @@
 -- Which operation of a refused commit or preview is at fault.
-use Rattle.std.specs.Prelude.{Bool, true, cond, not, ◌&&◌, List, ℕ, zero, suc, ◌*◌, eqb}
+use Rattle.std.specs.Prelude.{Bool, true, cond, not, ◌&&◌, List, ℕ, zero, suc, ◌*◌, eqb, Option, Some, None}
 use Rattle.carts.specs.Cart.{cart_size}
 use Rattle.carts.specs.Bytes.{every, any}
 use Rattle.carts.specs.Operation.{operation_form, spaced, operations_of, meets_all}
@@ -13,9 +13,11 @@ allowed copy row ops =
     && cond (eqb row 16) (not (any spaced (operations_of ops))) (cond (eqb row 8) (meets_all copy (operations_of ops)) true)
 
 -- the first of n operations that is at fault, by the refusal's number, counted from 1: the operations up to it are not allowed, those before it
--- are; 0 for none
-unfoldable pub first_fault : List ℕ → ℕ → List ℕ → ℕ → ℕ
-first_fault copy row ops zero = 0
-first_fault copy row ops (suc n) =
-    let before = first_fault copy row ops n in
-    cond (eqb before 0) (cond (allowed copy row (part_in ops 0 (cart_size * suc n))) 0 (suc n)) before
+-- are; or none
+abbrev pub or_this : Option ℕ → Bool → ℕ → Option ℕ
+or_this (Some first) allowed i = Some first
+or_this None allowed i = cond allowed None (Some i)
+
+unfoldable pub first_fault : List ℕ → ℕ → List ℕ → ℕ → Option ℕ
+first_fault copy row ops zero = None
+first_fault copy row ops (suc n) = or_this (first_fault copy row ops n) (allowed copy row (part_in ops 0 (cart_size * suc n))) (suc n)

@@ -16,8 +16,8 @@ plays copy ops = every operation_form (operations_of ops) && meets_all copy (ope
 unfoldable pub place_agrees : List ℕ → ℕ → List ℕ → Bool
 place_agrees copy c place = within 1 cart_count c && pairwise eqb (cart_at copy c) place
 
-unfoldable pub held_at : List ℕ → ℕ → ℕ
-held_at copy c = cond (within 1 cart_count c) (cond (held (cart_at copy c)) 1 0) 0
+unfoldable pub is_held_at : List ℕ → ℕ → Bool
+is_held_at copy c = within 1 cart_count c && held (cart_at copy c)
 
 -- n places from place i on
 unfoldable pub places_agree : List ℕ → List ℕ → List ℕ → ℕ → ℕ → Bool
@@ -27,7 +27,7 @@ places_agree copy request shown i (suc n) =
 
 unfoldable pub held_places : List ℕ → List ℕ → ℕ → ℕ → ℕ
 held_places copy request i zero = 0
-held_places copy request i (suc n) = held_at copy (asked_at request i) + held_places copy request (i + 1) n
+held_places copy request i (suc n) = cond (is_held_at copy (asked_at request i)) 1 0 + held_places copy request (i + 1) n
 
 -- at most 32 numbers, each cart the one shown in its place, and found the places held
 unfoldable pub numbers_agree : List ℕ → List ℕ → ℕ → List ℕ → Bool

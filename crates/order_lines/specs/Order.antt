@@ -1,11 +1,12 @@
 -- The lines that tell the one-copy order.
-use Rattle.std.specs.Prelude.{Bool, cond, ◌&&◌, List, [], ◌++◌, ℕ, zero, suc, ◌+◌, eqb, ltb}
+use Rattle.std.specs.Prelude.{Bool, cond, ◌&&◌, List, [], ◌++◌, ℕ, take, count_by, eqb, ltb}
 use Rattle.carts.specs.Cart.{title_at}
 use Rattle.carts.specs.Bytes.{byte, u16}
 use Rattle.lines.specs.Text.{part_in}
 use Rattle.lines.specs.Words.{bytes_of}
-use Rattle.journal.specs.History.{entry_at, commit_kind, refused_kind}
+use Rattle.journal.specs.History.{is_kind, commit_kind, refused_kind}
 use Rattle.journal.specs.declared.history.Entry.{Entry}
+use Rattle.journal.specs.declared.history.Kind.{Kind}
 use Rattle.words.specs.Page.{numbered, count_of, quoted}
 use Rattle.words.specs.Request.{asked_numbers}
 
@@ -19,12 +20,8 @@ order_text edits refusals reads =
     bytes_of "One-copy order of " ++ count_of edits (bytes_of "edit") ++ refusals_text refusals ++ (bytes_of " and " ++ count_of reads (bytes_of "read")) ++ bytes_of ":\n"
 
 -- how many of the first n entries are of a kind
-unfoldable pub if_kind : ℕ → Entry → ℕ
-if_kind kind e = cond (eqb e.kind kind) 1 0
-
-unfoldable pub of_kind : ℕ → List ℕ → ℕ → ℕ
-of_kind kind cells zero = 0
-of_kind kind cells (suc n) = of_kind kind cells n + if_kind kind (entry_at cells n)
+abbrev pub of_kind : Kind → List Entry → ℕ → ℕ
+of_kind kind entries n = count_by (λ e. is_kind e.kind kind) (take n entries)
 
 -- an entry of the order: its line and session, and what it did: an edit's number, or the edit at whose state a commit was refused,
 -- and, one by one, its operations
@@ -32,7 +29,7 @@ unfoldable pub place_text : Entry → List ℕ
 place_text e = numbered "  line " e.line ++ numbered ", session " e.session
 
 unfoldable pub edit_text : Entry → List ℕ
-edit_text e = place_text e ++ cond (eqb e.kind refused_kind) (numbered ": refused (8) at edit " e.number) (numbered ": edit " e.number) ++ bytes_of ":"
+edit_text e = place_text e ++ cond (is_kind e.kind refused_kind) (numbered ": refused (8) at edit " e.number) (numbered ": edit " e.number) ++ bytes_of ":"
 
 unfoldable pub operation_text : List ℕ → List ℕ
 operation_text op =
@@ -53,7 +50,7 @@ asked_text e request = place_text e ++ request_text request
 -- and what it was shown; where the next accepted commit of the order is on an earlier line, that the read stands before it
 unfoldable pub reason_text : Entry → Entry → List ℕ
 reason_text e next =
-    cond (eqb next.kind commit_kind && ltb next.line e.line)
+    cond (is_kind next.kind commit_kind && ltb next.line e.line)
     (numbered ", so it stands before edit " next.number ++ numbered " of line " next.line) []
 
 unfoldable pub shown_text : Entry → Entry → List ℕ

@@ -5,7 +5,7 @@ ghost use Rattle.order_lines.specs.Order.{of_kind};
 
 use crate::order;
 use journal::history;
-use journal::history::Entry;
+use journal::history::{Entry, Kind};
 use lines::text;
 use words::line;
 
@@ -51,10 +51,10 @@ fn read(e: Entry, store: &[u8], next: Option<Entry>) {
 }
 
 // The first accepted commit of an order.
-fn next_commit(cells: &[u32], order: &[u32]) -> Option<Entry> {
+fn next_commit(entries: &[Entry], order: &[u32]) -> Option<Entry> {
     for place in order {
-        let e = history::entry_at(cells, *place);
-        if e.kind == Entry::COMMIT {
+        let e = history::entry_at(entries, *place);
+        if e.kind == Kind::Commit {
             return Some(e);
         }
     }
@@ -62,24 +62,24 @@ fn next_commit(cells: &[u32], order: &[u32]) -> Option<Entry> {
 }
 
 // What the first entry of an order did.
-fn entry(cells: &[u32], store: &[u8], order: &[u32])
+fn entry(entries: &[Entry], store: &[u8], order: &[u32])
     requires { 0 < length order.now }
 {
-    let e = history::entry_at(cells, order[0]);
+    let e = history::entry_at(entries, order[0]);
     if e.is_commit() {
         edit(e, store);
     } else {
-        read(e, store, next_commit(cells, order));
+        read(e, store, next_commit(entries, order));
     }
 }
 
 // The entries of an order, each with its verdict.
-pub fn entry_lines(cells: &[u32], store: &[u8], order: &[u32], verdicts: &[u8], n: usize)
+pub fn entry_lines(entries: &[Entry], store: &[u8], order: &[u32], verdicts: &[bool], n: usize)
     requires { (n ≤ length order.now) × (n ≤ length verdicts.now) }
 {
     for i in 0..n {
-        entry(cells, store, &order[i..n]);
-        line::told(&order::same(verdicts[i] == 1));
+        entry(entries, store, &order[i..n]);
+        line::told(&order::same(verdicts[i]));
     }
 }
 
@@ -104,30 +104,29 @@ struct Kinds {
 }
 
 // How many of the first n entries are of each kind.
-fn count_kinds(cells: &[u32], n: u32) -> Kinds
-    ensures edits { result.edits ≡ of_kind commit_kind cells.now n }
-    ensures refusals { result.refusals ≡ of_kind refused_kind cells.now n }
-    ensures reads { result.reads ≡ of_kind read_kind cells.now n }
+fn count_kinds(entries: &[Entry], n: u32) -> Kinds
+    ensures edits { result.edits ≡ of_kind commit_kind entries.now n }
+    ensures refusals { result.refusals ≡ of_kind refused_kind entries.now n }
+    ensures reads { result.reads ≡ of_kind read_kind entries.now n }
 {
     let mut kinds = Kinds {
         edits: 0,
         refusals: 0,
         reads: 0,
     };
-    for i in 0..n {
-        let e = history::entry_at(cells, i);
+    let end = entries.len().min(n as usize);
+    for e in &entries[..end] {
         match e.kind {
-            Entry::COMMIT => kinds.edits += 1,
-            Entry::REFUSED => kinds.refusals += 1,
-            Entry::READ => kinds.reads += 1,
-            _ => {}
+            Kind::Commit => kinds.edits += 1,
+            Kind::Refused => kinds.refusals += 1,
+            Kind::Read => kinds.reads += 1,
         }
     }
     kinds
 }
 
 // The order of n entries begins.
-pub fn heading(cells: &[u32], n: u32) {
-    let kinds = count_kinds(cells, n);
+pub fn heading(entries: &[Entry], n: u32) {
+    let kinds = count_kinds(entries, n);
     line::told(&order::heading(kinds.edits, kinds.refusals, kinds.reads));
 }

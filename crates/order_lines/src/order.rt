@@ -1,5 +1,5 @@
 // The one-copy order in words.
-#![tactic(auto, unfolding(crate::specs::Order::order_text, crate::specs::Order::refusals_text, crate::specs::Order::place_text, crate::specs::Order::edit_text, crate::specs::Order::operation_text, crate::specs::Order::request_text, crate::specs::Order::asked_text, crate::specs::Order::reason_text, crate::specs::Order::shown_text, crate::specs::Order::same_text, crate::specs::Order::unlike_text, crate::specs::Order::verdict_text, crate::specs::Order::left_out_text))]
+#![tactic(auto, using(journal::proofs::KindLaws::same_kind), unfolding(crate::specs::Order::order_text, crate::specs::Order::refusals_text, crate::specs::Order::place_text, crate::specs::Order::edit_text, crate::specs::Order::operation_text, crate::specs::Order::request_text, crate::specs::Order::asked_text, crate::specs::Order::reason_text, crate::specs::Order::shown_text, crate::specs::Order::same_text, crate::specs::Order::unlike_text, crate::specs::Order::verdict_text, crate::specs::Order::left_out_text))]
 
 ghost use Rattle.std.specs.Prelude.{◌≡◌, ◌++◌, ◌+◌, ◌≤◌, length};
 ghost use Rattle.carts.specs.Cart.{cart_size};
@@ -7,7 +7,7 @@ ghost use Rattle.words.specs.Page.{page_size};
 ghost use Rattle.order_lines.specs.Order.{order_text, refusals_text, place_text, edit_text, operation_text, request_text, asked_text, reason_text, shown_text, same_text, unlike_text, verdict_text, left_out_text};
 
 use carts::bytes;
-use journal::history::Entry;
+use journal::history::{Entry, Kind};
 use words::page::Page;
 use words::request;
 
@@ -50,7 +50,7 @@ pub fn edit(e: Entry) -> Page
     ensures { result ≡ edit_text e }
 {
     let mut page = place(e);
-    if e.kind == Entry::REFUSED {
+    if e.kind == Kind::Refused {
         page.put_between(b": refused (8) at edit ", e.number, b":");
     } else {
         page.put_between(b": edit ", e.number, b":");
@@ -104,7 +104,7 @@ fn put_reason(page: &mut Page, e: Entry, next: Entry)
     requires { length page.old + 64 ≤ page_size }
     ensures { page.new ≡ page.old ++ reason_text e next }
 {
-    if (next.kind == Entry::COMMIT) & (next.line < e.line) {
+    if (next.kind == Kind::Commit) & (next.line < e.line) {
         page.put_pair(
             b", so it stands before edit ",
             next.number,
