@@ -1,2 +1,1 @@
 pub mod MakeLaws
-pub mod KeepLaws

@@ -2,6 +2,7 @@
 -- are documents 01's and 02's, by crates/replication/specs/Calls.antt; the van's receiver is that of crates/van/specs/Receive.antt.
 use Rattle.std.specs.Prelude.{Bool, true, false, cond, List, ℕ, ◌+◌, ◌*◌, ◌-◌}
 use Rattle.carts.specs.Bytes.{zeros, part, over}
+use Rattle.carts.specs.Refusal.{refusal_number}
 use Rattle.edit_log.specs.Log.{record_size, most_operations}
 use Rattle.replication.specs.Answer.{Answer, refused, done, waits, answered, setup_answer, count_answer, read_answer}
 use Rattle.replication.specs.Memory.{Memory, session_count, session_size}
@@ -13,11 +14,9 @@ use Rattle.van.specs.Receive.{Van, fresh_van, receive}
 use Rattle.lines.specs.Text.{part_in}
 use Rattle.lines.specs.declared.cursor.Mistake.{Mistake}
 use Rattle.lines.specs.declared.parse.Call.{Call}
-use Rattle.lines.specs.declared.parse.Call.TheVariants as Call
 use Rattle.journal.specs.History.{slot_size, most_bytes}
 use Rattle.journal.specs.Progress.{request_in}
 use Rattle.report.specs.declared.turn.Came.{Came}
-use Rattle.report.specs.declared.turn.Came.TheVariants as Came
 
 -- what is told of a line: the answer and what its call named (studios; session and how many operations; studio and whether
 -- it is a send; session; edit; session and studio; nothing), with the van's applied number after a message that was received and the
@@ -47,7 +46,7 @@ told (Came.Read a session) = looked (read_answer a) session
 told Came.Show = shown
 told (Came.Unreadable mistake at) = unread mistake at
 told Came.Nothing = nothing
-told (Came.Unwritten row edit) = unwritten (refused row) edit
+told (Came.Unwritten r edit) = unwritten (refused (refusal_number r)) edit
 told (Came.Received result edit) = received (Received.receive_answer result.answer) result.applied edit
 told (Came.Move a session studio) = moved (count_answer a) session studio
 told (Came.Load a) = loaded (count_answer a)

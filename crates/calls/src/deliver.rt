@@ -1,15 +1,16 @@
 // The van beside the system: fresh after a setup, and messages written at the head end and received by it.
-ghost use Rattle.std.specs.Prelude.{◌≡◌, [], length};
+ghost use Rattle.std.specs.Prelude.{◌≡◌, length};
 ghost use Rattle.carts.specs.Cart.{copy_size};
 ghost use Rattle.replication.specs.Answer.{setup_answer};
-ghost use Rattle.replication.specs.Memory.{memory};
 ghost use Rattle.van.specs.Receive.{van};
-ghost use Rattle.calls.specs.Make.{told, made, beside, copy_after, van_leaves};
+ghost use Rattle.calls.specs.Make.{copy_after, van_leaves};
+ghost use Rattle.calls.specs.Lent.{memory_in, left_in, SameLent};
 
+use crate::lent::Lent;
 use carts::bytes;
 use edit_log::record::Record;
 use lines::text;
-use replication::answer::{CountAnswer, SetupAnswer};
+use replication::answer::SetupAnswer;
 use replication::control::Control;
 use report::turn::{Came, Turn};
 use van::message;
@@ -20,44 +21,37 @@ use van::write::write;
 const MESSAGE_SIZE: usize = message::HEAD_SIZE + Record::TRANSACTION_SIZE;
 
 // The van's copy after a setup: empty where it was accepted.
+#[tactic(auto, unfolding(crate::specs::Make::copy_after, van::specs::Receive::fresh_van))]
 pub fn set_up(answer: SetupAnswer, copy: &mut [u8])
     requires { length copy.old ≡ copy_size }
     ensures { copy.new ≡ copy_after (setup_answer answer) copy.old }
 {
-    match answer {
-        SetupAnswer::Ready => bytes::clear(copy),
-        SetupAnswer::Refused(_) => {}
+    if answer.is_ok() {
+        bytes::clear(copy);
     }
 }
 
 // The message of an edit is written, and the van receives it. The system's memory is only read.
-pub fn deliver(
-    control: Control,
-    library: &[u8],
-    log: &[u8],
-    sessions: &[u8],
-    copy: &mut [u8],
-    applied: u32,
-    edit: u32,
-) -> Turn
-    ensures { beside copy.new (made (told result.came) result.control (memory library.now log.now sessions.now) [])
-        ≡ van_leaves control (memory library.now log.now sessions.now) (van copy.old applied) edit [] }
+#[tactic(auto, unfolding(carts::specs::Bytes::zeros, crate::specs::Make::delivered, crate::specs::Make::van_leaves))]
+pub fn deliver(control: Control, lent: &mut Lent, applied: u32, edit: u32) -> Turn
+    ensures same { SameLent lent.old lent.new }
+    ensures left { left_in lent.new result ≡ van_leaves control (memory_in lent.old) (van lent.old.copy.now applied) edit lent.old.block.now }
 {
     let mut message = [0u8; MESSAGE_SIZE];
+    let library = &mut *lent.library;
+    let log = &mut *lent.log;
+    let sessions = &mut *lent.sessions;
+    let copy = &mut *lent.copy;
     let written = write(control, library, log, sessions, edit, &mut message);
-    let answer = written.answer;
-    let control = written.control;
-    match answer {
-        CountAnswer::Refused(row) => Turn {
-            came: Came::Unwritten(row, edit),
-            control,
+    let came = match written.answer {
+        Err(refusal) => Came::Unwritten { refusal, edit },
+        Ok(size) => Came::Received {
+            result: receive(copy, applied, text::part_of(&message, 0, size as usize)),
+            edit,
         },
-        CountAnswer::Number(size) => {
-            let result = receive(copy, applied, text::part_of(&message, 0, size as usize));
-            Turn {
-                came: Came::Received(result, edit),
-                control,
-            }
-        }
+    };
+    Turn {
+        came,
+        control: written.control,
     }
 }

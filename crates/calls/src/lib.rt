@@ -3,4 +3,5 @@
 
 pub mod deliver;
 pub mod keep;
+pub mod lent;
 pub mod make;

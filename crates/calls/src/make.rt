@@ -1,5 +1,7 @@
 // The calls of a transcript, made on the engine.
-ghost use Rattle.std.specs.Prelude.{◌≡◌, true, false, [], ◌*◌, length};
+#![tactic(auto, unfolding(crate::specs::Make::setup_leaves, crate::specs::Make::read_or_forward, crate::specs::Make::ask_leaves, crate::specs::Make::read_leaves, crate::specs::Make::collect_leaves, crate::specs::Make::van_leaves, crate::specs::Make::line_leaves))]
+
+ghost use Rattle.std.specs.Prelude.{◌≡◌, true, false, ◌*◌, length};
 ghost use Rattle.carts.specs.Cart.{copy_size};
 ghost use Rattle.edit_log.specs.Log.{record_size};
 ghost use Rattle.replication.specs.Memory.{memory, session_count, session_size};
@@ -8,9 +10,11 @@ ghost use Rattle.replication.specs.Calls.{after, commit, preview, send, refresh,
 ghost use Rattle.van.specs.Receive.{van};
 ghost use Rattle.lines.specs.Text.{part_in};
 ghost use Rattle.journal.specs.History.{most_bytes};
-ghost use Rattle.calls.specs.Make.{committed, previewed, sent_or_refreshed, moved, loaded, told, made, leaves, retire_leaves, read_or_forward, read_leaves, collect_leaves, beside, setup_leaves, line_leaves};
+ghost use Rattle.calls.specs.Make.{committed, previewed, sent_or_refreshed, moved, loaded, retire_leaves, read_or_forward, read_leaves, collect_leaves, beside, setup_leaves, line_leaves};
+ghost use Rattle.calls.specs.Lent.{memory_in, left_in, alone, SameLent};
 
 use crate::deliver;
+use crate::lent::Lent;
 use edit_log::record::Record;
 use journal::history::Entry;
 use journal::{history, progress};
@@ -33,106 +37,90 @@ use replication::setup::setup;
 use report::turn::{Came, Turn};
 
 // A setup, with the studios of its sessions at the start of the payload, and the van beside it.
-fn make_setup(
-    library: &mut [u8],
-    log: &mut [u8],
-    sessions: &mut [u8],
-    copy: &mut [u8],
-    studios: u32,
-    payload: &[u8],
-) -> Turn
-    requires { length copy.old ≡ copy_size }
-    ensures { beside copy.new (made (told result.came) result.control (memory library.new log.new sessions.new) [])
-        ≡ setup_leaves (memory library.old log.old sessions.old) copy.old studios (part_in payload.now 0 session_count) [] }
+fn make_setup(lent: &mut Lent, studios: u32) -> Turn
+    requires { length lent.old.copy.now ≡ copy_size }
+    ensures same { SameLent lent.old lent.new }
+    ensures left { left_in lent.new result
+        ≡ setup_leaves (memory_in lent.old) lent.old.copy.now studios (part_in lent.old.payload.now 0 session_count) lent.old.block.now }
 {
-    let places = text::part_of(payload, 0, Session::COUNT as usize);
-    let result = setup(library, log, sessions, studios, places);
-    let answer = result.answer;
-    let control = result.control;
-    deliver::set_up(answer, copy);
+    let places = text::part_of(lent.payload, 0, Session::COUNT as usize);
+    let reply = setup(lent.library, lent.log, lent.sessions, studios, places);
+    deliver::set_up(reply.answer, lent.copy);
     Turn {
-        came: Came::Setup(answer, studios),
-        control,
+        came: Came::Setup {
+            answer: reply.answer,
+            studios,
+        },
+        control: reply.control,
     }
 }
 
 // A commit, with its operations at the start of the payload.
-fn make_commit(
-    control: Control,
-    library: &mut [u8],
-    log: &mut [u8],
-    sessions: &mut [u8],
-    session: u32,
-    operations: u32,
-    payload: &[u8],
-) -> Turn
-    ensures { made (told result.came) result.control (memory library.new log.new sessions.new) []
-        ≡ leaves (λ a. committed a session operations) (commit control (memory library.old log.old sessions.old) session (part_in payload.now 0 (record_size * operations))) [] }
+fn make_commit(control: Control, lent: &mut Lent, session: u32, operations: u32) -> Turn
+    ensures same { SameLent lent.old lent.new }
+    ensures left { left_in lent.new result ≡ alone lent.old (λ a. committed a session operations)
+        (commit control (memory_in lent.old) session (part_in lent.old.payload.now 0 (record_size * operations))) }
 {
-    let ops = text::part_of(payload, 0, Record::SIZE * (operations as usize));
-    let result = commit(control, library, log, sessions, session, ops);
-    let answer = result.answer;
-    let control = result.control;
+    let ops = text::part_of(lent.payload, 0, Record::SIZE * (operations as usize));
+    let reply = commit(control, lent.library, lent.log, lent.sessions, session, ops);
     Turn {
-        came: Came::Commit(answer, session, operations),
-        control,
+        came: Came::Commit {
+            answer: reply.answer,
+            session,
+            operations,
+        },
+        control: reply.control,
     }
 }
 
-// A preview of a commit, with its operations at the start of the payload. Memory is only read.
-fn make_preview(
-    control: Control,
-    library: &[u8],
-    log: &[u8],
-    sessions: &[u8],
-    session: u32,
-    operations: u32,
-    payload: &[u8],
-) -> Turn
-    ensures { made (told result.came) result.control (memory library.now log.now sessions.now) []
-        ≡ leaves (λ a. previewed a session operations) (preview control (memory library.now log.now sessions.now) session (part_in payload.now 0 (record_size * operations))) [] }
+// A preview of a commit, with its operations at the start of the payload.
+fn make_preview(control: Control, lent: &Lent, session: u32, operations: u32) -> Turn
+    ensures { left_in lent.now result ≡ alone lent.now (λ a. previewed a session operations)
+        (preview control (memory_in lent.now) session (part_in lent.now.payload.now 0 (record_size * operations))) }
 {
-    let ops = text::part_of(payload, 0, Record::SIZE * (operations as usize));
-    let result = preview(control, library, log, sessions, session, ops);
-    let answer = result.answer;
-    let control = result.control;
+    let ops = text::part_of(lent.payload, 0, Record::SIZE * (operations as usize));
+    let reply = preview(control, lent.library, lent.log, lent.sessions, session, ops);
     Turn {
-        came: Came::Preview(answer, session, operations),
-        control,
+        came: Came::Preview {
+            answer: reply.answer,
+            session,
+            operations,
+        },
+        control: reply.control,
     }
 }
 
-// A send. Memory is only read.
-fn make_send(control: Control, library: &[u8], log: &[u8], sessions: &[u8], studio: u32) -> Turn
-    ensures { made (told result.came) result.control (memory library.now log.now sessions.now) []
-        ≡ leaves (λ a. sent_or_refreshed a studio true) (send control (memory library.now log.now sessions.now) studio) [] }
+// A send.
+fn make_send(control: Control, lent: &Lent, studio: u32) -> Turn
+    ensures { left_in lent.now result ≡ alone lent.now (λ a. sent_or_refreshed a studio true) (send control (memory_in lent.now) studio) }
 {
-    let result = send(control, library, log, sessions, studio);
-    let answer = result.answer;
-    let control = result.control;
+    let reply = send(control, lent.library, lent.log, lent.sessions, studio);
     Turn {
-        came: Came::SendOrRefresh(answer, studio, true),
-        control,
+        came: Came::SendOrRefresh {
+            answer: reply.answer,
+            studio,
+            is_sent: true,
+        },
+        control: reply.control,
     }
 }
 
 // A refresh.
-fn make_refresh(
-    control: Control,
-    library: &mut [u8],
-    log: &[u8],
-    sessions: &[u8],
-    studio: u32,
-) -> Turn
-    ensures { made (told result.came) result.control (memory library.new log.now sessions.now) []
-        ≡ leaves (λ a. sent_or_refreshed a studio false) (refresh control (memory library.old log.now sessions.now) studio) [] }
+fn make_refresh(control: Control, lent: &mut Lent, studio: u32) -> Turn
+    ensures same { SameLent lent.old lent.new }
+    ensures left { left_in lent.new result ≡ alone lent.old (λ a. sent_or_refreshed a studio false) (refresh control (memory_in lent.old) studio) }
 {
-    let result = refresh(control, library, log, sessions, studio);
-    let answer = result.answer;
-    let control = result.control;
+    let library = &mut *lent.library;
+    let log = &mut *lent.log;
+    let sessions = &mut *lent.sessions;
+    let reply = refresh(control, library, log, sessions, studio);
     Turn {
-        came: Came::SendOrRefresh(answer, studio, false),
-        control,
+        came: Came::SendOrRefresh {
+            answer: reply.answer,
+            studio,
+            is_sent: false,
+        },
+        control: reply.control,
     }
 }
 
@@ -158,105 +146,98 @@ fn read_or_forward(
 
 // A read or a forward, with its request at the start of the payload; then the request is at the start of the block, and its
 // output after it.
-fn make_read(
-    control: Control,
-    library: &[u8],
-    log: &[u8],
-    sessions: &mut [u8],
-    session: u32,
-    forwards: bool,
-    payload: &[u8],
-    block: &mut [u8],
-) -> Turn
-    requires { length block.old ≡ most_bytes }
-    ensures { made (told result.came) result.control (memory library.now log.now sessions.new) block.new
-        ≡ read_leaves control (memory library.now log.now sessions.old) session forwards (part_in payload.now 0 session_size) block.old }
+fn make_read(control: Control, lent: &mut Lent, session: u32, forwards: bool) -> Turn
+    requires { length lent.old.block.now ≡ most_bytes }
+    ensures same { SameLent lent.old lent.new }
+    ensures left { left_in lent.new result ≡ beside lent.old.copy.now
+        (read_leaves control (memory_in lent.old) session forwards (part_in lent.old.payload.now 0 session_size) lent.old.block.now) }
 {
+    let library = &mut *lent.library;
+    let log = &mut *lent.log;
+    let sessions = &mut *lent.sessions;
+    let payload = lent.payload;
+    let block = &mut *lent.block;
     let request = text::part_of(payload, 0, Session::SIZE);
     progress::put_request(block, request);
     let output = &mut block[Session::SIZE..Entry::MOST_BYTES];
-    let result = read_or_forward(
+    let reply = read_or_forward(
         control, library, log, sessions, session, forwards, request, output,
     );
-    let answer = result.answer;
-    let control = result.control;
     Turn {
-        came: Came::Read(answer, session),
-        control,
+        came: Came::Read {
+            answer: reply.answer,
+            session,
+        },
+        control: reply.control,
     }
 }
 
 // A collect, with the request that was kept for the session at the start of its block.
-fn make_collect(
-    control: Control,
-    library: &[u8],
-    log: &[u8],
-    sessions: &mut [u8],
-    session: u32,
-    store: &[u8],
-    block: &mut [u8],
-) -> Turn
-    requires { length block.old ≡ most_bytes }
-    ensures { made (told result.came) result.control (memory library.now log.now sessions.new) block.new
-        ≡ collect_leaves control (memory library.now log.now sessions.old) session store.now block.old }
+fn make_collect(control: Control, lent: &mut Lent, session: u32) -> Turn
+    requires { length lent.old.block.now ≡ most_bytes }
+    ensures same { SameLent lent.old lent.new }
+    ensures left { left_in lent.new result ≡ beside lent.old.copy.now
+        (collect_leaves control (memory_in lent.old) session lent.old.store.now lent.old.block.now) }
 {
+    let library = &mut *lent.library;
+    let log = &mut *lent.log;
+    let sessions = &mut *lent.sessions;
+    let store = lent.store;
+    let block = &mut *lent.block;
     progress::put_request(block, history::kept_request(store, session));
     let output = &mut block[Session::SIZE..Entry::MOST_BYTES];
-    let result = collect(control, library, log, sessions, session, output);
-    let answer = result.answer;
-    let control = result.control;
+    let reply = collect(control, library, log, sessions, session, output);
     Turn {
-        came: Came::Read(answer, session),
-        control,
+        came: Came::Read {
+            answer: reply.answer,
+            session,
+        },
+        control: reply.control,
     }
 }
 
-// A move of a session to a studio. Memory is only read.
-fn make_move(
-    control: Control,
-    library: &[u8],
-    log: &[u8],
-    sessions: &[u8],
-    session: u32,
-    studio: u32,
-) -> Turn
-    ensures { made (told result.came) result.control (memory library.now log.now sessions.now) []
-        ≡ leaves (λ a. moved a session studio) (move control (memory library.now log.now sessions.now) session studio) [] }
+// A move of a session to a studio.
+fn make_move(control: Control, lent: &Lent, session: u32, studio: u32) -> Turn
+    ensures { left_in lent.now result ≡ alone lent.now (λ a. moved a session studio) (move control (memory_in lent.now) session studio) }
 {
-    let result = move_session(control, library, log, sessions, session, studio);
-    let answer = result.answer;
-    let control = result.control;
+    let (library, log, sessions) = (&*lent.library, &*lent.log, &*lent.sessions);
+    let reply = move_session(control, library, log, sessions, session, studio);
     Turn {
-        came: Came::Move(answer, session, studio),
-        control,
+        came: Came::Move {
+            answer: reply.answer,
+            session,
+            studio,
+        },
+        control: reply.control,
     }
 }
 
-// A load: the system as it stands is tested. Memory is only read.
-fn make_load(control: Control, library: &[u8], log: &[u8], sessions: &[u8]) -> Turn
-    ensures { made (told result.came) result.control (memory library.now log.now sessions.now) []
-        ≡ leaves loaded (load control (memory library.now log.now sessions.now)) [] }
+// A load: the system as it stands is tested.
+fn make_load(control: Control, lent: &Lent) -> Turn
+    ensures { left_in lent.now result ≡ alone lent.now loaded (load control (memory_in lent.now)) }
 {
-    let result = load(control, library, log, sessions);
-    let answer = result.answer;
-    let control = result.control;
+    let reply = load(control, lent.library, lent.log, lent.sessions);
     Turn {
-        came: Came::Load(answer),
-        control,
+        came: Came::Load(reply.answer),
+        control: reply.control,
     }
 }
 
 // A retire, with the records that the log uses after it.
-fn make_retire(control: Control, library: &mut [u8], log: &mut [u8], sessions: &[u8]) -> Turn
-    ensures { made (told result.came) result.control (memory library.new log.new sessions.now) []
-        ≡ retire_leaves control (memory library.old log.old sessions.now) [] }
+fn make_retire(control: Control, lent: &mut Lent) -> Turn
+    ensures same { SameLent lent.old lent.new }
+    ensures left { left_in lent.new result ≡ beside lent.old.copy.now (retire_leaves control (memory_in lent.old) lent.old.block.now) }
 {
-    let result = retire(control, library, log, sessions);
-    let answer = result.answer;
-    let left = result.control;
+    let library = &mut *lent.library;
+    let log = &mut *lent.log;
+    let sessions = &mut *lent.sessions;
+    let reply = retire(control, library, log, sessions);
     Turn {
-        came: Came::Retire(answer, left.used),
-        control: left,
+        came: Came::Retire {
+            answer: reply.answer,
+            used: reply.control.used,
+        },
+        control: reply.control,
     }
 }
 
@@ -270,52 +251,32 @@ fn no_call(control: Control, came: Came) -> Turn
 // The call of a line, with its bytes at the start of the payload. A read, a collect or a forward has its request and its
 // output in the block; the requests of reads that wait are in the store. Beside the system is the van, its copy and its applied
 // number.
-pub fn make(
-    control: Control,
-    library: &mut [u8],
-    log: &mut [u8],
-    sessions: &mut [u8],
-    copy: &mut [u8],
-    applied: u32,
-    store: &[u8],
-    call: Call,
-    payload: &[u8],
-    block: &mut [u8],
-) -> Turn
-    requires { (length copy.old ≡ copy_size) × (length block.old ≡ most_bytes) }
-    ensures { beside copy.new (made (told result.came) result.control (memory library.new log.new sessions.new) block.new)
-        ≡ line_leaves control (memory library.old log.old sessions.old) (van copy.old applied) store.now call payload.now block.old }
+pub fn make(control: Control, lent: &mut Lent, applied: u32, call: Call) -> Turn
+    requires { (length lent.old.copy.now ≡ copy_size) × (length lent.old.block.now ≡ most_bytes) }
+    ensures same { SameLent lent.old lent.new }
+    ensures left { left_in lent.new result ≡ line_leaves control (memory_in lent.old) (van lent.old.copy.now applied) lent.old.store.now
+        call lent.old.payload.now lent.old.block.now }
 {
     match call {
-        Call::Setup(studios) => make_setup(library, log, sessions, copy, studios, payload),
+        Call::Setup(studios) => make_setup(lent, studios),
         Call::Commit {
             session,
             operations,
-        } => make_commit(
-            control, library, log, sessions, session, operations, payload,
-        ),
+        } => make_commit(control, lent, session, operations),
         Call::Preview {
             session,
             operations,
-        } => make_preview(
-            control, library, log, sessions, session, operations, payload,
-        ),
-        Call::Send(studio) => make_send(control, library, log, sessions, studio),
-        Call::Refresh(studio) => make_refresh(control, library, log, sessions, studio),
-        Call::Read { session, forwards } => make_read(
-            control, library, log, sessions, session, forwards, payload, block,
-        ),
-        Call::Collect(session) => {
-            make_collect(control, library, log, sessions, session, store, block)
-        }
+        } => make_preview(control, lent, session, operations),
+        Call::Send(studio) => make_send(control, lent, studio),
+        Call::Refresh(studio) => make_refresh(control, lent, studio),
+        Call::Read { session, forwards } => make_read(control, lent, session, forwards),
+        Call::Collect(session) => make_collect(control, lent, session),
         Call::Show => no_call(control, Came::Show),
-        Call::Unreadable { mistake, at } => no_call(control, Came::Unreadable(mistake, at)),
+        Call::Unreadable { mistake, at } => no_call(control, Came::Unreadable { mistake, at }),
         Call::Nothing => no_call(control, Came::Nothing),
-        Call::Van(edit) => deliver::deliver(control, library, log, sessions, copy, applied, edit),
-        Call::Move { session, studio } => {
-            make_move(control, library, log, sessions, session, studio)
-        }
-        Call::Load => make_load(control, library, log, sessions),
-        Call::Retire => make_retire(control, library, log, sessions),
+        Call::Van(edit) => deliver::deliver(control, lent, applied, edit),
+        Call::Move { session, studio } => make_move(control, lent, session, studio),
+        Call::Load => make_load(control, lent),
+        Call::Retire => make_retire(control, lent),
     }
 }

@@ -3,13 +3,14 @@ ghost use Rattle.std.specs.Prelude.{◌≤◌};
 ghost use Rattle.journal.specs.History.{most_entries};
 
 use crate::order;
+use journal::history::Entry;
 use journal::progress::Progress;
 use journal::status;
 use report::{show, transcript};
 use words::line;
 
 // The summary, the reads that wait and the order of what came last; the status goes to `play`.
-pub fn tell_end(player: Progress, sessions: &[u8], cells: &[u32], store: &[u8], cut: bool)
+pub fn tell_end(player: Progress, sessions: &[u8], entries: &[Entry], store: &[u8], cut: bool)
     requires { player.history.entries ≤ most_entries }
 {
     if cut {
@@ -17,7 +18,7 @@ pub fn tell_end(player: Progress, sessions: &[u8], cells: &[u32], store: &[u8], 
     }
     transcript::summary(player);
     show::waiting(player.control, sessions);
-    let same = order::show_order(player.history, cells, store);
+    let same = order::show_order(player.history, entries, store);
     let last = player.compared(same);
     line::status(status::status(!cut, last.tally));
 }

@@ -4,4 +4,5 @@
 pub mod answer;
 pub mod end;
 pub mod order;
+pub mod seen;
 pub mod tell;
