@@ -48,7 +48,7 @@ pub fn append_transaction(
     if transactions == 0 {
         return write_all(log, first, ops);
     }
-    let last = walk::walk(log, transactions - 1, oldest);
+    let last = walk::walk_on(log, transactions - 1, oldest);
     let next = write_all(log, first, ops);
     cell::put(log, last, Record::NEXT_TRANSACTION, first);
     next

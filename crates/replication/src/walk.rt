@@ -12,5 +12,5 @@ pub fn transaction_after(control: Control, log: &[u8], n: u32) -> u32
     requires reached { walkable (n - control.retired) log.now control.oldest ≡ true }
     ensures { result ≡ walk (n - control.retired) log.now control.oldest }
 {
-    walk::walk(log, n - control.retired, control.oldest)
+    walk::walk_on(log, n - control.retired, control.oldest)
 }
