@@ -13,7 +13,7 @@ use Rattle.journal.specs.declared.history.Entry.{Entry}
 use Rattle.one_copy.specs.Fault.{allowed, first_fault}
 use Rattle.std.specs.Prelude.{Some, None}
 use Rattle.one_copy.specs.Replay.{plays}
-use Rattle.one_copy.specs.Order.{of_rank, by_rank, ops_of, commits, copy_after, count_after, refusal_agrees, commit_agrees, is_same}
+use Rattle.one_copy.specs.Order.{of_rank, by_rank, ranks_of, ops_of, commits, copy_after, count_after, refusal_agrees, commit_agrees, is_same}
 
 -- a short copy of eight empty carts: new 7 meets its cart on it, withdraw 8 does not, and withdraw 0 is out of form; whoever unfolds it unfolds all that
 -- an operation is judged by
@@ -63,7 +63,7 @@ pub record Refusals : Type 0 where
   out_of_form : is_same (withdraw_cart 0) (refused_at 2) none 2 ≡ false
   played : is_same plain_news (refused_at 2) none 2 ≡ false
   counts : count_after plain_news (refused_at 2) none 2 ≡ 3
-  order : by_rank five 5 0 6 ≡ 1 ∷ 0 ∷ 2 ∷ 4 ∷ 3 ∷ []
+  order : by_rank (ranks_of five) 5 0 6 ≡ 1 ∷ 0 ∷ 2 ∷ 4 ∷ 3 ∷ []
 
 pub refusals : Refusals
 unfolding none plain_news refused_at five entry_at is_commit rank_of plays of_rank by_rank ops_of commits copy_after count_after refusal_agrees commit_agrees is_same
