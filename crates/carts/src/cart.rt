@@ -5,7 +5,8 @@ ghost use Rattle.carts.specs.Cart.{cart_size, cart_count, copy_size, cart_at, pr
 
 use crate::bytes;
 
-// A cart's fields, as a value.
+// A cart's fields, as a value. Its 80 bytes are lent as a slice, a part of a copy, and a clause says how many they are: a `&[u8; 80]`
+// would take a conversion, with a proof of its own, at each call.
 #[derive(Clone, Copy)]
 pub struct Cart {
     pub held: bool,
@@ -88,7 +89,8 @@ pub fn is_title_in(field: &[u8], n: u8) -> bool
     ok
 }
 
-// What holds of a field: one test where the field is asked for, the other where it must be absent.
+// What holds of a field: one test where the field is asked for, the other where it must be absent. A flag and no closures: both tests
+// are made, so that nothing branches.
 fn is_as_asked(asked: bool, present: bool, absent: bool) -> bool
     ensures { result ≡ cond asked present absent }
 {

@@ -14,7 +14,7 @@ pub fn open<R: Files>(rt: &R, path: &[u8]) -> Result<R::File> {
     }
 }
 
-// Reads until the memory is full or the input ends: how many bytes were read.
+// Reads until the memory is full or the input ends: how many bytes were read. A `while`, since a read gives as many as it likes.
 pub fn read_full<R: Read>(input: &mut R, memory: &mut [u8]) -> Result<usize>
     ensures { IfOk result (λ n. n ≤ length memory.new) }
 {

@@ -258,7 +258,8 @@ impl Progress {
     }
 }
 
-// How many carts an answered read shows; its request is at the block's start.
+// How many carts an answered read shows; its request is at the block's start. Any byte but 2 stands for numbers here, so no kind is
+// made of it.
 pub fn places(block: &[u8]) -> usize
     ensures { (result ≡ places_of block.now) × (result < 256) }
 {

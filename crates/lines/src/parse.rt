@@ -66,7 +66,7 @@ fn title_if<'a>(c: &mut Cursor<'a>, asked: bool) -> &'a [u8]
     if asked { c.title() } else { &[] }
 }
 
-// A word and the number after it, where they are asked for.
+// A word and the number after it, where they are asked for, and 0 where not: the definition's value, which is then put down.
 #[tactic(auto, unfolding(crate::specs::Parse::number_if))]
 fn number_if(c: &mut Cursor, word: &[u8], mistake: Mistake, asked: bool) -> u32
     ensures value { result ≡ (number_if c.old word.now mistake asked).value }
@@ -157,7 +157,8 @@ fn setup(c: &mut Cursor, payload: &mut [u8]) -> Call
     whole(c, Call::Setup(studios))
 }
 
-// The call of a session's operations: a preview of the commit, or the commit.
+// The call of a session's operations: a preview of the commit, or the commit. A flag and no closure: the definitions read both calls
+// alike and tell them apart by it, as those of read and forward do.
 #[tactic(auto, unfolding(crate::specs::Parse::edit_call))]
 fn edit_call(session: u32, operations: u32, previews: bool) -> Call
     requires { (1 ≤ operations) × (operations ≤ 8) }

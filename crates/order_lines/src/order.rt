@@ -74,7 +74,7 @@ pub fn operation(op: &[u8]) -> Page
     page
 }
 
-// What a request asks for.
+// What a request asks for. Any byte but 1 stands for a title here, so no kind is made of it.
 fn put_request(page: &mut Page, request: &[u8])
     requires { (length page.old + 3000 ≤ page_size) × (length request.now ≡ cart_size) }
     ensures { page.new ≡ page.old ++ request_text request.now }

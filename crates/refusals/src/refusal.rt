@@ -48,7 +48,7 @@ fn sentence(refusal: Refusal) -> &'static [u8]
     }
 }
 
-// A page that begins as the refusal of a preview does, or of any other call.
+// A page that begins as the refusal of a preview does, or of any other call. A flag: the texts differ in this alone.
 fn begun(previews: bool) -> Page
     ensures { result ≡ lead_of previews }
 {

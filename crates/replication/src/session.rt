@@ -17,7 +17,7 @@ pub enum Waiting {
     Title(u32),
 }
 
-// A session's number and its waiting read; a request has the number 0.
+// A session's number and its waiting read; a request has the number 0. Its 80 bytes are a slice, as a cart's are.
 #[derive(Clone, Copy)]
 pub struct Session {
     pub number: u32,

@@ -23,6 +23,7 @@ pub enum Came {
         session: u32,
         operations: u32,
     },
+    // A flag, and no case for each: what is told differs in a word alone.
     SendOrRefresh {
         answer: CountAnswer,
         studio: u32,
