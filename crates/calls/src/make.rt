@@ -250,7 +250,8 @@ fn no_call(control: Control, came: Came) -> Turn
 
 // The call of a line, with its bytes at the start of the payload. A read, a collect or a forward has its request and its
 // output in the block; the requests of reads that wait are in the store. Beside the system is the van, its copy and its applied
-// number.
+// number. Not inlined: what the engine has on the stack is off it when the answer is printed.
+#[inline(never)]
 pub fn make(control: Control, lent: &mut Lent, applied: u32, call: Call) -> Turn
     requires { (length lent.old.copy.now ≡ copy_size) × (length lent.old.block.now ≡ most_bytes) }
     ensures same { SameLent lent.old lent.new }

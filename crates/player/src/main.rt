@@ -2,116 +2,64 @@
 // one-copy order replayed on a single library. docs/TRANSCRIPT.md has the format and the limits.
 #![tactic(auto)]
 
+mod desk;
 mod play;
 
-ghost use Rattle.std.specs.Prelude.{◌≡◌, ◌≤◌, length, IfOk};
-ghost use Rattle.carts.specs.Cart.{copy_size};
-ghost use Rattle.journal.specs.History.{most_entries, cells_size};
+ghost use Rattle.std.specs.Prelude.{◌≤◌, length, IfOk};
+ghost use Rattle.journal.specs.History.{most_entries};
 
+use crate::desk::Desk;
 use carts::cart::Cart;
 use edit_log::record::Record;
 use files::{failure, reading};
 use journal::history::Entry;
 use journal::progress::Progress;
-use lines::text::Class;
-use lines::{input, parse, text};
+use lines::{input, parse};
 use replication::control::Control;
 use replication::session::Session;
 use std::env::{Env, FillError};
 use std::io::{Error, Read, Result};
 use std::rt::Files;
 
-// A line, where it is whole; `copy` is the van's.
-fn play_line(
-    p: Progress,
-    library: &mut [u8],
-    log: &mut [u8],
-    sessions: &mut [u8],
-    copy: &mut [u8],
-    cells: &mut [u32],
-    store: &mut [u8],
-    line: &[u8],
-    is_whole: bool,
-) -> Progress
-    requires { (length copy.old ≡ copy_size) × (length cells.old ≡ cells_size) × (p.history.entries ≤ most_entries) }
+// A line, without its end.
+fn play_line(p: Progress, desk: &mut Desk, line: &[u8]) -> Progress
+    requires { p.history.entries ≤ most_entries }
     ensures { result.history.entries ≤ most_entries }
 {
-    if !is_whole {
-        return p;
-    }
     let next = p.next_line();
     let mut payload = [0u8; Record::TRANSACTION_SIZE];
     let call = parse::parse(line, &mut payload);
     report::transcript::echo(next.line, line, call);
-    play::play_call(
-        next, library, log, sessions, copy, cells, store, call, &payload,
-    )
+    play::play_call(next, desk, call, &payload)
 }
 
 // Every line; the last is left out where the text was cut in it.
-fn play_lines(
-    library: &mut [u8],
-    log: &mut [u8],
-    sessions: &mut [u8],
-    copy: &mut [u8],
-    cells: &mut [u32],
-    store: &mut [u8],
-    bytes: &[u8],
-    cut: bool,
-) -> Progress
-    requires { (length copy.old ≡ copy_size) × (length cells.old ≡ cells_size) }
+#[tactic(auto, unfolding(journal::specs::Progress::start))]
+fn play_lines(desk: &mut Desk, bytes: &[u8], cut: bool) -> Progress
     ensures { result.history.entries ≤ most_entries }
 {
     let mut player = Progress::new();
-    let mut at: usize = 0;
-    while at < bytes.len() {
-        let end = text::run_end(bytes, at, Class::Other(10));
-        let next = end + 1;
-        let is_whole = !cut | (end < bytes.len());
-        let line = &bytes[at..end];
-        player = play_line(
-            player, library, log, sessions, copy, cells, store, line, is_whole,
-        );
-        at = next;
+    for line in bytes.split_inclusive(|b| *b == b'\n') {
+        if !cut || line.ends_with(b"\n") {
+            let text = line.strip_suffix(b"\n").unwrap_or(line);
+            player = play_line(player, desk, text);
+        }
     }
     player
 }
 
-// Every line, then the end.
-fn play_all(
-    library: &mut [u8],
-    log: &mut [u8],
-    sessions: &mut [u8],
-    copy: &mut [u8],
-    cells: &mut [u32],
-    store: &mut [u8],
-    bytes: &[u8],
-    cut: bool,
-)
-    requires { (length copy.old ≡ copy_size) × (length cells.old ≡ cells_size) }
-{
-    let player = play_lines(library, log, sessions, copy, cells, store, bytes, cut);
-    print::end::tell_end(player, sessions, cells, store, cut);
-}
-
-// All memory is on the stack: the system's, the van's copy, and the entries'.
+// Every line, then the end. All memory is on the stack.
 fn play_text(bytes: &[u8], cut: bool) {
-    let mut library = [0u8; Control::LIBRARY_SIZE];
-    let mut log = [0u8; Record::LOG_SIZE];
-    let mut sessions = [0u8; Session::MEMORY_SIZE];
-    let mut copy = [0u8; Cart::COPY_SIZE];
-    let mut cells = [0u32; Entry::CELLS];
-    let mut store = [0u8; 262144];
-    play_all(
-        &mut library,
-        &mut log,
-        &mut sessions,
-        &mut copy,
-        &mut cells,
-        &mut store,
-        bytes,
-        cut,
-    );
+    let mut desk = Desk {
+        library: [0; Control::LIBRARY_SIZE],
+        log: [0; Record::LOG_SIZE],
+        sessions: [0; Session::MEMORY_SIZE],
+        copy: [0; Cart::COPY_SIZE],
+        entries: [desk::NO_ENTRY; Entry::MOST],
+        store: [0; 262144],
+    };
+    let player = play_lines(&mut desk, bytes, cut);
+    print::end::tell_end(player, &desk.sessions, &desk.entries, &desk.store, cut);
 }
 
 // A text after its byte-order mark; any other input is named once, and not played.

@@ -1,4 +1,4 @@
-// What came of a call, printed.
+// What came of a call, printed. As in tell.rt, what prints a page beside an order is not inlined.
 ghost use Rattle.std.specs.Prelude.{◌<◌, ◌≤◌};
 ghost use Rattle.journal.specs.History.{most_entries};
 
@@ -18,6 +18,12 @@ use van::answer::{ReceiveResult, Received};
 use words::line;
 use words::page::Page;
 
+// The first line after a setup, before the order of the system that it ended.
+#[inline(never)]
+fn tell_ended() {
+    line::told(&words::answer::ended());
+}
+
 // A setup ends the system before it: the order of its answers, where there are any; the answer is whether all are the same.
 fn ended(h: History, seen: Seen) -> bool
     requires { h.entries ≤ most_entries }
@@ -25,26 +31,38 @@ fn ended(h: History, seen: Seen) -> bool
     if h.entries == 0 {
         return true;
     }
-    line::told(&words::answer::ended());
+    tell_ended();
     order::show_order(h, seen.entries, seen.store)
 }
 
+// The first line of the system that a setup begins.
+#[inline(never)]
+fn tell_fresh(studios: u32) {
+    line::told(&words::answer::fresh(studios));
+}
+
+// A refused setup leaves the system before it, where there is one.
+#[inline(never)]
+fn refused_setup(refusal: Refusal, is_running: bool) {
+    refusals::print::refusal(refusal);
+    if is_running {
+        line::told(&words::answer::goes_on());
+    }
+}
+
 // What a setup of so many studios answered, after what was carried on so far; the answer is whether the history so far is the
-// same on a single library. A refused setup leaves the system before it, where there is one.
+// same on a single library.
 pub fn made(answer: SetupAnswer, before: Progress, seen: Seen, studios: u32) -> bool
     requires { before.history.entries ≤ most_entries }
 {
     match answer {
         Ok(()) => {
             let same = ended(before.history, seen);
-            line::told(&words::answer::fresh(studios));
+            tell_fresh(studios);
             same
         }
         Err(refusal) => {
-            refusals::print::refusal(refusal);
-            if before.control.studios != 0 {
-                line::told(&words::answer::goes_on());
-            }
+            refused_setup(refusal, before.control.studios != 0);
             true
         }
     }
@@ -100,6 +118,7 @@ fn edit_at_studio(edit: u32, studio: u32, is_sent: bool) -> Page {
 }
 
 // What a send or a refresh answered.
+#[inline(never)]
 pub fn send_or_refresh(answer: CountAnswer, studio: u32, is_sent: bool) {
     match answer {
         Ok(edit) => line::told(&edit_at_studio(edit, studio, is_sent)),

@@ -1,4 +1,5 @@
-// What came of a line, printed.
+// What came of a line, printed. What prints a page and compares no order is not inlined: so no page of it is on the stack while an
+// order is compared.
 ghost use Rattle.std.specs.Prelude.{◌≤◌};
 ghost use Rattle.journal.specs.History.{most_entries};
 
@@ -12,6 +13,7 @@ use report::show;
 use report::turn::Came;
 
 // A preview or a commit was answered, with its operations at the start of the payload.
+#[inline(never)]
 fn tell_edit(previews: bool, answer: CountAnswer, session: u32, operations: u32, seen: Seen) {
     let ops = text::part_of(seen.payload, 0, Record::SIZE * (operations as usize));
     answer::edited(previews, answer, seen.library, session, ops);
@@ -19,6 +21,7 @@ fn tell_edit(previews: bool, answer: CountAnswer, session: u32, operations: u32,
 
 // A read, a collect, a forward, a move, a load or a retire was answered, a line shows the state or cannot be read, or an edit's message
 // was not written or was received.
+#[inline(never)]
 fn tell_other(before: Progress, came: Came, seen: Seen) {
     let control = before.control;
     match came {
