@@ -19,10 +19,12 @@ left_in l t = beside l.copy.now (made (told t.came) t.control (memory_in l) l.bl
 abbrev pub alone : Lent → (Answer → Told) → After → Left
 alone l tells a = beside l.copy.now (leaves tells a l.block.now)
 
--- each memory is where it was
+-- each memory is where it was, and what is lent to be read is the same
 pub record SameLent (x y : Lent) : Type 0 where
   pub library : y.library.ghost_name ≡ x.library.ghost_name
   pub log : y.log.ghost_name ≡ x.log.ghost_name
   pub sessions : y.sessions.ghost_name ≡ x.sessions.ghost_name
   pub copy : y.copy.ghost_name ≡ x.copy.ghost_name
   pub block : y.block.ghost_name ≡ x.block.ghost_name
+  pub store : y.store ≡ x.store
+  pub payload : y.payload ≡ x.payload

@@ -52,7 +52,7 @@ told (Came.Move a session studio) = moved (count_answer a) session studio
 told (Came.Load a) = loaded (count_answer a)
 told (Came.Retire a used) = retired (count_answer a) used
 
--- what a line leaves of the system: what is told of it, control, the three memories, and the block of a read ([] where none is lent)
+-- what a line leaves of the system: what is told of it, control, the three memories, and the block of a read
 pub record Made : Type 0 where
   pub told : Told
   pub control : Control

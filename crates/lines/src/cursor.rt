@@ -58,9 +58,16 @@ impl<'a> Cursor<'a> {
     pub fn new(line: &'a [u8]) -> Cursor<'a>
         ensures { result ≡ new_at line.now 0 }
     {
+        Cursor::at(line, 0)
+    }
+
+    // At a place of a line, with no mistake.
+    pub fn at(line: &'a [u8], at: usize) -> Cursor<'a>
+        ensures { result ≡ new_at line.now at }
+    {
         Cursor {
             line,
-            at: 0,
+            at,
             mistake: None,
         }
     }
@@ -73,7 +80,7 @@ impl<'a> Cursor<'a> {
     }
 
     // To another place; after a mistake it stays where that was.
-    fn move_to(&mut self, at: usize)
+    pub fn move_to(&mut self, at: usize)
         ensures { self.new ≡ moved_to self.old at }
     {
         if self.mistake.is_none() {

@@ -44,6 +44,7 @@ fn sentence(refusal: Refusal) -> &'static [u8]
         Refusal::NotRetirable =>
             b"the log has no edit to retire, or a studio has not applied the oldest one; refresh that studio first",
         Refusal::RetiredEdit => b"the edit is retired, and its message can no longer be written",
+        // of the converter, which no line calls
         Refusal::FileForm | Refusal::LongTitle => b"unknown",
     }
 }

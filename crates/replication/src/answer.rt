@@ -9,11 +9,11 @@ pub enum Reading {
     Waits(u32),
 }
 
-// Setup: accepted.
+// Setup: accepted, or refused.
 pub type SetupAnswer = Result<(), Refusal>;
 
-// Commit, preview, send, refresh and the van's writer: the commit's number (of a preview the one that it would have), sent, applied, or
-// the message's length.
+// Commit, preview, send, refresh, the van's writer, move, load and retire: the commit's number (of a preview the one that it would
+// have), sent, applied, the message's length, the studio, the commits, or the count retired.
 pub type CountAnswer = Result<u32, Refusal>;
 
 pub type ReadAnswer = Result<Reading, Refusal>;
