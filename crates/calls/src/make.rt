@@ -124,7 +124,7 @@ fn make_refresh(control: Control, lent: &mut Lent, studio: u32) -> Turn
     }
 }
 
-// A read, or a forward.
+// A read, or a forward. It is passed the memories one by one: its output is a part of the block, which is lent meanwhile.
 fn read_or_forward(
     control: Control,
     library: &[u8],
