@@ -1,2 +1,3 @@
--- Worked examples.
+-- Worked examples, and a law of the sentences.
 pub mod Examples
+pub mod RefusalLaws
