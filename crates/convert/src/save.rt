@@ -71,7 +71,8 @@ fn fill<R: Files>(rt: &R, file: R::File, name: &[u8], to: &[u8], bytes: &[u8]) -
     true
 }
 
-// The file, saved: or it is as it was, and the new one, where this made it, is removed.
+// The file, saved: or it is as it was, and the new one, where this made it, is removed. A bool: an error is told here, where it is known
+// which of the two names it is of.
 pub fn save(rt: &impl Files, to: &[u8], bytes: &[u8]) -> bool
     requires { length to.now ≤ page_size }
 {

@@ -1,5 +1,5 @@
 // The bytes of operations, requests and studios.
-ghost use Rattle.std.specs.Prelude.{◌≡◌, ◌+◌, ◌*◌, ◌-◌, ◌<◌, ◌≤◌, ◌++◌, length, take, drop};
+ghost use Rattle.std.specs.Prelude.{◌≡◌, ◌+◌, ◌*◌, ◌<◌, ◌≤◌, ◌++◌, length, take, drop};
 ghost use Rattle.carts.specs.Cart.{cart_size, title_size};
 ghost use Rattle.carts.specs.Bytes.{over};
 ghost use Rattle.lines.specs.Build.{u32_bytes, operation_bytes, u16_list, numbers_bytes, asked_at, studio_bytes, most_numbers, most_studios};

@@ -1,5 +1,5 @@
 // The bytes of a transcript before they are lines: a mark at the start, what is no text, and the return before a line's end.
-ghost use Rattle.std.specs.Prelude.{◌≡◌, length};
+ghost use Rattle.std.specs.Prelude.{◌≡◌};
 ghost use Rattle.lines.specs.Text.{part_in};
 ghost use Rattle.lines.specs.Input.{mark_length, is_text, line_length};
 

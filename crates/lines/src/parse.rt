@@ -1,5 +1,5 @@
 // Lines of a transcript, read as calls. docs/TRANSCRIPT.md has the format.
-ghost use Rattle.std.specs.Prelude.{◌≡◌, ◌+◌, ◌*◌, ◌-◌, ◌<◌, ◌≤◌, length};
+ghost use Rattle.std.specs.Prelude.{◌≡◌, ◌+◌, ◌*◌, ◌<◌, ◌≤◌, length};
 ghost use Rattle.lines.specs.Build.{payload_size};
 ghost use Rattle.carts.specs.Cart.{cart_size};
 ghost use Rattle.lines.specs.Cursor.{letters_of};

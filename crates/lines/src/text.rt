@@ -26,13 +26,6 @@ pub fn letter(s: &[u8], at: usize) -> u8
     s.get(at).copied().unwrap_or(0)
 }
 
-// A byte as a number.
-pub fn wide(b: u8) -> u32
-    ensures { (result ≡ b) × (result < 256) }
-{
-    u32::from(b)
-}
-
 // The n bytes from a place on, or none where they are not all there.
 pub fn part_of(s: &[u8], at: usize, n: usize) -> &[u8]
     ensures { result.now ≡ part_in s.now at n }

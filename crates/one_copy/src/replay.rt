@@ -1,5 +1,5 @@
 // The single library of the one-copy order: a lent copy of 10,240 bytes and a count. It is fed operations and requests, and its answers are compared.
-ghost use Rattle.std.specs.Prelude.{◌≡◌, cond, ◌+◌, ◌*◌, ◌-◌, ◌<◌, ◌≤◌, length};
+ghost use Rattle.std.specs.Prelude.{◌≡◌, cond, ◌+◌, ◌*◌, ◌<◌, ◌≤◌, length};
 ghost use Rattle.replication.specs.Memory.{session_size};
 ghost use Rattle.carts.specs.Cart.{copy_size, title_size};
 ghost use Rattle.carts.specs.Operation.{operations_of, act_all};

@@ -74,12 +74,12 @@ fn entry(entries: &[Entry], store: &[u8], order: &[u32])
 }
 
 // The entries of an order, each with its verdict.
-pub fn entry_lines(entries: &[Entry], store: &[u8], order: &[u32], verdicts: &[bool], n: usize)
-    requires { (n ≤ length order.now) × (n ≤ length verdicts.now) }
+pub fn entry_lines(entries: &[Entry], store: &[u8], order: &[u32], verdicts: &[bool])
+    requires { length order.now ≡ length verdicts.now }
 {
-    for i in 0..n {
-        entry(entries, store, &order[i..n]);
-        line::told(&order::same(verdicts[i]));
+    for (i, same) in verdicts.iter().enumerate() {
+        entry(entries, store, &order[i..]);
+        line::told(&order::same(*same));
     }
 }
 

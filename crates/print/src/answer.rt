@@ -126,7 +126,7 @@ pub fn send_or_refresh(answer: CountAnswer, studio: u32, is_sent: bool) {
     }
 }
 
-// The cart shown at place i of a read by numbers.
+// The cart shown at place i of a read by numbers; byte 0 is looked at here, since the part of a block that is too short is empty.
 fn shown_at(block: &[u8], i: usize)
     requires { i < 256 }
 {

@@ -19,7 +19,8 @@ pub fn held(s: &[u8]) {
     }
 }
 
-// Cart c of a copy, where it is held; the answer is whether it is.
+// Cart c of a copy, where it is held; the answer is whether it is. The part of a library that is too short is empty, so byte 0 is looked
+// at here: `is_held` of carts asks for a cart.
 fn cart_of(library: &[u8], copy: u32, c: u32) -> bool
     requires { (copy < copy_count) × (c < cart_count) }
     ensures { result ≡ eqb (byte (part_in library.now (copy_size * copy + cart_size * c) cart_size) 0) 1 }

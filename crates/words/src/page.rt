@@ -1,5 +1,5 @@
 // A page: text, with words and numbers put at its end.
-ghost use Rattle.std.specs.Prelude.{◌≡◌, List, [], ◌++◌, ℕ, ◌+◌, ◌≤◌, ◌<◌, length, take};
+ghost use Rattle.std.specs.Prelude.{◌≡◌, List, [], ◌++◌, ℕ, ◌+◌, ◌≤◌, length, take};
 ghost use Rattle.carts.specs.Cart.{cart_size, title_at};
 ghost use Rattle.lines.specs.Text.{part_in};
 ghost use Rattle.words.specs.Page.{page_size, decimal, count_of, quoted};
