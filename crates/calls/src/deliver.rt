@@ -1,12 +1,11 @@
 // The van beside the system: fresh after a setup, and messages written at the head end and received by it.
-ghost use Rattle.std.specs.Prelude.{◌≡◌, length};
+ghost use Rattle.std.specs.Prelude.{◌≡◌, List, ℕ, length};
 ghost use Rattle.carts.specs.Cart.{copy_size};
 ghost use Rattle.replication.specs.Answer.{setup_answer};
 ghost use Rattle.van.specs.Receive.{van};
-ghost use Rattle.calls.specs.Make.{copy_after, van_leaves};
-ghost use Rattle.calls.specs.Lent.{memory_in, left_in, SameLent};
+ghost use Rattle.replication.specs.Memory.{memory};
+ghost use Rattle.calls.specs.Make.{copy_after, told, made, beside, van_leaves};
 
-use crate::lent::Lent;
 use carts::bytes;
 use edit_log::record::Record;
 use lines::text;
@@ -31,17 +30,22 @@ pub fn set_up(answer: SetupAnswer, copy: &mut [u8])
     }
 }
 
-// The message of an edit is written, and the van receives it. The system's memory is only read.
+// The message of an edit is written, and the van receives it. The system's memory is only read; a block beside it, which no message
+// touches, is any.
 #[tactic(auto, unfolding(carts::specs::Bytes::zeros, crate::specs::Make::delivered, crate::specs::Make::van_leaves))]
-pub fn deliver(control: Control, lent: &mut Lent, applied: u32, edit: u32) -> Turn
-    ensures same { SameLent lent.old lent.new }
-    ensures left { left_in lent.new result ≡ van_leaves control (memory_in lent.old) (van lent.old.copy.now applied) edit lent.old.block.now }
+pub fn deliver(
+    control: Control,
+    library: &[u8],
+    log: &[u8],
+    sessions: &[u8],
+    copy: &mut [u8],
+    applied: u32,
+    edit: u32,
+) -> Turn
+    ensures { (block : List ℕ) → beside copy.new (made (told result.came) result.control (memory library.now log.now sessions.now) block)
+        ≡ van_leaves control (memory library.now log.now sessions.now) (van copy.old applied) edit block }
 {
     let mut message = [0u8; MESSAGE_SIZE];
-    let library = &mut *lent.library;
-    let log = &mut *lent.log;
-    let sessions = &mut *lent.sessions;
-    let copy = &mut *lent.copy;
     let written = write(control, library, log, sessions, edit, &mut message);
     let came = match written.answer {
         Err(refusal) => Came::Unwritten { refusal, edit },

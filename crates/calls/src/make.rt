@@ -10,7 +10,7 @@ ghost use Rattle.replication.specs.Calls.{after, commit, preview, send, refresh,
 ghost use Rattle.van.specs.Receive.{van};
 ghost use Rattle.lines.specs.Text.{part_in};
 ghost use Rattle.journal.specs.History.{most_bytes};
-ghost use Rattle.calls.specs.Make.{committed, previewed, sent_or_refreshed, moved, loaded, retire_leaves, read_or_forward, read_leaves, collect_leaves, beside, setup_leaves, line_leaves};
+ghost use Rattle.calls.specs.Make.{committed, previewed, sent_or_refreshed, moved, loaded, retire_leaves, read_or_forward, read_leaves, collect_leaves, beside, setup_leaves, line_leaves, van_leaves};
 ghost use Rattle.calls.specs.Lent.{memory_in, left_in, alone, SameLent};
 
 use crate::deliver;
@@ -241,6 +241,18 @@ fn make_retire(control: Control, lent: &mut Lent) -> Turn
     }
 }
 
+// The message of an edit, to the van.
+fn make_van(control: Control, lent: &mut Lent, applied: u32, edit: u32) -> Turn
+    ensures same { SameLent lent.old lent.new }
+    ensures left { left_in lent.new result ≡ van_leaves control (memory_in lent.old) (van lent.old.copy.now applied) edit lent.old.block.now }
+{
+    let library = &mut *lent.library;
+    let log = &mut *lent.log;
+    let sessions = &mut *lent.sessions;
+    let copy = &mut *lent.copy;
+    deliver::deliver(control, library, log, sessions, copy, applied, edit)
+}
+
 // A line that makes no call.
 fn no_call(control: Control, came: Came) -> Turn
     ensures { (result.came ≡ came) × (result.control ≡ control) }
@@ -275,7 +287,7 @@ pub fn make(control: Control, lent: &mut Lent, applied: u32, call: Call) -> Turn
         Call::Show => no_call(control, Came::Show),
         Call::Unreadable { mistake, at } => no_call(control, Came::Unreadable { mistake, at }),
         Call::Nothing => no_call(control, Came::Nothing),
-        Call::Van(edit) => deliver::deliver(control, lent, applied, edit),
+        Call::Van(edit) => make_van(control, lent, applied, edit),
         Call::Move { session, studio } => make_move(control, lent, session, studio),
         Call::Load => make_load(control, lent),
         Call::Retire => make_retire(control, lent),

@@ -75,7 +75,7 @@ fn entry(entries: &[Entry], store: &[u8], order: &[u32])
 
 // The entries of an order, each with its verdict.
 pub fn entry_lines(entries: &[Entry], store: &[u8], order: &[u32], verdicts: &[bool])
-    requires { length order.now ≡ length verdicts.now }
+    requires { length verdicts.now ≤ length order.now }
 {
     for (i, same) in verdicts.iter().enumerate() {
         entry(entries, store, &order[i..]);
