@@ -61,8 +61,7 @@ extern "C" {
 
 /* Stack that a call keeps within, in bytes: SULYOBAK_LOAD_STACK_MOST for sulyobak_load, which works out each copy in one of its own on the
  * stack (SULYOBAK_COPY_SIZE, 10,240 bytes), SULYOBAK_STACK_MOST for every other call. Measured on a full system, not proved: examples/run
- * runs examples/c/stack.c, which fails where a call takes more. Not counted is what a dynamic linker takes (some 1,700 bytes) at the first
- * call of memcpy, memmove or memset, unless the program is linked with -z now or started with LD_BIND_NOW=1. */
+ * runs examples/c/stack.c, which fails where a call takes more. */
 #define SULYOBAK_STACK_MOST 4096
 #define SULYOBAK_LOAD_STACK_MOST 14336
 

@@ -1,8 +1,7 @@
 /*
  * Measures the stack that each call takes on a full system: the call runs on a painted stack of its own, and the bytes that have lost their
  * paint are counted, less those that a function takes that calls nothing. Ends with 0 if and only if load keeps within
- * SULYOBAK_LOAD_STACK_MOST and every other call within SULYOBAK_STACK_MOST. Run it with LD_BIND_NOW=1: else the dynamic linker's own stack is
- * counted where a call is the first to use a function of C's library.
+ * SULYOBAK_LOAD_STACK_MOST and every other call within SULYOBAK_STACK_MOST.
  */
 #define _XOPEN_SOURCE 700
 #include "sulyobak_util.h"

@@ -12,7 +12,7 @@ fn store(dst: &mut [u8], x: &[u8], at: usize, v: u32)
     requires value { (at + 2 ≤ record_size) × (v < 65536) }
     ensures { dst.new ≡ over x.now at 2 (u16_bytes v) }
 {
-    dst.copy_from_slice(x);
+    dst.copy_from_slice(&x[..Record::SIZE]);
     bytes::put_u16(dst, at, v);
 }
 

@@ -15,8 +15,8 @@ use crate::{block, rows, session};
 use carts::refusal::Refusal;
 
 // The row that stops a collect, if any.
-pub fn decide_collect(system: System, session: u32, room: usize) -> Result<(), Refusal>
-    ensures { stop_number result ≡ collect_stop system.entry.control (memory_of system.entry) session room }
+pub fn decide_collect(system: &System, session: u32, room: usize) -> Result<(), Refusal>
+    ensures { stop_number result ≡ collect_stop system.now.control (memory_of system.now) session room }
 {
     rows::stopped_by_session(system, session)?;
     let own = Session::from_bytes(session::session_at(system.sessions, session));
@@ -48,7 +48,7 @@ pub fn collect(
         log,
         sessions,
     };
-    if let Err(refusal) = decide_collect(system, session, room) {
+    if let Err(refusal) = decide_collect(&system, session, room) {
         return Reply {
             answer: Err(refusal),
             control,

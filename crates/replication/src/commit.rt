@@ -68,8 +68,8 @@ fn has_waiting(sessions: &[u8], session: u32) -> bool
 }
 
 // The row that stops a commit, if any.
-pub fn decide_commit(system: System, session: u32, operations: &[u8]) -> Result<(), Refusal>
-    ensures { stop_number result ≡ commit_stop system.entry.control (memory_of system.entry) session operations.now }
+pub fn decide_commit(system: &System, session: u32, operations: &[u8]) -> Result<(), Refusal>
+    ensures { stop_number result ≡ commit_stop system.now.control (memory_of system.now) session operations.now }
 {
     rows::stopped_by_session(system, session)?;
     if has_waiting(system.sessions, session) {
@@ -111,7 +111,7 @@ pub fn commit(
         log,
         sessions,
     };
-    if let Err(refusal) = decide_commit(system, session, operations) {
+    if let Err(refusal) = decide_commit(&system, session, operations) {
         tell_session(sessions, session, control.commits, refusal);
         return Reply {
             answer: Err(refusal),

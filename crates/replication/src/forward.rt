@@ -50,7 +50,7 @@ pub fn forward(
         log,
         sessions,
     };
-    if let Err(refusal) = read::decide_read(system, session, request, room) {
+    if let Err(refusal) = read::decide_read(&system, session, request, room) {
         return Reply {
             answer: Err(refusal),
             control,

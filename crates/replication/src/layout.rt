@@ -69,9 +69,9 @@ fn are_counts(control: Control) -> bool
 }
 
 // Control and memory are of this layout.
-pub fn is_layout(system: System) -> bool
-    requires { (length system.library.now ≡ library_size) × ((length system.log.now ≡ log_size) × (length system.sessions.now ≡ sessions_size)) }
-    ensures { result ≡ of_layout system.entry.control (memory_of system.entry) }
+pub fn is_layout(system: &System) -> bool
+    requires { (length system.now.library.now ≡ library_size) × ((length system.now.log.now ≡ log_size) × (length system.now.sessions.now ≡ sessions_size)) }
+    ensures { result ≡ of_layout system.now.control (memory_of system.now) }
 {
     let control = system.control;
     if !bytes::is_within(1, Control::STUDIOS, control.studios) {

@@ -67,13 +67,13 @@ fn are_made(system: System, copy: &mut [u8]) -> bool
 }
 
 // The row that stops a load, if any. The copy on the stack begins as the sixth (S-9).
-pub fn decide_load(system: System) -> Result<(), Refusal>
-    ensures { stop_number result ≡ load_stop system.entry.control (memory_of system.entry) }
+pub fn decide_load(system: &System) -> Result<(), Refusal>
+    ensures { stop_number result ≡ load_stop system.now.control (memory_of system.now) }
 {
     rows::stopped_by_memory(system)?;
     let mut copy = [0u8; Cart::COPY_SIZE];
     copy.copy_from_slice(copies::copy_at(system.library, Control::SIXTH));
-    if !are_made(system, &mut copy) {
+    if !are_made(*system, &mut copy) {
         return Err(Refusal::OtherCopy);
     }
     Ok(())
@@ -90,7 +90,7 @@ pub fn load(control: Control, library: &[u8], log: &[u8], sessions: &[u8]) -> Co
         log,
         sessions,
     };
-    if let Err(refusal) = decide_load(system) {
+    if let Err(refusal) = decide_load(&system) {
         return Reply {
             answer: Err(refusal),
             control,

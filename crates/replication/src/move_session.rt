@@ -15,8 +15,8 @@ use crate::{rows, session};
 use carts::refusal::Refusal;
 
 // The row that stops a move, if any.
-pub fn decide_move(system: System, session: u32, studio: u32) -> Result<(), Refusal>
-    ensures { stop_number result ≡ move_stop system.entry.control (memory_of system.entry) session studio }
+pub fn decide_move(system: &System, session: u32, studio: u32) -> Result<(), Refusal>
+    ensures { stop_number result ≡ move_stop system.now.control (memory_of system.now) session studio }
 {
     rows::stopped_by_session(system, session)?;
     rows::studio_row(system.control.studios, studio)?;
@@ -45,7 +45,7 @@ pub fn move_session(
         log,
         sessions,
     };
-    if let Err(refusal) = decide_move(system, session, studio) {
+    if let Err(refusal) = decide_move(&system, session, studio) {
         return Reply {
             answer: Err(refusal),
             control,

@@ -27,7 +27,7 @@ pub fn preview(
         log,
         sessions,
     };
-    if let Err(refusal) = commit::decide_commit(system, session, operations) {
+    if let Err(refusal) = commit::decide_commit(&system, session, operations) {
         return Reply {
             answer: Err(refusal),
             control,

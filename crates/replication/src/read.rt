@@ -15,8 +15,13 @@ use crate::{block, rows, session};
 use carts::refusal::Refusal;
 
 // The row that stops a read, if any.
-pub fn decide_read(system: System, session: u32, request: &[u8], room: usize) -> Result<(), Refusal>
-    ensures { stop_number result ≡ read_stop system.entry.control (memory_of system.entry) session request.now room }
+pub fn decide_read(
+    system: &System,
+    session: u32,
+    request: &[u8],
+    room: usize,
+) -> Result<(), Refusal>
+    ensures { stop_number result ≡ read_stop system.now.control (memory_of system.now) session request.now room }
 {
     rows::stopped_by_session(system, session)?;
     let own = Session::from_bytes(session::session_at(system.sessions, session));
@@ -53,7 +58,7 @@ pub fn read(
         log,
         sessions,
     };
-    if let Err(refusal) = decide_read(system, session, request, room) {
+    if let Err(refusal) = decide_read(&system, session, request, room) {
         return Reply {
             answer: Err(refusal),
             control,

@@ -16,8 +16,8 @@ use carts::refusal::Refusal;
 use edit_log::transaction;
 
 // The row that stops a refresh, if any.
-pub fn decide_refresh(system: System, studio: u32) -> Result<(), Refusal>
-    ensures { stop_number result ≡ refresh_stop system.entry.control (memory_of system.entry) studio }
+pub fn decide_refresh(system: &System, studio: u32) -> Result<(), Refusal>
+    ensures { stop_number result ≡ refresh_stop system.now.control (memory_of system.now) studio }
 {
     rows::stopped_by_studio(system, studio)?;
     if system.control.sent_to(studio) == system.control.applied_by(studio) {
@@ -43,7 +43,7 @@ pub fn refresh(
         log,
         sessions,
     };
-    if let Err(refusal) = decide_refresh(system, studio) {
+    if let Err(refusal) = decide_refresh(&system, studio) {
         return Reply {
             answer: Err(refusal),
             control,

@@ -32,8 +32,8 @@ fn have_applied(control: Control) -> bool
 }
 
 // The row that stops a retire, if any.
-pub fn decide_retire(system: System) -> Result<(), Refusal>
-    ensures { stop_number result ≡ retire_stop system.entry.control (memory_of system.entry) }
+pub fn decide_retire(system: &System) -> Result<(), Refusal>
+    ensures { stop_number result ≡ retire_stop system.now.control (memory_of system.now) }
 {
     rows::stopped_by_memory(system)?;
     if system.control.retired == system.control.commits {
@@ -68,7 +68,7 @@ pub fn retire(control: Control, library: &mut [u8], log: &mut [u8], sessions: &[
         log,
         sessions,
     };
-    if let Err(refusal) = decide_retire(system) {
+    if let Err(refusal) = decide_retire(&system) {
         return Reply {
             answer: Err(refusal),
             control,

@@ -23,8 +23,8 @@ pub fn are_lengths(library: &[u8], log: &[u8], sessions: &[u8]) -> bool
 }
 
 // Rows 1 and 2.
-pub fn stopped_by_memory(system: System) -> Result<(), Refusal>
-    ensures { stop_number result ≡ stopped (memory_rows system.entry.control (memory_of system.entry)) }
+pub fn stopped_by_memory(system: &System) -> Result<(), Refusal>
+    ensures { stop_number result ≡ stopped (memory_rows system.now.control (memory_of system.now)) }
 {
     if !are_lengths(system.library, system.log, system.sessions) {
         return Err(Refusal::Length);
@@ -62,18 +62,18 @@ pub fn studio_row(studios: u32, studio: u32) -> Result<(), Refusal>
 }
 
 // Rows 1 to 3 of a call that names a session.
-pub fn stopped_by_session(system: System, session: u32) -> Result<(), Refusal>
-    ensures { stop_number result ≡ stopped (memory_rows system.entry.control (memory_of system.entry)
-        ++ (session_row session (studio_of system.entry.control session) ∷ [])) }
+pub fn stopped_by_session(system: &System, session: u32) -> Result<(), Refusal>
+    ensures { stop_number result ≡ stopped (memory_rows system.now.control (memory_of system.now)
+        ++ (session_row session (studio_of system.now.control session) ∷ [])) }
 {
     stopped_by_memory(system)?;
     session_row(system.control, session)
 }
 
 // Rows 1 to 3 of a call that names a studio.
-pub fn stopped_by_studio(system: System, studio: u32) -> Result<(), Refusal>
-    ensures { stop_number result ≡ stopped (memory_rows system.entry.control (memory_of system.entry)
-        ++ (studio_row system.entry.control.studios studio ∷ [])) }
+pub fn stopped_by_studio(system: &System, studio: u32) -> Result<(), Refusal>
+    ensures { stop_number result ≡ stopped (memory_rows system.now.control (memory_of system.now)
+        ++ (studio_row system.now.control.studios studio ∷ [])) }
 {
     stopped_by_memory(system)?;
     studio_row(system.control.studios, studio)

@@ -14,8 +14,8 @@ use crate::system::System;
 use carts::refusal::Refusal;
 
 // The row that stops a send, if any.
-pub fn decide_send(system: System, studio: u32) -> Result<(), Refusal>
-    ensures { stop_number result ≡ send_stop system.entry.control (memory_of system.entry) studio }
+pub fn decide_send(system: &System, studio: u32) -> Result<(), Refusal>
+    ensures { stop_number result ≡ send_stop system.now.control (memory_of system.now) studio }
 {
     rows::stopped_by_studio(system, studio)?;
     let sent = system.control.sent_to(studio);
@@ -46,7 +46,7 @@ pub fn send(
         log,
         sessions,
     };
-    if let Err(refusal) = decide_send(system, studio) {
+    if let Err(refusal) = decide_send(&system, studio) {
         return Reply {
             answer: Err(refusal),
             control,

@@ -193,7 +193,7 @@ pub extern "C" fn sulyobak_layout(
         sessions,
     };
     Words::from(Reply {
-        answer: rows::stopped_by_memory(system),
+        answer: rows::stopped_by_memory(&system),
         control,
     })
 }

@@ -18,9 +18,9 @@ use replication::system::System;
 use replication::{rows, walk};
 
 // Rows 1, 2 and 21, and of row 17 what it says of the number: the row that stops the writer, if any.
-fn stopped_by_number(system: System, number: u32) -> Result<(), Refusal>
-    ensures { stop_number result ≡ stopped (memory_rows system.entry.control (memory_of system.entry)
-        ++ (row 21 (within 1 system.entry.control.retired number) ∷ row 17 (not (within 1 system.entry.control.commits number)) ∷ [])) }
+fn stopped_by_number(system: &System, number: u32) -> Result<(), Refusal>
+    ensures { stop_number result ≡ stopped (memory_rows system.now.control (memory_of system.now)
+        ++ (row 21 (within 1 system.now.control.retired number) ∷ row 17 (not (within 1 system.now.control.commits number)) ∷ [])) }
 {
     rows::stopped_by_memory(system)?;
     if bytes::is_within(1, system.control.retired, number) {
@@ -50,7 +50,7 @@ pub fn write(
         log,
         sessions,
     };
-    if let Err(refusal) = stopped_by_number(system, number) {
+    if let Err(refusal) = stopped_by_number(&system, number) {
         return Reply {
             answer: Err(refusal),
             control,

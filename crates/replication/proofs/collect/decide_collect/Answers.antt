@@ -16,7 +16,7 @@ returns-in_err-stopped_by_session c =
     rw (p.1, p.2) (by_first _ _ _ _ (session_numbered _ _) _ c.in_err-stopped_by_session.ensures (refuses _))
 
 pub session_at-requires : goal.session_at-requires
-session_at-requires c = session_found c.args.system.control (memory_of c.args.system) _ c.in_ok-stopped_by_session.ensures
+session_at-requires c = session_found c.args.system.now.control (memory_of c.args.system.now) _ c.in_ok-stopped_by_session.ensures
 
 pub returns-then-not-is_waiting : goal.returns-then-not-is_waiting
 returns-then-not-is_waiting c =

@@ -33,7 +33,7 @@ pub stopped_by_operations-requires : goal.stopped_by_operations-requires
 stopped_by_operations-requires c =
     let f = first_formed _ _ _ _ c.in_ok-stopped_by_session.ensures refl in
     let k = f.library.size in
-    (used_few _ _ f, length_part c.args.system.library.now 0 10240 (omega arith))
+    (used_few _ _ f, length_part c.args.system.now.library.now 0 10240 (omega arith))
 
 pub returns : goal.returns
 unfolding copy_at

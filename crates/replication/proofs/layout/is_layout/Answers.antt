@@ -28,7 +28,7 @@ returns-then-not-are_replicas c = layout_fails _ _ 4 (sym c.are_replicas.ensures
 
 pub returns-then-not-is_sixth : goal.returns-then-not-is_sixth
 unfolding layout_tests
-returns-then-not-is_sixth c = let g = c.args.system in
+returns-then-not-is_sixth c = let g = c.args.system.now in
     let e = c.is_sixth.ensures ∙ ap (sixth_form g.control.retired) c.copy_at.ensures.0 in
     layout_fails _ _ 5 (sym e ∙ c.if-not-is_sixth.true)
 
@@ -39,13 +39,13 @@ log_count-requires c =
 
 pub returns-then-not-are_chains : goal.returns-then-not-are_chains
 unfolding layout_tests
-returns-then-not-are_chains c = let g = c.args.system in
+returns-then-not-are_chains c = let g = c.args.system.now in
     let k = g.control in
     let e = c.are_chains.ensures ∙ ap (λ (n : ℕ). chains_form n g.log.now k.used k.oldest k.free_first k.free_last) c.log_count.ensures in
     layout_fails _ _ 6 (sym e ∙ c.if-not-are_chains.true)
 
 pub returns : goal.returns
-returns c = let g = c.args.system in
+returns c = let g = c.args.system.now in
     let k = g.control in
     let sixth = c.is_sixth.ensures ∙ ap (sixth_form k.retired) c.copy_at.ensures.0 in
     let chains = c.are_chains.ensures ∙ ap (λ (n : ℕ). chains_form n g.log.now k.used k.oldest k.free_first k.free_last) c.log_count.ensures in

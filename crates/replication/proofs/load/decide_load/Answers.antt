@@ -39,14 +39,14 @@ are_made-requires c =
 -- the walk begins with the sixth copy
 pub returns-then-not-are_made : goal.returns-then-not-are_made
 returns-then-not-are_made c =
-    let g = c.args.system in
+    let g = c.args.system.now in
     let walked = sym (c.are_made.ensures ∙ ap (λ (x : List ℕ). are_level g.control g.library.now x g.control.retired
     && whole_from g.control g.library.now g.log.now (log_count g.control) g.control.retired g.control.oldest x) (c.copy_from_slice.ensures.after ∙ c.copy_at.ensures.0)) in
     not_whole _ _ (memory_formed _ _ _ c.in_ok-stopped_by_memory.ensures refl) _ c.in_ok-stopped_by_memory.ensures refl (walked ∙ c.if-not-are_made.true)
 
 pub returns : goal.returns
 returns c =
-    let g = c.args.system in
+    let g = c.args.system.now in
     let walked = sym (c.are_made.ensures ∙ ap (λ (x : List ℕ). are_level g.control g.library.now x g.control.retired
     && whole_from g.control g.library.now g.log.now (log_count g.control) g.control.retired g.control.oldest x) (c.copy_from_slice.ensures.after ∙ c.copy_at.ensures.0)) in
     all_whole _ _ (memory_formed _ _ _ c.in_ok-stopped_by_memory.ensures refl) _ c.in_ok-stopped_by_memory.ensures refl (walked ∙ c.if-not-are_made.false)
