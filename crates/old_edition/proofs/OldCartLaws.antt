@@ -1,16 +1,16 @@
 -- Laws of old carts: laid out as ours, they are ours with 32 zeros more.
 use Prim.Native.Nat.{ℕ, ◌+◌, ◌-◌, ◌≤◌}
 use mathlib.Core.Path.{◌≡◌, refl, sym, ap, ◌∙◌}
-use mathlib.Core.Bool.{Bool, true, false, not, ◌&&◌, ◌||◌, and-true, and-false}
+use mathlib.Core.Bool.{Bool, true, false, not, ◌&&◌, ◌||◌, and-true, and-false, or-false}
 use mathlib.Core.List.{List, [], ◌∷◌, ◌++◌}
 use native.Mathlib.Omega.{arith}
 use lib.Dec.{leb, ltb, eqb}
 use lib.ListN.{length, take, drop, length-append, length-drop, take-append-drop, get_or-append}
 use lib.Seq.{take_all, take-append-le, drop-append-le, take_at, drop-drop, get_or-take, length-take-le}
 use Rattle.std.proofs.lemmas.Bool.Decides.{nat_tests}
-use borrow.Author.Tests.{leb-true, le-leb}
+use borrow.Author.Tests.{leb-true, le-leb, ne_eqb}
 use Rattle.carts.specs.Bytes.{zeros, part, byte, u16, u32, within, all, every, all_zero}
-use Rattle.carts.specs.Cart.{title_in, title_form, has_title, has_audio, held, held_form, cart_form}
+use Rattle.carts.specs.Cart.{printable, title_in, title_form, has_title, has_audio, held, held_form, cart_form}
 use Rattle.carts.proofs.TestLaws.{and_left, and_right, all_at, all_fails}
 use Rattle.carts.proofs.ZeroLaws.{length_zeros, zero_zeros, zero_first, zeros_of, zero_drop}
 use Rattle.carts.proofs.FieldLaws.{Head, bytes, by_fields}
@@ -48,6 +48,25 @@ joined z a b t d e true f = sym (and-true (z || all (a ∷ b ∷ t ∷ d ∷ e �
 joined true a b t d e false f = sym (f refl)
 joined false a b t d e false f = all_fails 2 (a ∷ b ∷ false ∷ d ∷ e ∷ []) refl ∙ sym (and-false (all (a ∷ b ∷ t ∷ d ∷ e ∷ [])))
 
+-- the tests of a title and of the audio, as the code joins them
+pub old_title : (n : ℕ) (t : List ℕ) (ok : Bool) → ok ≡ (every printable (take n t) && all_zero (drop n t)) → ((leb 1 n && leb n 32) && ok) ≡ title_in 32 n t
+unfolding within all
+old_title n t ok e = rw (e, and-true (all_zero (drop n t)))
+
+pub old_audio : (s : List ℕ) → (leb 1 (u32 s 4) && leb 1 (u32 s 8)) ≡ has_audio s
+unfolding has_audio all
+old_audio s = rw (and-true (leb 1 (u32 s 8)))
+
+-- an old cart's first byte says which form it must have
+pub old_empty : (c : ℕ) (s : List ℕ) → byte s 0 ≡ 0 → old_cart_form c s ≡ all_zero s
+unfolding old_cart_form old_held_form held all
+old_empty c s e = rw e (or-false (all_zero s))
+
+pub old_held : (c : ℕ) (s : List ℕ) → (byte s 0 ≡ 0 → ⊥) → old_cart_form c s ≡ old_held_form c s
+unfolding old_cart_form all_zero every
+old_held c [] h = absurd (h refl)
+old_held c (x ∷ s) h = rw (ne_eqb x 0 h)
+
 laid_out_head : (c : ℕ) (h : Head) (t : List ℕ) → length t ≡ 32 → old_cart_form c (bytes h t) ≡ (cart_form c (bytes h t ++ zeros 32) && leb h.b1 32)
 unfolding old_cart_form old_held_form has_old_title cart_form held_form has_title title_form held has_audio u16 u32
 laid_out_head c h t l =
@@ -62,7 +81,7 @@ laid_out c old l =
     by_fields (λ (s : List ℕ). length s ≡ 48 → old_cart_form c s ≡ (cart_form c (s ++ zeros 32) && leb (byte s 1) 32)) 32
     (λ h t g e. laid_out_head c h t (omega arith)) old (omega arith) l
 
--- and as the code tests it
+-- and by the test of a long title
 not-ltb : (a b : ℕ) → not (ltb a b) ≡ leb b a
 not-ltb a b = grind (arith, nat_tests)
 
