@@ -49,12 +49,15 @@ pub fn same_letter(a: u8, b: u8) -> bool
 }
 
 // Two parts of one length have the same letters.
-#[tactic(auto, unfolding(crate::specs::Title::same_letter))]
 fn are_same_letters(a: &[u8], b: &[u8]) -> bool
     requires { length a.now ≡ length b.now }
     ensures { result ≡ pairwise same_letter a.now b.now }
 {
-    bytes::are_equal(a, b)
+    let mut ok = true;
+    for (x, y) in a.iter().zip(b) {
+        ok &= same_letter(*x, *y);
+    }
+    ok
 }
 
 // How many letters at the front are passed over: blocks of eight, as long as all eight are the same. The index is the answer, so
