@@ -7,9 +7,10 @@ use crate::text::{Class, NumberError};
 use carts::bytes;
 use std::marker::Model;
 
-// What can be wrong with a line.
+// What can be wrong with a line. No line has None: it is the mistake by which a caller's own cursor stops with no word for it.
 #[derive(Clone, Copy)]
 pub enum Mistake {
+    None,
     UnknownWord,
     UnknownOperation,
     NumberMissing,
@@ -39,8 +40,16 @@ impl From<NumberError> for Mistake {
     }
 }
 
-// A line, the place of its next byte, and the first mistake, where something was wrong.
-#[derive(Drop)]
+// Where a cursor stands, with its first mistake: a value that can be copied, kept and gone on from.
+#[derive(Clone, Copy)]
+pub struct Place {
+    pub at: usize,
+    pub mistake: Option<Mistake>,
+}
+
+// A line, the place of its next byte, and the first mistake, where something was wrong. No Copy, which a struct with a lifetime and a
+// Model cannot have: a Place is copied.
+#[derive(Clone, Drop)]
 pub struct Cursor<'a> {
     line: &'a [u8],
     at: usize,
@@ -69,6 +78,27 @@ impl<'a> Cursor<'a> {
             line,
             at,
             mistake: None,
+        }
+    }
+
+    // As another cursor over the line left it.
+    pub fn resume(line: &'a [u8], place: Place) -> Cursor<'a>
+        ensures { result ≡ reading line.now place.at place.mistake }
+    {
+        Cursor {
+            line,
+            at: place.at,
+            mistake: place.mistake,
+        }
+    }
+
+    // Where it stands.
+    pub fn place(&self) -> Place
+        ensures { (result.at ≡ self.now.at) × (result.mistake ≡ self.now.mistake) }
+    {
+        Place {
+            at: self.at,
+            mistake: self.mistake,
         }
     }
 

@@ -8,46 +8,52 @@ use journal::history;
 use journal::history::{Entry, Kind};
 use lines::text;
 use words::line;
+use words::page::Page;
 
-// An operation, after the one before it.
-fn operation(op: &[u8], is_first: bool) {
+// An operation, after the one before it. The page, here and below, is room for the words.
+fn operation(page: &mut Page, op: &[u8], is_first: bool) {
     if op.len() != Entry::SLOT {
         return;
     }
     if !is_first {
         line::words(b",");
     }
-    line::told(&order::operation(op));
+    order::operation(page, op);
+    line::told(page);
 }
 
 // So many operations, from a slot of the store on.
-fn operations(store: &[u8], first: u32, slots: u32) {
+fn operations(page: &mut Page, store: &[u8], first: u32, slots: u32) {
     for i in 0..slots {
         let start = Entry::SLOT * (first as usize + i as usize);
-        operation(text::part_of(store, start, Entry::SLOT), i == 0);
+        operation(page, text::part_of(store, start, Entry::SLOT), i == 0);
     }
 }
 
 // A commit's number, or at which edit it was refused, and its operations.
-fn edit(e: Entry, store: &[u8]) {
-    line::told(&order::edit(e));
-    operations(store, e.first, e.slots);
+fn edit(page: &mut Page, e: Entry, store: &[u8]) {
+    order::edit(page, e);
+    line::told(page);
+    operations(page, store, e.first, e.slots);
 }
 
 // What a read asked for.
-fn asked(e: Entry, request: &[u8]) {
+fn asked(page: &mut Page, e: Entry, request: &[u8]) {
     if request.len() == Entry::SLOT {
-        line::told(&order::asked(e, request));
+        order::asked(page, e, request);
+        line::told(page);
     }
 }
 
 // What a read asked for and was shown, with the next accepted commit of the order; with the read itself where there is none.
-fn read(e: Entry, store: &[u8], next: Option<Entry>) {
+fn read(page: &mut Page, e: Entry, store: &[u8], next: Option<Entry>) {
     asked(
+        page,
         e,
         text::part_of(store, Entry::SLOT * (e.first as usize), Entry::SLOT),
     );
-    line::told(&order::shown(e, next.unwrap_or(e)));
+    order::shown(page, e, next.unwrap_or(e));
+    line::told(page);
 }
 
 // The first accepted commit of an order.
@@ -62,14 +68,14 @@ fn next_commit(entries: &[Entry], order: &[u32]) -> Option<Entry> {
 }
 
 // What the first entry of an order did.
-fn entry(entries: &[Entry], store: &[u8], order: &[u32])
+fn entry(page: &mut Page, entries: &[Entry], store: &[u8], order: &[u32])
     requires { 0 < length order.now }
 {
     let e = history::entry_at(entries, order[0]);
     if e.is_commit() {
-        edit(e, store);
+        edit(page, e, store);
     } else {
-        read(e, store, next_commit(entries, order));
+        read(page, e, store, next_commit(entries, order));
     }
 }
 
@@ -77,21 +83,28 @@ fn entry(entries: &[Entry], store: &[u8], order: &[u32])
 pub fn entry_lines(entries: &[Entry], store: &[u8], order: &[u32], verdicts: &[bool])
     requires { length verdicts.now ≤ length order.now }
 {
+    let order = &order[..verdicts.len()];
+    let mut page = Page::new();
     for (i, same) in verdicts.iter().enumerate() {
-        entry(entries, store, &order[i..]);
-        line::told(&order::same(*same));
+        entry(&mut page, entries, store, &order[i..]);
+        order::same(&mut page, *same);
+        line::told(&page);
     }
 }
 
 // What the comparison came to: of so many entries, so many were compared, and so many differ.
 pub fn verdict(entries: u32, compared: u32, differ: u32) {
-    line::told(&order::verdict(entries, compared, differ));
+    let mut page = Page::new();
+    order::verdict(&mut page, entries, compared, differ);
+    line::told(&page);
 }
 
 // Answers that the history had no room for, where there are any.
 pub fn left_out(answers: u32) {
     if answers != 0 {
-        line::told(&order::left_out(answers));
+        let mut page = Page::new();
+        order::left_out(&mut page, answers);
+        line::told(&page);
     }
 }
 
@@ -128,5 +141,7 @@ fn count_kinds(entries: &[Entry], n: u32) -> Kinds
 // The order of n entries begins.
 pub fn heading(entries: &[Entry], n: u32) {
     let kinds = count_kinds(entries, n);
-    line::told(&order::heading(kinds.edits, kinds.refusals, kinds.reads));
+    let mut page = Page::new();
+    order::heading(&mut page, kinds.edits, kinds.refusals, kinds.reads);
+    line::told(&page);
 }

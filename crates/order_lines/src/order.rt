@@ -24,54 +24,50 @@ fn put_refusals(page: &mut Page, n: u32)
 }
 
 // The order begins.
-pub fn heading(edits: u32, refusals: u32, reads: u32) -> Page
-    ensures { result ≡ order_text edits refusals reads }
+pub fn heading(page: &mut Page, edits: u32, refusals: u32, reads: u32)
+    ensures { page.new ≡ order_text edits refusals reads }
 {
-    let mut page = Page::new();
+    page.clear();
     page.put_counted(b"One-copy order of ", edits, b"edit");
-    put_refusals(&mut page, refusals);
+    put_refusals(page, refusals);
     page.put_counted(b" and ", reads, b"read");
     page.put(b":\n");
-    page
 }
 
 // An entry's line and session.
-fn place(e: Entry) -> Page
-    ensures text { result ≡ place_text e }
-    ensures fits { length result ≤ 64 }
+fn place(page: &mut Page, e: Entry)
+    ensures text { page.new ≡ place_text e }
+    ensures fits { length page.new ≤ 64 }
 {
-    let mut page = Page::new();
+    page.clear();
     page.put_pair(b"  line ", e.line, b", session ", e.session);
-    page
 }
 
 // A commit, accepted or refused with 8, before its operations.
-pub fn edit(e: Entry) -> Page
-    ensures { result ≡ edit_text e }
+pub fn edit(page: &mut Page, e: Entry)
+    ensures { page.new ≡ edit_text e }
 {
-    let mut page = place(e);
+    place(page, e);
     if e.kind == Kind::Refused {
         page.put_between(b": refused (8) at edit ", e.number, b":");
     } else {
         page.put_between(b": edit ", e.number, b":");
     }
-    page
 }
 
 // An operation of a commit, and its cart.
-pub fn operation(op: &[u8]) -> Page
+pub fn operation(page: &mut Page, op: &[u8])
     requires { length op.now ≡ cart_size }
-    ensures { result ≡ operation_text op.now }
+    ensures { page.new ≡ operation_text op.now }
 {
     let cart = bytes::u16_at(op, 2);
-    let mut page = Page::new();
+    page.clear();
     match kind::Kind::of(op[0]) {
         Some(kind::Kind::New) => page.put_numbered(b" new cart ", cart),
         Some(kind::Kind::Retitle) => page.put_numbered(b" retitle cart ", cart),
         Some(kind::Kind::Recut) => page.put_numbered(b" re-cut cart ", cart),
         _ => page.put_numbered(b" withdraw cart ", cart),
     }
-    page
 }
 
 // What a request asks for. Any byte but 1 stands for a title here, so no kind is made of it.
@@ -90,13 +86,12 @@ fn put_request(page: &mut Page, request: &[u8])
 }
 
 // A read, and what it asked for.
-pub fn asked(e: Entry, request: &[u8]) -> Page
+pub fn asked(page: &mut Page, e: Entry, request: &[u8])
     requires { length request.now ≡ cart_size }
-    ensures { result ≡ asked_text e request.now }
+    ensures { page.new ≡ asked_text e request.now }
 {
-    let mut page = place(e);
-    put_request(&mut page, request);
-    page
+    place(page, e);
+    put_request(page, request);
 }
 
 // Why a read stands before the next accepted commit of the order, where that is on an earlier line.
@@ -115,27 +110,25 @@ fn put_reason(page: &mut Page, e: Entry, next: Entry)
 }
 
 // What a read was shown, and why it stands where it does.
-pub fn shown(e: Entry, next: Entry) -> Page
-    ensures { result ≡ shown_text e next }
+pub fn shown(page: &mut Page, e: Entry, next: Entry)
+    ensures { page.new ≡ shown_text e next }
 {
-    let mut page = Page::new();
+    page.clear();
     page.put_pair(b", shown edit ", e.number, b" (found ", e.found);
     page.put(b")");
-    put_reason(&mut page, e, next);
-    page
+    put_reason(page, e, next);
 }
 
 // The end of an entry's line: whether its answer is the same on a single library.
-pub fn same(same: bool) -> Page
-    ensures { result ≡ same_text same }
+pub fn same(page: &mut Page, same: bool)
+    ensures { page.new ≡ same_text same }
 {
-    let mut page = Page::new();
+    page.clear();
     if same {
         page.put(b"\n");
     } else {
         page.put(b": DIFFERENT on a single library\n");
     }
-    page
 }
 
 // How many answers differ, and how many were to be compared.
@@ -148,25 +141,23 @@ fn put_unlike(page: &mut Page, entries: u32, differ: u32)
 }
 
 // What the comparison came to: of so many entries, so many were compared, and so many answers differ.
-pub fn verdict(entries: u32, compared: u32, differ: u32) -> Page
-    ensures { result ≡ verdict_text entries compared differ }
+pub fn verdict(page: &mut Page, entries: u32, compared: u32, differ: u32)
+    ensures { page.new ≡ verdict_text entries compared differ }
 {
-    let mut page = Page::new();
+    page.clear();
     page.put_counted(b"  ", compared, b"answer");
     if (differ == 0) & (compared == entries) {
         page.put(b", each the same on a single library\n");
     } else {
-        put_unlike(&mut page, entries, differ);
+        put_unlike(page, entries, differ);
     }
-    page
 }
 
 // Answers that the history had no room for.
-pub fn left_out(n: u32) -> Page
-    ensures { result ≡ left_out_text n }
+pub fn left_out(page: &mut Page, n: u32)
+    ensures { page.new ≡ left_out_text n }
 {
-    let mut page = Page::new();
+    page.clear();
     page.put_counted(b"  left out for want of room: ", n, b"later answer");
     page.put(b"\n");
-    page
 }

@@ -11,12 +11,14 @@ use lines::text;
 use replication::answer::CountAnswer;
 use report::show;
 use report::turn::Came;
+use words::page::Page;
 
 // A preview or a commit was answered, with its operations at the start of the payload.
 #[inline(never)]
 fn tell_edit(previews: bool, answer: CountAnswer, session: u32, operations: u32, seen: Seen) {
     let ops = text::part_of(seen.payload, 0, Record::SIZE * (operations as usize));
-    answer::edited(previews, answer, seen.library, session, ops);
+    let mut page = Page::new();
+    answer::edited(&mut page, previews, answer, seen.library, session, ops);
 }
 
 // A read, a collect, a forward, a move, a load or a retire was answered, a line shows the state or cannot be read, or an edit's message
@@ -24,25 +26,33 @@ fn tell_edit(previews: bool, answer: CountAnswer, session: u32, operations: u32,
 #[inline(never)]
 fn tell_other(before: Progress, came: Came, seen: Seen) {
     let control = before.control;
+    let mut page = Page::new();
     match came {
-        Came::Read { answer, session } => answer::read(answer, control, session, seen.block),
+        Came::Read { answer, session } => {
+            answer::read(&mut page, answer, control, session, seen.block);
+        }
         Came::Show => show::show(
+            &mut page,
             control,
             seen.library,
             seen.sessions,
             seen.copy,
             before.van_applied,
         ),
-        Came::Unreadable { mistake, at } => refusals::print::unreadable(before.line, mistake, at),
-        Came::Unwritten { refusal, edit } => refusals::print::refusal_of_edit(refusal, edit),
-        Came::Received { result, edit } => answer::received(result, edit),
+        Came::Unreadable { mistake, at } => {
+            refusals::print::unreadable(&mut page, before.line, mistake, at);
+        }
+        Came::Unwritten { refusal, edit } => {
+            refusals::print::refusal_of_edit(&mut page, refusal, edit);
+        }
+        Came::Received { result, edit } => answer::received(&mut page, result, edit),
         Came::Move {
             answer,
             session,
             studio,
-        } => answer::moved(answer, control, session, studio),
-        Came::Load(answer) => answer::loaded(answer),
-        Came::Retire { answer, used } => answer::retired(answer, used),
+        } => answer::moved(&mut page, answer, control, session, studio),
+        Came::Load(answer) => answer::loaded(&mut page, answer),
+        Came::Retire { answer, used } => answer::retired(&mut page, answer, used),
         _ => {}
     }
 }

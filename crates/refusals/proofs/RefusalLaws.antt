@@ -1,5 +1,5 @@
--- A law of the sentences of refusals.
-use Rattle.std.proofs.Common.{◌≡◌, ℕ, ◌<◌, ◌≤◌, false, eqb, refl, arith, ne_eqb}
+-- Laws of the sentences of refusals.
+use Rattle.std.proofs.Common.{◌≡◌, ℕ, zero, suc, ◌<◌, ◌≤◌, false, eqb, refl, arith, ne_eqb}
 use Rattle.lines.specs.Words.{bytes_of}
 use Rattle.refusals.specs.Sentences.{refusal_sentence}
 
@@ -10,3 +10,9 @@ no_refusal n h = rw (other 1 (omega arith), other 2 (omega arith), other 3 (omeg
   where
     other : (i : ℕ) → i < 24 → eqb n i ≡ false
     other i l = ne_eqb n i (λ e. omega arith)
+
+-- nor a refusal 0: a number that no row has is not known
+pub no_row : (n : ℕ) → (1 ≤ n → 23 < n) → refusal_sentence n ≡ bytes_of "unknown"
+unfolding refusal_sentence
+no_row zero h = refl
+no_row (suc n) h = no_refusal (suc n) (h (omega arith))

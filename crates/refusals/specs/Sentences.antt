@@ -1,7 +1,7 @@
 -- What a refusal and a mistake mean.
 use Rattle.std.specs.Prelude.{ℕ, cond, List, ◌==◌}
 use Rattle.lines.specs.declared.cursor.Mistake.{Mistake}
-use Rattle.lines.specs.declared.cursor.Mistake.TheVariants.{UnknownWord, UnknownOperation, NumberMissing, NumberTooLarge, ColonMissing, AudioMissing, LengthMissing, ToMissing, TitleMissing, TitleOpen, TitleEmpty, TitleTooLong, TitleUnprintable, TooManyOperations, TooManyNumbers, TooMuch}
+use Rattle.lines.specs.declared.cursor.Mistake.TheVariants.{None, UnknownWord, UnknownOperation, NumberMissing, NumberTooLarge, ColonMissing, AudioMissing, LengthMissing, ToMissing, TitleMissing, TitleOpen, TitleEmpty, TitleTooLong, TitleUnprintable, TooManyOperations, TooManyNumbers, TooMuch}
 use Rattle.lines.specs.Words.{bytes_of}
 
 -- what a refusal means, by its number in documents 01 and 02
@@ -32,6 +32,7 @@ refusal_sentence n =
 
 -- what is wrong with a line
 abbrev pub mistake_sentence : Mistake → List ℕ
+mistake_sentence None = bytes_of "nothing is wrong"
 mistake_sentence UnknownWord = bytes_of "the line begins with none of setup, commit, preview, send, refresh, read, collect, forward, move, load, retire, van, show"
 mistake_sentence UnknownOperation = bytes_of "an operation begins with new, retitle, re-cut or withdraw"
 mistake_sentence NumberMissing = bytes_of "a number is missing"

@@ -12,6 +12,7 @@ fn sentence(mistake: Mistake) -> &'static [u8]
     ensures fits { length result.now ≤ 128 }
 {
     match mistake {
+        Mistake::None => b"nothing is wrong",
         Mistake::UnknownWord =>
             b"the line begins with none of setup, commit, preview, send, refresh, read, collect, forward, move, load, retire, van, show",
         Mistake::UnknownOperation => b"an operation begins with new, retitle, re-cut or withdraw",
@@ -34,14 +35,13 @@ fn sentence(mistake: Mistake) -> &'static [u8]
 
 // A line that is no call, by its number, with the column of the mistake and what it is.
 #[tactic(auto, unfolding(crate::specs::Refusals::unreadable_text))]
-pub fn unreadable(line: u32, column: u64, mistake: Mistake) -> Page
-    ensures { result ≡ unreadable_text line column mistake }
+pub fn unreadable(page: &mut Page, line: u32, column: u64, mistake: Mistake)
+    ensures { page.new ≡ unreadable_text line column mistake }
 {
-    let mut page = Page::new();
+    page.clear();
     page.put_between(b"  line ", line, b", column ");
     page.put_long(column);
     page.put(b" cannot be read: ");
     page.put(sentence(mistake));
     page.put(b"\n");
-    page
 }

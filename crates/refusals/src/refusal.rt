@@ -1,7 +1,7 @@
 // Refusals in words.
 #![tactic(auto, unfolding(crate::specs::Refusals::lead_of, crate::specs::Refusals::refusal_text, crate::specs::Refusals::no_session_text, crate::specs::Refusals::no_studio_text, crate::specs::Refusals::no_edit_text, crate::specs::Refusals::retired_edit_text, crate::specs::Refusals::ahead_text, crate::specs::Refusals::at_operation_text))]
 
-ghost use Rattle.std.specs.Prelude.{◌≡◌, ◌≤◌, length};
+ghost use Rattle.std.specs.Prelude.{◌≡◌, ◌<◌, ◌≤◌, length, MatchOption};
 ghost use Rattle.carts.specs.Refusal.{refusal_number};
 ghost use Rattle.refusals.specs.Sentences.{refusal_sentence};
 ghost use Rattle.refusals.specs.Refusals.{lead_of, refusal_text, no_session_text, no_studio_text, no_edit_text, retired_edit_text, ahead_text, at_operation_text};
@@ -49,90 +49,126 @@ fn sentence(refusal: Refusal) -> &'static [u8]
     }
 }
 
-// A page that begins as the refusal of a preview does, or of any other call. A flag: the texts differ in this alone.
-fn begun(previews: bool) -> Page
-    ensures { result ≡ lead_of previews }
+// The refusal of a number, none where no row has it.
+fn refusal_of(n: u32) -> Option<Refusal>
+    ensures { MatchOption result (1 ≤ n → 23 < n) (λ refusal. n ≡ refusal_number refusal) }
 {
-    let mut page = Page::new();
+    match n {
+        1 => Some(Refusal::Length),
+        2 => Some(Refusal::Layout),
+        3 => Some(Refusal::NoSuchPlace),
+        4 => Some(Refusal::ReadWaits),
+        5 => Some(Refusal::OperationCount),
+        6 => Some(Refusal::OperationForm),
+        7 => Some(Refusal::NoRoom),
+        8 => Some(Refusal::WrongState),
+        9 => Some(Refusal::AllSent),
+        10 => Some(Refusal::WindowFull),
+        11 => Some(Refusal::AllApplied),
+        12 => Some(Refusal::RequestForm),
+        13 => Some(Refusal::ShortOutput),
+        14 => Some(Refusal::NothingWaits),
+        15 => Some(Refusal::SetupForm),
+        16 => Some(Refusal::SpacedTitle),
+        17 => Some(Refusal::NoMessage),
+        18 => Some(Refusal::NotNext),
+        19 => Some(Refusal::OtherCopy),
+        20 => Some(Refusal::NotRetirable),
+        21 => Some(Refusal::RetiredEdit),
+        22 => Some(Refusal::FileForm),
+        23 => Some(Refusal::LongTitle),
+        _ => None,
+    }
+}
+
+// What the refusal of a number means; of a number that no row has, it is not known.
+#[tactic(auto, using(crate::proofs::RefusalLaws::no_row))]
+fn sentence_of(n: u32) -> &'static [u8]
+    ensures text { result.now ≡ refusal_sentence n }
+    ensures fits { length result.now ≤ 128 }
+{
+    match refusal_of(n) {
+        Some(refusal) => sentence(refusal),
+        None => b"unknown",
+    }
+}
+
+// A page that begins as the refusal of a preview does, or of any other call. A flag: the texts differ in this alone.
+fn begun(page: &mut Page, previews: bool)
+    ensures { page.new ≡ lead_of previews }
+{
+    page.clear();
     if previews {
         page.put(b"  would be ");
     } else {
         page.put(b"  ");
     }
-    page
 }
 
 // A refusal by its number, and what it means; it is that of a preview, or of any other call.
-pub fn refusal(previews: bool, refusal: Refusal) -> Page
-    ensures { result ≡ refusal_text previews (refusal_number refusal) }
+pub fn refusal(page: &mut Page, previews: bool, n: u32)
+    ensures { page.new ≡ refusal_text previews n }
 {
-    let mut page = begun(previews);
-    page.put_between(b"refused (", refusal.number(), b"): ");
-    page.put(sentence(refusal));
+    begun(page, previews);
+    page.put_between(b"refused (", n, b"): ");
+    page.put(sentence_of(n));
     page.put(b"\n");
-    page
 }
 
 // Refusal 3 of a call that names a session.
-pub fn no_session(previews: bool, session: u32) -> Page
-    ensures { result ≡ no_session_text previews session }
+pub fn no_session(page: &mut Page, previews: bool, session: u32)
+    ensures { page.new ≡ no_session_text previews session }
 {
-    let mut page = begun(previews);
+    begun(page, previews);
     page.put_between(
         b"refused (3): there is no session ",
         session,
         b", or it is unused\n",
     );
-    page
 }
 
 // Refusal 3 of a call that names a studio.
-pub fn no_studio(studio: u32) -> Page
-    ensures { result ≡ no_studio_text studio }
+pub fn no_studio(page: &mut Page, studio: u32)
+    ensures { page.new ≡ no_studio_text studio }
 {
-    let mut page = Page::new();
+    page.clear();
     page.put_between(b"  refused (3): there is no studio ", studio, b"\n");
-    page
 }
 
 // Refusal 17 of an edit whose message cannot be written.
-pub fn no_edit(edit: u32) -> Page
-    ensures { result ≡ no_edit_text edit }
+pub fn no_edit(page: &mut Page, edit: u32)
+    ensures { page.new ≡ no_edit_text edit }
 {
-    let mut page = Page::new();
+    page.clear();
     page.put_between(b"  refused (17): there is no edit ", edit, b"\n");
-    page
 }
 
 // Refusal 21 of a retired edit, whose message cannot be written.
-pub fn retired_edit(edit: u32) -> Page
-    ensures { result ≡ retired_edit_text edit }
+pub fn retired_edit(page: &mut Page, edit: u32)
+    ensures { page.new ≡ retired_edit_text edit }
 {
-    let mut page = Page::new();
+    page.clear();
     page.put_between(
         b"  refused (21): edit ",
         edit,
         b" is retired, and its message can no longer be written\n",
     );
-    page
 }
 
 // Refusal 18 of the message of an edit, by a van that has applied so many.
-pub fn ahead(applied: u32, edit: u32) -> Page
-    ensures { result ≡ ahead_text applied edit }
+pub fn ahead(page: &mut Page, applied: u32, edit: u32)
+    ensures { page.new ≡ ahead_text applied edit }
 {
-    let mut page = Page::new();
+    page.clear();
     page.put_counted(b"  refused (18): the van has applied ", applied, b"edit");
     page.put_between(b", and edit ", edit, b" is not the next\n");
-    page
 }
 
 // The operation for which a commit is refused, counted from 1, and its cart.
-pub fn at_operation(i: u32, cart: u32) -> Page
-    ensures { result ≡ at_operation_text i cart }
+pub fn at_operation(page: &mut Page, i: u32, cart: u32)
+    ensures { page.new ≡ at_operation_text i cart }
 {
-    let mut page = Page::new();
+    page.clear();
     page.put_numbered(b"    it is operation ", i);
     page.put_between(b" of the commit, on cart ", cart, b"\n");
-    page
 }

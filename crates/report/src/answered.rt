@@ -25,11 +25,12 @@ fn applied_for(control: Control, session: u32) -> u32
 
 // An answer at a state, with so many carts found: the studio's where it has applied so many, else the head end's.
 #[tactic(auto, unfolding(crate::specs::Answered::answer_text))]
-pub fn answered(control: Control, session: u32, state: u32, found: u32) -> Page
-    ensures { result ≡ answer_text control session state found }
+pub fn answered(page: &mut Page, control: Control, session: u32, state: u32, found: u32)
+    ensures { page.new ≡ answer_text control session state found }
 {
     if state == applied_for(control, session) {
-        return answer::answered(state, answer::behind(control.commits, state), found);
+        answer::answered(page, state, answer::behind(control.commits, state), found);
+    } else {
+        answer::by_head_end(page, state, found);
     }
-    answer::by_head_end(state, found)
 }

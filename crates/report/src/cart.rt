@@ -19,33 +19,30 @@ fn put_recording(page: &mut Page, audio: u32, milliseconds: u32)
 }
 
 // What a held cart has, from its 80 bytes.
-pub fn held(cart: &[u8]) -> Page
+pub fn held(page: &mut Page, cart: &[u8])
     requires { length cart.now ≡ cart_size }
-    ensures { result ≡ cart_text cart.now }
+    ensures { page.new ≡ cart_text cart.now }
 {
     let fields = Cart::from_bytes(cart);
-    let mut page = Page::new();
+    page.clear();
     page.put_numbered(b"    cart ", fields.number);
     page.put(b" ");
     page.put_title(cart, fields.title_length);
-    put_recording(&mut page, fields.audio, fields.milliseconds);
-    page
+    put_recording(page, fields.audio, fields.milliseconds);
 }
 
 // A cart that was asked for and is empty.
-pub fn empty(n: u32) -> Page
-    ensures { result ≡ empty_text n }
+pub fn empty(page: &mut Page, n: u32)
+    ensures { page.new ≡ empty_text n }
 {
-    let mut page = Page::new();
+    page.clear();
     page.put_between(b"    cart ", n, b" is empty\n");
-    page
 }
 
 // A copy in which no cart is held.
-pub fn none() -> Page
-    ensures { result ≡ no_cart_text }
+pub fn none(page: &mut Page)
+    ensures { page.new ≡ no_cart_text }
 {
-    let mut page = Page::new();
+    page.clear();
     page.put(b"    no cart is held\n");
-    page
 }

@@ -11,12 +11,11 @@ use words::page::Page;
 use words::{answer, request};
 
 // There is no system.
-pub fn no_system() -> Page
-    ensures { result ≡ no_system_text }
+pub fn no_system(page: &mut Page)
+    ensures { page.new ≡ no_system_text }
 {
-    let mut page = Page::new();
+    page.clear();
     page.put(b"  there is no system yet\n");
-    page
 }
 
 // How many edits are retired, where any are.
@@ -31,37 +30,34 @@ fn put_retired(page: &mut Page, retired: u32)
 }
 
 // The head end's counts.
-pub fn head_end(commits: u32, retired: u32, used: u32) -> Page
-    ensures { result ≡ head_text commits retired used }
+pub fn head_end(page: &mut Page, commits: u32, retired: u32, used: u32)
+    ensures { page.new ≡ head_text commits retired used }
 {
-    let mut page = Page::new();
+    page.clear();
     page.put_counted(b"  head end: ", commits, b"edit");
-    put_retired(&mut page, retired);
+    put_retired(page, retired);
     page.put_between(b", ", used, b" of 512 log records\n");
-    page
 }
 
 // A studio's counts, and how many edits its copy is behind the head end.
-pub fn studio(i: u32, sent: u32, applied: u32, behind: u32) -> Page
-    ensures { result ≡ studio_text i sent applied behind }
+pub fn studio(page: &mut Page, i: u32, sent: u32, applied: u32, behind: u32)
+    ensures { page.new ≡ studio_text i sent applied behind }
 {
-    let mut page = Page::new();
+    page.clear();
     page.put_pair(b"  studio ", i, b": sent ", sent);
     page.put_numbered(b", applied ", applied);
-    answer::put_behind(&mut page, behind);
+    answer::put_behind(page, behind);
     page.put(b"\n");
-    page
 }
 
 // How many edits the van has applied, and how many its copy is behind the head end.
-pub fn van(applied: u32, behind: u32) -> Page
-    ensures { result ≡ van_text applied behind }
+pub fn van(page: &mut Page, applied: u32, behind: u32)
+    ensures { page.new ≡ van_text applied behind }
 {
-    let mut page = Page::new();
+    page.clear();
     page.put_numbered(b"  van: applied ", applied);
-    answer::put_behind(&mut page, behind);
+    answer::put_behind(page, behind);
     page.put(b"\n");
-    page
 }
 
 // The edit that a session's read waits for, and the line's end.
@@ -94,22 +90,20 @@ fn put_waiting(page: &mut Page, own: &[u8])
 }
 
 // A session at a studio, from its 80 bytes: its number and its waiting read.
-pub fn session(j: u32, studio: u32, own: &[u8]) -> Page
+pub fn session(page: &mut Page, j: u32, studio: u32, own: &[u8])
     requires { length own.now ≡ cart_size }
-    ensures { result ≡ session_text j studio own.now }
+    ensures { page.new ≡ session_text j studio own.now }
 {
-    let mut page = Page::new();
+    page.clear();
     page.put_pair(b"  session ", j, b" at studio ", studio);
     page.put_numbered(b": number ", bytes::u16_at(own, 2));
-    put_waiting(&mut page, own);
-    page
+    put_waiting(page, own);
 }
 
 // Reads that wait when the transcript ends.
-pub fn still_waiting() -> Page
-    ensures { result ≡ still_waiting_text }
+pub fn still_waiting(page: &mut Page)
+    ensures { page.new ≡ still_waiting_text }
 {
-    let mut page = Page::new();
+    page.clear();
     page.put(b"Reads that still wait:\n");
-    page
 }

@@ -9,26 +9,24 @@ use journal::progress::Tally;
 use words::page::Page;
 
 // A line's number, before the line itself.
-pub fn echo(line: u32) -> Page
-    ensures { result ≡ echo_text line }
+pub fn echo(page: &mut Page, line: u32)
+    ensures { page.new ≡ echo_text line }
 {
-    let mut page = Page::new();
+    page.clear();
     page.put_number(line);
     page.put(b": ");
-    page
 }
 
 // The text was cut after a line.
-pub fn cut(line: u32) -> Page
-    ensures { result ≡ cut_text line }
+pub fn cut(page: &mut Page, line: u32)
+    ensures { page.new ≡ cut_text line }
 {
-    let mut page = Page::new();
+    page.clear();
     page.put_between(
         b"\nLEFT OUT: the lines after line ",
         line,
         b": the transcript has more than 65536 bytes\n",
     );
-    page
 }
 
 // How many lines had each outcome.
@@ -52,32 +50,29 @@ fn put_tally(page: &mut Page, tally: Tally)
 }
 
 // How many lines there were, and what came of them.
-pub fn summary(lines: u32, tally: Tally) -> Page
-    ensures { result ≡ summary_text lines tally }
+pub fn summary(page: &mut Page, lines: u32, tally: Tally)
+    ensures { page.new ≡ summary_text lines tally }
 {
-    let mut page = Page::new();
+    page.clear();
     page.put_counted(b"\nSummary: ", lines, b"line");
-    put_tally(&mut page, tally);
+    put_tally(page, tally);
     page.put(b"\n");
-    page
 }
 
 // No line was a call.
-pub fn no_call() -> Page
-    ensures { result ≡ no_call_text }
+pub fn no_call(page: &mut Page)
+    ensures { page.new ≡ no_call_text }
 {
-    let mut page = Page::new();
+    page.clear();
     page.put(b"No call was made: no line of the input is a call\n");
-    page
 }
 
 // The input is no text.
-pub fn no_text() -> Page
-    ensures { result ≡ no_text_text }
+pub fn no_text(page: &mut Page)
+    ensures { page.new ≡ no_text_text }
 {
-    let mut page = Page::new();
+    page.clear();
     page.put(
         b"The input is no text: it has a zero byte or a byte-order mark of UTF-16. Nothing was played\n",
     );
-    page
 }

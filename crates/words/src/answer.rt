@@ -9,74 +9,68 @@ ghost use Rattle.words.specs.Answers.{fresh_text, ended_text, goes_on_text, comm
 use crate::page::Page;
 
 // A setup was accepted.
-pub fn fresh(studios: u32) -> Page
-    ensures { result ≡ fresh_text studios }
+pub fn fresh(page: &mut Page, studios: u32)
+    ensures { page.new ≡ fresh_text studios }
 {
-    let mut page = Page::new();
+    page.clear();
     page.put_counted(b"  a fresh system with ", studios, b"studio");
     page.put(b"\n");
-    page
 }
 
 // A setup ends the system before it.
-pub fn ended() -> Page
-    ensures { result ≡ ended_text }
+pub fn ended(page: &mut Page)
+    ensures { page.new ≡ ended_text }
 {
-    let mut page = Page::new();
+    page.clear();
     page.put(b"  the system before this line ends here\n");
-    page
 }
 
 // A setup was refused: memory and control are as they were.
-pub fn goes_on() -> Page
-    ensures { result ≡ goes_on_text }
+pub fn goes_on(page: &mut Page)
+    ensures { page.new ≡ goes_on_text }
 {
-    let mut page = Page::new();
+    page.clear();
     page.put(b"  the system before this line goes on unchanged\n");
-    page
 }
 
 // A commit was accepted.
-pub fn committed(n: u32) -> Page
-    ensures { result ≡ committed_text n }
+pub fn committed(page: &mut Page, n: u32)
+    ensures { page.new ≡ committed_text n }
 {
-    let mut page = Page::new();
+    page.clear();
     page.put_between(b"  edit ", n, b" is committed\n");
-    page
 }
 
 // A preview was accepted: the number that the commit would have.
-pub fn previewed(n: u32) -> Page
-    ensures { result ≡ previewed_text n }
+pub fn previewed(page: &mut Page, n: u32)
+    ensures { page.new ≡ previewed_text n }
 {
-    let mut page = Page::new();
+    page.clear();
     page.put_between(b"  would be edit ", n, b"\n");
-    page
 }
 
 // What became of an edit at a studio.
-fn edit_at_studio(n: u32, what: &[u8], studio: u32) -> Page
+fn edit_at_studio(page: &mut Page, n: u32, what: &[u8], studio: u32)
     requires { length what.now ≤ 64 }
-    ensures { result ≡ numbered "  edit " n ++ (what.now ++ decimal studio) ++ bytes_of "\n" }
+    ensures { page.new ≡ numbered "  edit " n ++ (what.now ++ decimal studio) ++ bytes_of "\n" }
 {
-    let mut page = Page::new();
+    page.clear();
     page.put_numbered(b"  edit ", n);
     page.put_between(what, studio, b"\n");
-    page
 }
 
 // A send was accepted.
-pub fn sent(n: u32, studio: u32) -> Page
-    ensures { result ≡ sent_text n studio }
+pub fn sent(page: &mut Page, n: u32, studio: u32)
+    ensures { page.new ≡ sent_text n studio }
 {
-    edit_at_studio(n, b" is sent to studio ", studio)
+    edit_at_studio(page, n, b" is sent to studio ", studio);
 }
 
 // A refresh was accepted.
-pub fn applied(n: u32, studio: u32) -> Page
-    ensures { result ≡ applied_text n studio }
+pub fn applied(page: &mut Page, n: u32, studio: u32)
+    ensures { page.new ≡ applied_text n studio }
 {
-    edit_at_studio(n, b" is applied by studio ", studio)
+    edit_at_studio(page, n, b" is applied by studio ", studio);
 }
 
 // How many edits a copy that applied so many is behind the head end.
@@ -100,74 +94,67 @@ pub fn put_behind(page: &mut Page, edits: u32)
 }
 
 // A read was answered at an edit, so many behind the head end, with so many carts found.
-pub fn answered(state: u32, behind: u32, found: u32) -> Page
-    ensures { result ≡ answered_text state behind found }
+pub fn answered(page: &mut Page, state: u32, behind: u32, found: u32)
+    ensures { page.new ≡ answered_text state behind found }
 {
-    let mut page = Page::new();
+    page.clear();
     page.put_numbered(b"  answered at edit ", state);
-    put_behind(&mut page, behind);
+    put_behind(page, behind);
     page.put_between(b", found ", found, b":\n");
-    page
 }
 
 // A forward was answered by the head end at an edit, with so many carts found.
-pub fn by_head_end(state: u32, found: u32) -> Page
-    ensures { result ≡ head_end_text state found }
+pub fn by_head_end(page: &mut Page, state: u32, found: u32)
+    ensures { page.new ≡ head_end_text state found }
 {
-    let mut page = Page::new();
+    page.clear();
     page.put_numbered(b"  answered by the head end at edit ", state);
     page.put_between(b", found ", found, b":\n");
-    page
 }
 
 // A read waits for an edit.
-pub fn waits(n: u32) -> Page
-    ensures { result ≡ waits_text n }
+pub fn waits(page: &mut Page, n: u32)
+    ensures { page.new ≡ waits_text n }
 {
-    let mut page = Page::new();
+    page.clear();
     page.put_between(b"  waits for edit ", n, b"\n");
-    page
 }
 
 // A read by title found no cart.
-pub fn untitled() -> Page
-    ensures { result ≡ untitled_text }
+pub fn untitled(page: &mut Page)
+    ensures { page.new ≡ untitled_text }
 {
-    let mut page = Page::new();
+    page.clear();
     page.put(b"    no cart has this title\n");
-    page
 }
 
 // A read by title found more than one cart.
-pub fn several(found: u32) -> Page
-    ensures { result ≡ several_text found }
+pub fn several(page: &mut Page, found: u32)
+    ensures { page.new ≡ several_text found }
 {
-    let mut page = Page::new();
+    page.clear();
     page.put_between(
         b"    ",
         found,
         b" carts have this title, so none is shown\n",
     );
-    page
 }
 
 // A session was moved to a studio.
-pub fn moved(session: u32, studio: u32) -> Page
-    ensures { result ≡ moved_text session studio }
+pub fn moved(page: &mut Page, session: u32, studio: u32)
+    ensures { page.new ≡ moved_text session studio }
 {
-    let mut page = Page::new();
+    page.clear();
     page.put_numbered(b"  session ", session);
     page.put_between(b" is at studio ", studio, b"\n");
-    page
 }
 
 // A load was accepted: each copy is what the log's edits make.
-pub fn whole(n: u32) -> Page
-    ensures { result ≡ whole_text n }
+pub fn whole(page: &mut Page, n: u32)
+    ensures { page.new ≡ whole_text n }
 {
-    let mut page = Page::new();
+    page.clear();
     page.put_between(b"  the wall is whole at edit ", n, b"\n");
-    page
 }
 
 // How many of the log's 512 records are free.
@@ -191,29 +178,26 @@ fn put_free(page: &mut Page, free: u32)
 }
 
 // A retire was accepted: an edit, and the records that the log uses after it.
-pub fn retired(n: u32, used: u32) -> Page
-    ensures { result ≡ retired_text n used }
+pub fn retired(page: &mut Page, n: u32, used: u32)
+    ensures { page.new ≡ retired_text n used }
 {
-    let mut page = Page::new();
+    page.clear();
     page.put_between(b"  edit ", n, b" is retired");
-    put_free(&mut page, free_records(used));
-    page
+    put_free(page, free_records(used));
 }
 
 // The van has applied the edit of a message.
-pub fn van_applied(n: u32) -> Page
-    ensures { result ≡ van_applied_text n }
+pub fn van_applied(page: &mut Page, n: u32)
+    ensures { page.new ≡ van_applied_text n }
 {
-    let mut page = Page::new();
+    page.clear();
     page.put_between(b"  the van has applied edit ", n, b"\n");
-    page
 }
 
 // The van had applied the edit of a message before.
-pub fn van_holds(n: u32) -> Page
-    ensures { result ≡ van_holds_text n }
+pub fn van_holds(page: &mut Page, n: u32)
+    ensures { page.new ≡ van_holds_text n }
 {
-    let mut page = Page::new();
+    page.clear();
     page.put_between(b"  the van holds edit ", n, b" already\n");
-    page
 }

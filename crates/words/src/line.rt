@@ -27,7 +27,9 @@ pub fn told(page: &Page) {
 
 // The bytes of a line, what is not printable by its number.
 pub fn shown(s: &[u8]) {
+    let mut page = Page::new();
     for part in s.chunks(1024) {
-        told(&shown::line(part));
+        shown::line(&mut page, part);
+        told(&page);
     }
 }

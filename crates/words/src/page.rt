@@ -46,6 +46,13 @@ impl Page {
         &self.bytes[..self.used]
     }
 
+    // The page has no text any more.
+    pub fn clear(&mut self)
+        ensures { self.new ≡ [] }
+    {
+        self.used = 0;
+    }
+
     // Words.
     pub fn put(&mut self, words: &[u8])
         requires { length self.old + length words.now ≤ page_size }

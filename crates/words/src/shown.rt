@@ -30,13 +30,12 @@ fn put_shown(page: &mut Page, b: u8)
 }
 
 // A part of a line, at most 1,024 bytes, as it is shown.
-pub fn line(s: &[u8]) -> Page
+pub fn line(page: &mut Page, s: &[u8])
     requires { length s.now ≤ 1024 }
-    ensures { result ≡ shown s.now }
+    ensures { page.new ≡ shown s.now }
 {
-    let mut page = Page::new();
+    page.clear();
     for b in s {
-        put_shown(&mut page, *b);
+        put_shown(page, *b);
     }
-    page
 }

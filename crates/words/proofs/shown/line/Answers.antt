@@ -5,7 +5,7 @@ use Rattle.words.proofs.shown.line.Goals as goal
 
 pub loop-b-init : goal.loop-b-init
 unfolding shown_to
-loop-b-init c = record { text = c.new-page.ensures; fits = rw c.new-page.ensures (omega arith) }
+loop-b-init c = record { text = c.clear.ensures; fits = rw c.clear.ensures (omega arith) }
 
 pub loop-b-preserved : goal.loop-b-preserved
 loop-b-preserved c = record { text = rw (c.put_shown.ensures.text, c.loop-b.invariant.text, shown_more) refl; fits = omega arith }
