@@ -1,7 +1,7 @@
 // The memory of a player.
 use carts::cart::Cart;
 use edit_log::record::Record;
-use journal::history::{Entry, Kind};
+use journal::history::Entry;
 use replication::control::Control;
 use replication::session::Session;
 
@@ -15,9 +15,3 @@ pub struct Desk {
     pub entries: [Entry; Entry::MOST],
     pub store: [u8; 262144],
 }
-
-// What stands where no entry was kept yet. Its bytes are 0, which those of Entry::EMPTY are not: an array of it needs no copy on the stack.
-pub const NO_ENTRY: Entry = Entry {
-    kind: Kind::Commit,
-    ..Entry::EMPTY
-};

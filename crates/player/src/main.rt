@@ -55,7 +55,7 @@ fn play_text(bytes: &[u8], cut: bool) {
         log: [0; Record::LOG_SIZE],
         sessions: [0; Session::MEMORY_SIZE],
         copy: [0; Cart::COPY_SIZE],
-        entries: [desk::NO_ENTRY; Entry::MOST],
+        entries: [Entry::EMPTY; Entry::MOST],
         store: [0; 262144],
     };
     let player = play_lines(&mut desk, bytes, cut);
