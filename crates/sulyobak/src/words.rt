@@ -9,7 +9,7 @@ use carts::refusal::Refusal;
 use replication::answer::{CountResult, ReadResult, Reading, SetupResult};
 use replication::control::Control;
 
-// Numbers of two and more words as C reads them: the C interface needs them as they are.
+// The words that C reads: the C interface needs them as numbers.
 #[repr(C)]
 #[derive(Clone, Copy)]
 pub struct Words {
@@ -50,7 +50,7 @@ impl From<SetupResult> for Words {
     fn from(reply: SetupResult) -> Words {
         match reply.answer {
             Ok(()) => Words::new(Words::DONE, 0, reply.control),
-            Err(refusal) => Words::new(Words::REFUSED, refusal.number(), reply.control),
+            Err(row) => Words::new(Words::REFUSED, row.number(), reply.control),
         }
     }
 }
