@@ -6,7 +6,8 @@ ghost use Rattle.edit_log.specs.Log.{record_size};
 use crate::record::Record;
 use carts::bytes;
 
-// A cell becomes x, with v as the u16 at an index.
+// A cell becomes x, with v as the u16 at an index. Of exactly 80 bytes: else the copy is a call of C's memmove, which the archive is to need
+// no more than it did.
 fn store(dst: &mut [u8], x: &[u8], at: usize, v: u32)
     requires lengths { (length dst.old ≡ record_size) × (length x.now ≡ record_size) }
     requires value { (at + 2 ≤ record_size) × (v < 65536) }

@@ -7,7 +7,7 @@ use crate::text::{Class, NumberError};
 use carts::bytes;
 use std::marker::Model;
 
-// What can be wrong with a line. No line has None: it is the mistake by which a caller's own cursor stops with no word for it.
+// What can be wrong with a line. The grammar never gives None: it stands for a caller's own cursors.
 #[derive(Clone, Copy)]
 pub enum Mistake {
     None,

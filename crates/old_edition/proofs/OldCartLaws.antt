@@ -1,13 +1,12 @@
 -- Laws of old carts: laid out as ours, they are ours with 32 zeros more.
 use Prim.Native.Nat.{ℕ, ◌+◌, ◌-◌, ◌≤◌}
 use mathlib.Core.Path.{◌≡◌, refl, sym, ap, ◌∙◌}
-use mathlib.Core.Bool.{Bool, true, false, not, ◌&&◌, ◌||◌, and-true, and-false, or-false}
+use mathlib.Core.Bool.{Bool, true, false, ◌&&◌, ◌||◌, and-true, and-false, or-false}
 use mathlib.Core.List.{List, [], ◌∷◌, ◌++◌}
 use native.Mathlib.Omega.{arith}
-use lib.Dec.{leb, ltb, eqb}
+use lib.Dec.{leb, eqb}
 use lib.ListN.{length, take, drop, length-append, length-drop, take-append-drop, get_or-append}
 use lib.Seq.{take_all, take-append-le, drop-append-le, take_at, drop-drop, get_or-take, length-take-le}
-use Rattle.std.proofs.lemmas.Bool.Decides.{nat_tests}
 use borrow.Author.Tests.{leb-true, le-leb, ne_eqb}
 use Rattle.carts.specs.Bytes.{zeros, part, byte, u16, u32, within, all, every, all_zero}
 use Rattle.carts.specs.Cart.{printable, title_in, title_form, has_title, has_audio, held, held_form, cart_form}
@@ -16,7 +15,7 @@ use Rattle.carts.proofs.ZeroLaws.{length_zeros, zero_zeros, zero_first, zeros_of
 use Rattle.carts.proofs.FieldLaws.{Head, bytes, by_fields}
 use Rattle.carts.proofs.PartLaws.{drop_later}
 use Rattle.old_edition.specs.OldFile.{has_old_title, old_held_form, old_cart_form}
-use Rattle.old_edition.specs.Convert.{widened, narrowed, long_title}
+use Rattle.old_edition.specs.Convert.{widened, narrowed}
 
 -- zeros after a list are zero
 zero_more : (s : List ℕ) (n : ℕ) → all_zero (s ++ zeros n) ≡ all_zero s
@@ -80,14 +79,6 @@ unfolding widened
 laid_out c old l =
     by_fields (λ (s : List ℕ). length s ≡ 48 → old_cart_form c s ≡ (cart_form c (s ++ zeros 32) && leb (byte s 1) 32)) 32
     (λ h t g e. laid_out_head c h t (omega arith)) old (omega arith) l
-
--- and by the test of a long title
-not-ltb : (a b : ℕ) → not (ltb a b) ≡ leb b a
-not-ltb a b = grind (arith, nat_tests)
-
-pub laid_out_short : (c : ℕ) (old : List ℕ) → length old ≡ 48 → (cart_form c (widened old) && not (long_title old)) ≡ old_cart_form c old
-unfolding long_title
-laid_out_short c old l = rw (not-ltb 32 (byte old 1)) (sym (laid_out c old l))
 
 -- a cart of ours with a title of at most 32 letters ends with 32 zeros
 tail_zero : (c : ℕ) (x : List ℕ) → length x ≡ 80 → cart_form c x ≡ true → byte x 1 ≤ 32 → all_zero (drop 48 x) ≡ true

@@ -78,6 +78,7 @@ pub fn tell(before: Progress, came: Came, seen: Seen) -> bool
             studio,
             is_sent,
         } => answer::send_or_refresh(answer, studio, is_sent),
+        Came::Nothing => {}
         _ => tell_other(before, came, seen),
     }
     true

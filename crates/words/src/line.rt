@@ -27,8 +27,8 @@ pub fn told(page: &Page) {
 
 // The bytes of a line, what is not printable by its number.
 pub fn shown(s: &[u8]) {
-    let mut page = Page::new();
     for part in s.chunks(1024) {
+        let mut page = Page::new();
         shown::line(&mut page, part);
         told(&page);
     }

@@ -1,5 +1,4 @@
-use Rattle.std.proofs.Common.{◌≡◌, sym, ap, ◌∙◌, length, arith}
-use lib.ListN.{take}
+use Rattle.std.proofs.Common.{arith, sym, ap, ◌∙◌}
 use lib.Seq.{take_all, length-take-le}
 use Rattle.carts.specs.Bytes.{over, u16_bytes}
 use Rattle.edit_log.proofs.cell.store.Goals as goal
