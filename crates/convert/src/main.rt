@@ -19,6 +19,7 @@ use std::env::{Env, FillError};
 use std::io::{Error, Print};
 use std::rt::Files;
 use words::line;
+use words::page::Page;
 
 // The descriptor of standard error.
 const STDERR: i32 = 2;
@@ -77,7 +78,8 @@ fn convert_to(rt: &(impl Files + Print), input: &[u8], to: &[u8]) -> Ending
     let mut copy = [0; Cart::COPY_SIZE];
     let mut file = [0; file::SIZE];
     let outcome = outcome::convert(input, &mut copy, &mut file);
-    let page = sentence::sentence(input, outcome);
+    let mut page = Page::new();
+    sentence::sentence(&mut page, input, outcome);
     match outcome {
         Ok(Made::Copy(_)) => deliver(rt, to, &copy, page.text()),
         Ok(Made::OldFile(_)) => deliver(rt, to, &file, page.text()),

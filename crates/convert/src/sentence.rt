@@ -11,14 +11,13 @@ use words::page::Page;
 
 // What was converted, with so many held carts, and to what.
 #[tactic(auto, unfolding(crate::specs::Sentences::made_text))]
-fn made(from: &[u8], held: u32, to: &[u8]) -> Page
+fn made(page: &mut Page, from: &[u8], held: u32, to: &[u8])
     requires { (length from.now ≤ 128) × (length to.now ≤ 128) }
-    ensures { result ≡ made_text from.now held to.now }
+    ensures { page.new ≡ made_text from.now held to.now }
 {
-    let mut page = Page::new();
+    page.clear();
     page.put_counted(from, held, b"cart");
     page.put(to);
-    page
 }
 
 // A length; 65,536 bytes are the most that are read.
@@ -36,40 +35,38 @@ fn put_length(page: &mut Page, n: u64)
 
 // Refusal 22 of an input of another length, which stands between words.
 #[tactic(auto, unfolding(crate::specs::Sentences::wrong_length_text))]
-fn wrong_length(words: &[u8], n: u64, more: &[u8]) -> Page
+fn wrong_length(page: &mut Page, words: &[u8], n: u64, more: &[u8])
     requires { (length words.now ≤ 128) × (length more.now ≤ 128) }
-    ensures { result ≡ wrong_length_text words.now n more.now }
+    ensures { page.new ≡ wrong_length_text words.now n more.now }
 {
-    let mut page = Page::new();
+    page.clear();
     page.put(words);
-    put_length(&mut page, n);
+    put_length(page, n);
     page.put(more);
-    page
 }
 
 // Refusal 22 of a cart out of form: whose it is, and how long a title may be there.
 #[tactic(auto, unfolding(crate::specs::Sentences::form_text))]
-fn out_of_form(c: u32, whose: &[u8], longest: u32) -> Page
+fn out_of_form(page: &mut Page, c: u32, whose: &[u8], longest: u32)
     requires { length whose.now ≤ 128 }
-    ensures { result ≡ form_text c whose.now longest }
+    ensures { page.new ≡ form_text c whose.now longest }
 {
-    let mut page = Page::new();
+    page.clear();
     page.put_between(b"refused (22): cart ", c, whose);
     page.put_between(
         b" is out of form: a held cart has its place as its number, a title of 1 to ",
         longest,
         b" letters and then zeros, audio and length of at least 1, and zeros in bytes 12 to 15; an empty one is all zero\n",
     );
-    page
 }
 
 // Refusal 23 of cart c, whose title has so many letters.
 #[tactic(auto, unfolding(crate::specs::Sentences::long_title_text))]
-fn long_title(cart: &[u8], c: u32, letters: u32) -> Page
+fn long_title(page: &mut Page, cart: &[u8], c: u32, letters: u32)
     requires { length cart.now ≡ cart_size }
-    ensures { result ≡ long_title_text cart.now c letters }
+    ensures { page.new ≡ long_title_text cart.now c letters }
 {
-    let mut page = Page::new();
+    page.clear();
     page.put_numbered(b"refused (23): the title of cart ", c);
     page.put_between(
         b" has ",
@@ -78,20 +75,21 @@ fn long_title(cart: &[u8], c: u32, letters: u32) -> Page
     );
     page.put_title(cart, letters);
     page.put(b"\n");
-    page
 }
 
 // What the input was converted to.
-fn converted(to: Made) -> Page
-    ensures { result ≡ converted_text to }
+fn converted(page: &mut Page, to: Made)
+    ensures { page.new ≡ converted_text to }
 {
     match to {
         Made::Copy(held) => made(
+            page,
             b"an old file with ",
             held,
             b", converted to a copy of 10240 bytes\n",
         ),
         Made::OldFile(held) => made(
+            page,
             b"a copy with ",
             held,
             b", converted to an old file of 6150 bytes\n",
@@ -100,34 +98,41 @@ fn converted(to: Made) -> Page
 }
 
 // Why the input is refused.
-fn refused(input: &[u8], fault: Fault) -> Page
+fn refused(page: &mut Page, input: &[u8], fault: Fault)
     requires { Err fault ≡ outcome_of input.now }
-    ensures { result ≡ refused_text input.now fault }
+    ensures { page.new ≡ refused_text input.now fault }
 {
     match fault {
         Fault::OtherLength(n) => wrong_length(
+            page,
             b"refused (22): it begins with CART32, as an old file does, but its length is ",
             n,
             b" and not 6150\n",
         ),
         Fault::NoWall(n) => wrong_length(
+            page,
             b"refused (22): it is no wall: it does not begin with CART32, as an old file does, and its length is ",
             n,
             b" and not 10240, as a copy's is\n",
         ),
-        Fault::OldCart(c) => out_of_form(c, b" of the old file", 32),
-        Fault::Cart(c) => out_of_form(c, b" of the copy", 64),
-        Fault::LongTitle { cart, letters } => long_title(cart::cart_at(input, cart), cart, letters),
+        Fault::OldCart(c) => out_of_form(page, c, b" of the old file", 32),
+        Fault::Cart(c) => out_of_form(page, c, b" of the copy", 64),
+        Fault::LongTitle { cart, letters } => long_title(
+            page,
+            cart::cart_at(input, cart),
+            cart,
+            letters,
+        ),
     }
 }
 
 // What came of the input.
-pub fn sentence(input: &[u8], outcome: Result<Made, Fault>) -> Page
+pub fn sentence(page: &mut Page, input: &[u8], outcome: Result<Made, Fault>)
     requires { outcome ≡ outcome_of input.now }
-    ensures { result ≡ sentence_of input.now outcome }
+    ensures { page.new ≡ sentence_of input.now outcome }
 {
     match outcome {
-        Ok(to) => converted(to),
-        Err(fault) => refused(input, fault),
+        Ok(to) => converted(page, to),
+        Err(fault) => refused(page, input, fault),
     }
 }
