@@ -3,5 +3,6 @@ pub mod BuildLaws
 pub mod CursorLaws
 pub mod Examples
 pub mod InputLaws
+pub mod MistakeLaws
 pub mod ParseLaws
 pub mod TextLaws

@@ -243,7 +243,7 @@ line_by_command c e =
 pub line_known : (s : List ℕ) (c : Reading) (o : Option Command) → c ≡ new_at s 0 → is_over c ≡ false → o ≡ command_of (next_word c) → line_or (moved_to c (word_end c)) o ≡ line_of s
 line_known s c o e h k = ap (line_or (moved_to c (word_end c))) k ∙ line_by_command c h ∙ ap line_at e
 
-over_at : (c : Reading) → is_over c ≡ true → line Nothing [] ≡ line_at c
+pub over_at : (c : Reading) → is_over c ≡ true → line Nothing [] ≡ line_at c
 unfolding line_at
 over_at c h = rw h
 

@@ -7,7 +7,7 @@ use crate::text::{Class, NumberError};
 use carts::bytes;
 use std::marker::Model;
 
-// What can be wrong with a line. The grammar never gives None: it stands for a caller's own cursors.
+// What can be wrong with a line. The grammar never gives None (the law mistake_told): it stands for a caller's own cursors.
 #[derive(Clone, Copy)]
 pub enum Mistake {
     None,
