@@ -14,7 +14,7 @@ use Rattle.lines.specs.declared.cursor.Mistake.TheVariants.{UnknownWord, Unknown
 use Rattle.lines.specs.declared.parse.Call.{Call}
 use Rattle.lines.specs.declared.parse.Call.TheVariants.{Nothing, Show, Setup, Commit, Preview, Send, Refresh, Read, Collect, Move, Load, Retire, Van, Unreadable}
 use Rattle.lines.specs.Text.{number_of, part_in}
-use Rattle.lines.specs.Cursor.{Reading, Taken, Quoted, reading, is_good, new_at, moved_to, stopped_by, next_place, next_word, word_end, past_word, past_mark, digits_end, taken, number_at, no_title, title_from, title_at, is_over, ended_at}
+use Rattle.lines.specs.Cursor.{Reading, Taken, Quoted, reading, is_good, new_at, moved_to, stopped_by, next_place, next_word, word_end, past_word, past_mark, digits_end, taken, number_at, number_mistake, no_title, title_from, title_at, is_over, ended_at}
 use Rattle.lines.specs.Words.{bytes_of}
 use Rattle.lines.specs.Parse.{any_number, two_bytes, Gathered, gathered, kind_of, kind_byte, has_title, has_recording, command_of, line_by, number_line, title_if, number_if, fields_at, operation_at, more_operations, operations_at, numbers_at, title_request_at, numbers_request_at, request_at, call_or, whole_call, Line, line, setup_at, edit_call, edit_at, read_at, move_at, line_at, call_of}
 use Rattle.carts.specs.declared.kind.Kind.{Kind}
@@ -48,10 +48,20 @@ tells_some (Some m) = tells m
 unfoldable pub Telling : Reading → Type 0
 Telling c = tells_some c.mistake ≡ true
 
--- a new cursor has none; and it stays so at each step of a cursor, where the caller's own mistakes tell
+-- a new cursor has none; one that goes on has the mistake that it is given, which may be another cursor's
 pub new_tells : (line : List ℕ) (at : ℕ) → Telling (new_at line at)
 unfolding Telling
 new_tells line at = refl
+
+pub resumed_tells : (line : List ℕ) (at : ℕ) (mistake : Option Mistake) → tells_some mistake ≡ true → Telling (reading line at mistake)
+unfolding Telling
+resumed_tells line at mistake h = h
+
+pub kept_tells : (c : Reading) → Telling c → tells_some c.mistake ≡ true
+unfolding Telling
+kept_tells c h = h
+
+-- it stays so at each step of a cursor, where the caller's own mistakes tell
 
 pub moved_tells : (c : Reading) (at : ℕ) → Telling c → Telling (moved_to c at)
 unfolding Telling
@@ -75,14 +85,17 @@ mark_tells c expected m t h =
     let no = stopped_tells c m t h in
     either (ltb at (length c.line)) _ _ (either (eqb (byte c.line at) expected) _ _ (moved_tells c (at + 1) h) no) no
 
+pub error_tells : (e : NumberError) → tells (number_mistake e) ≡ true
+error_tells Missing = refl
+error_tells TooLarge = refl
+
 pub number_tells : (c : Reading) (most : ℕ) → Telling c → Telling (number_at c most).cursor
 unfolding number_at
 number_tells c most h = go (number_of most (part_in c.line (next_place c) (digits_end c - next_place c)))
   where
     go : (n : Result ℕ NumberError) → Telling (taken c (digits_end c) n).cursor
     go (Ok v) = moved_tells c (digits_end c) h
-    go (Err Missing) = stopped_tells c NumberMissing refl h
-    go (Err TooLarge) = stopped_tells c NumberTooLarge refl h
+    go (Err e) = stopped_tells c (number_mistake e) (error_tells e) h
 
 pub title_tells : (c : Reading) → Telling c → Telling (title_at c).cursor
 unfolding title_at title_from
