@@ -11,7 +11,7 @@ use Rattle.replication.specs.Memory.{Memory}
 use Rattle.van.specs.Receive.{Van}
 use Rattle.calls.specs.Make.{Told, set_up, committed, previewed, sent_or_refreshed, looked, shown, unread, nothing, unwritten, received, moved, loaded, retired, line_leaves, setup_leaves, read_leaves, collect_leaves, ask_leaves, van_leaves, delivered}
 
--- whether a line is told so
+-- whether a line is told as one that cannot be read
 abbrev is_unread : Told → Bool
 is_unread (set_up a studios) = false
 is_unread (committed a s n) = false
@@ -27,7 +27,7 @@ is_unread (moved a s i) = false
 is_unread (loaded a) = false
 is_unread (retired a used) = false
 
--- a message to the van is not told so
+-- what came of a message to the van is never told so
 no_message : (v : Van) (edit : ℕ) (output : List ℕ) (a : Answer) → is_unread (delivered v edit output a).told ≡ false
 unfolding delivered
 no_message v edit output (done size) = refl
@@ -40,7 +40,7 @@ pub unread_message : (c : Control) (m : Memory) (v : Van) (edit : ℕ) (block : 
 unfolding van_leaves
 unread_message c m v edit block mistake at e = false≢true (sym (no_message v edit _ _) ∙ ap is_unread e)
 
--- nor any other call
+-- and what came of a call only where it is that of a line that cannot be read, by its own mistake
 pub unread_call : (c : Control) (m : Memory) (v : Van) (store : List ℕ) (call : Call) (payload block : List ℕ) (mistake : Mistake) (at : ℕ) →
     (line_leaves c m v store call payload block).made.told ≡ unread mistake at → call ≡ Call.Unreadable mistake at
 unfolding line_leaves setup_leaves read_leaves collect_leaves ask_leaves

@@ -6,19 +6,19 @@ use mathlib.Core.List.{List}
 use Rattle.std.specs.Prelude.{Option, Some, None, Result, Ok, Err, length, eqb, ltb}
 use Rattle.carts.specs.Cart.{cart_size}
 use Rattle.carts.specs.Bytes.{byte, zeros}
+use Rattle.carts.specs.declared.kind.Kind.{Kind}
 use Rattle.carts.proofs.TestLaws.{by_cond}
 use Rattle.lines.specs.declared.text.NumberError.{NumberError}
 use Rattle.lines.specs.declared.text.NumberError.TheVariants.{Missing, TooLarge}
 use Rattle.lines.specs.declared.cursor.Mistake.{Mistake}
 use Rattle.lines.specs.declared.cursor.Mistake.TheVariants.{UnknownWord, UnknownOperation, NumberMissing, NumberTooLarge, ColonMissing, AudioMissing, LengthMissing, ToMissing, TitleMissing, TitleOpen, TitleEmpty, TitleTooLong, TitleUnprintable, TooManyOperations, TooManyNumbers, TooMuch}
+use Rattle.lines.specs.declared.keyword.Command.{Command}
 use Rattle.lines.specs.declared.parse.Call.{Call}
 use Rattle.lines.specs.declared.parse.Call.TheVariants.{Nothing, Show, Setup, Commit, Preview, Send, Refresh, Read, Collect, Move, Load, Retire, Van, Unreadable}
 use Rattle.lines.specs.Text.{number_of, part_in}
 use Rattle.lines.specs.Cursor.{Reading, Taken, Quoted, reading, is_good, new_at, moved_to, stopped_by, next_place, next_word, word_end, past_word, past_mark, digits_end, taken, number_at, number_mistake, no_title, title_from, title_at, is_over, ended_at}
 use Rattle.lines.specs.Words.{bytes_of}
 use Rattle.lines.specs.Parse.{any_number, two_bytes, Gathered, gathered, kind_of, kind_byte, has_title, has_recording, command_of, line_by, number_line, title_if, number_if, fields_at, operation_at, more_operations, operations_at, numbers_at, title_request_at, numbers_request_at, request_at, call_or, whole_call, Line, line, setup_at, edit_call, edit_at, read_at, move_at, line_at, call_of}
-use Rattle.carts.specs.declared.kind.Kind.{Kind}
-use Rattle.lines.specs.declared.keyword.Command.{Command}
 use Rattle.lines.proofs.ParseLaws.{operation_by_kind, line_or, line_by_command, over_at}
 
 -- whether a mistake tells what is wrong; and whether a cursor's does, where it has one
@@ -62,7 +62,6 @@ unfolding Telling
 kept_tells c h = h
 
 -- it stays so at each step of a cursor, where the caller's own mistakes tell
-
 pub moved_tells : (c : Reading) (at : ℕ) → Telling c → Telling (moved_to c at)
 unfolding Telling
 moved_tells c at h = by_cond (λ (r : Reading). tells_some r.mistake ≡ true) (is_good c) (reading c.line at None) c (λ e. refl) (λ e. h)
@@ -159,7 +158,7 @@ of_request : (c : Reading) → Telling c → Telling (request_at c).cursor
 unfolding request_at title_request_at numbers_request_at
 of_request c h = choice _ _ _ (title_tells c h) (of_numbers _ c two_bytes h)
 
--- a call, and none with another mistake
+-- whether a call tells what is wrong, where it is a line that cannot be read
 abbrev pub call_tells : Call → Bool
 call_tells Nothing = true
 call_tells Show = true
